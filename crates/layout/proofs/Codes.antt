@@ -11,7 +11,6 @@ use lib.Arith.{digits-lt, digits-div, digits-mod, lt-of-le-ne}
 use lib.Dec.{eqb}
 use lib.Pow.{pow-pos}
 use Rattle.layout.specs.Layout.{Layout, merged, halves, bit, ones, marks, layout}
-use Rattle.layout.proofs.Laws.{cond-map}
 use Rattle.layout.specs.Code.{layouts, mergedCode, code, uncode}
 
 pub layouts-pos : (n : ℕ) → 0 < layouts n
@@ -100,15 +99,14 @@ halves-lt n c h k e =
     let below : c < a * a = lt-of-le-ne (omega (arith, layouts-more n h)) e in
     (div-lt-iff-lt-mul {k = a} {x = c} {y = a} (layouts-pos (n - 1)) .1 below, mod-lt c (layouts-pos (n - 1)))
 
--- what the recursions do above level 0
-pub code-more : (n m : ℕ) → 0 < n
-    → code (layout n m) ≡ cond (bit m (2 ^ (n - 1) - 1)) (layouts (n - 1) * layouts (n - 1)) (code (layout (n - 1) (m % 2 ^ (2 ^ (n - 1)))) * layouts (n - 1) + code (layout (n - 1) (m / 2 ^ (2 ^ (n - 1)))))
-unfolding code layout mergedCode
-code-more zero m h = absurd (omega arith)
-code-more (suc n) m h = rw (sub-one (suc n)) (cond-map code (bit m (2 ^ n - 1)) merged (halves (layout n (m % 2 ^ (2 ^ n))) (layout n (m / 2 ^ (2 ^ n)))))
+-- what unpacking meets
+pub uncode-merged : (n c : ℕ) → 0 < n → c ≡ layouts (n - 1) * layouts (n - 1) → uncode n c ≡ merged
+unfolding uncode mergedCode
+uncode-merged zero c h e = absurd (omega arith)
+uncode-merged (suc n) c h e = rw (eq-eqb c (layouts n * layouts n) (rw (sub-one (suc n)) at e))
 
-pub uncode-more : (n c : ℕ) → 0 < n
-    → marks (uncode n c) ≡ cond (eqb c (layouts (n - 1) * layouts (n - 1))) (ones n) (marks (uncode (n - 1) (c % layouts (n - 1))) * 2 ^ (2 ^ (n - 1)) + marks (uncode (n - 1) (c / layouts (n - 1))))
-unfolding uncode marks mergedCode
-uncode-more zero c h = absurd (omega arith)
-uncode-more (suc n) c h = rw (sub-one (suc n)) (cond-map marks (eqb c (layouts n * layouts n)) merged (halves (uncode n (c / layouts n)) (uncode n (c % layouts n))))
+pub uncode-apart : (n c : ℕ) → 0 < n → (c ≡ layouts (n - 1) * layouts (n - 1) → ⊥)
+    → marks (uncode n c) ≡ marks (uncode (n - 1) (c % layouts (n - 1))) * 2 ^ (2 ^ (n - 1)) + marks (uncode (n - 1) (c / layouts (n - 1)))
+unfolding uncode mergedCode marks
+uncode-apart zero c h e = absurd (omega arith)
+uncode-apart (suc n) c h e = rw (sub-one (suc n), ne-eqb c (layouts n * layouts n) (rw (sub-one (suc n)) at e))

@@ -10,7 +10,7 @@ use borrow.Author.Tests.{eq-eqb, ne-eqb, eqb-true}
 use lib.Arith.{digits-lt}
 use lib.Dec.{eqb}
 use lib.Pow.{pow-pos, pow-lt, pow-mono, pow-add, ones-lt, ones-split, high, low, split}
-use Rattle.layout.specs.Layout.{Layout, merged, halves, bit, ones, marks, layout, valid, widest}
+use Rattle.layout.specs.Layout.{Layout, merged, halves, isMerged, bit, ones, marks, layout, valid, widest}
 
 -- a one shifted in a byte
 pub one-shl : (k : ℕ) → k < 8 → 1 * 2 ^ k % 256 ≡ 2 ^ k
@@ -96,8 +96,10 @@ marks-layout n m v =
     let s = valid-is n m v in
     rw (← s .1, layout-marks (s .0))
 
--- valid bits of a block that is not merged are valid in both halves
-pub valid-halves : (n m : ℕ) → valid (suc n) m ≡ true → bit m (2 ^ n - 1) ≡ false
+pub valid-in : (n m : ℕ) → valid n m ≡ true → m < 2 ^ (2 ^ n)
+valid-in n m v = rw (← marks-layout n m v) (marks-in (layout n m))
+
+valid-halves : (n m : ℕ) → valid (suc n) m ≡ true → bit m (2 ^ n - 1) ≡ false
     → (valid n (m % 2 ^ (2 ^ n)) ≡ true) × (valid n (m / 2 ^ (2 ^ n)) ≡ true)
 unfolding marks
 valid-halves n m v b = go (valid-is (suc n) m v .0) (valid-is (suc n) m v .1)
@@ -111,12 +113,45 @@ unfolding widest
 widest-le merged = omega arith
 widest-le (halves l r) = omega (arith, widest-le l, widest-le r)
 
--- a function of a choice
-pub cond-map : {A B : Type 0} (f : A → B) (b : Bool) (x y : A) → f (cond b x y) ≡ cond b (f x) (f y)
-cond-map f true x y = refl
-cond-map f false x y = refl
+-- What the recursions on the level meet: a merged block or two halves. A function of the layout is taken where the halves' level is
+-- n - 1, since n is its successor only by a proof.
+pub is-merged : {n : ℕ} (L : Layout n) → isMerged L ≡ true → L ≡ merged
+unfolding isMerged
+is-merged merged e = refl
+is-merged (halves l r) e = absurd (true≢false (sym e))
 
--- what the recursions do above level 0
+pub own-bit : (n m : ℕ) → 0 < n → isMerged (layout n m) ≡ bit m (2 ^ (n - 1) - 1)
+unfolding layout isMerged
+own-bit zero m h = absurd (omega arith)
+own-bit (suc n) m h = rw (sub-one (suc n)) (go (bit m (2 ^ n - 1)))
+  where
+    go : (b : Bool) → isMerged (cond b merged (halves (layout n (m % 2 ^ (2 ^ n))) (layout n (m / 2 ^ (2 ^ n))))) ≡ b
+    go true = refl
+    go false = refl
+
+pub above-slot : (n m : ℕ) → isMerged (layout n m) ≡ false → 0 < n
+unfolding layout isMerged
+above-slot zero m e = absurd (true≢false e)
+above-slot (suc n) m e = omega arith
+
+own-clear : (n m : ℕ) → isMerged (layout (suc n) m) ≡ false → bit m (2 ^ n - 1) ≡ false
+own-clear n m e = rw (sub-one (suc n)) at (sym (own-bit (suc n) m (omega arith)) ∙ e)
+
+pub layout-suc : (n m : ℕ) → isMerged (layout (suc n) m) ≡ false → layout (suc n) m ≡ halves (layout n (m % 2 ^ (2 ^ n))) (layout n (m / 2 ^ (2 ^ n)))
+unfolding layout
+layout-suc n m e = rw (own-clear n m e)
+
+pub layout-apart : {A : Type 0} (f : (n : ℕ) → Layout n → A) (n m : ℕ) → isMerged (layout n m) ≡ false
+    → f n (layout n m) ≡ f (suc (n - 1)) (halves (layout (n - 1) (m % 2 ^ (2 ^ (n - 1)))) (layout (n - 1) (m / 2 ^ (2 ^ (n - 1)))))
+layout-apart f zero m e = absurd (omega (arith, above-slot zero m e))
+layout-apart f (suc n) m e = rw (sub-one (suc n)) (ap (f (suc n)) (layout-suc n m e))
+
+-- valid bits of a block that is not merged are valid in both halves
+pub valid-apart : (n m : ℕ) → isMerged (layout n m) ≡ false → valid n m ≡ true
+    → (valid (n - 1) (m % 2 ^ (2 ^ (n - 1))) ≡ true) × (valid (n - 1) (m / 2 ^ (2 ^ (n - 1))) ≡ true)
+valid-apart zero m e v = absurd (omega (arith, above-slot zero m e))
+valid-apart (suc n) m e v = rw (sub-one (suc n)) (valid-halves n m v (own-clear n m e))
+
 pub valid-all : (n m : ℕ) → m ≡ ones n → valid n m ≡ true
 unfolding marks
 valid-all n m e = ap (valid n) e ∙ valid-marks {n = n} merged
@@ -126,9 +161,3 @@ pub valid-more : (n m : ℕ) → 0 < n → (m ≡ ones n → ⊥)
 unfolding valid
 valid-more zero m h k = absurd (omega arith)
 valid-more (suc n) m h k = rw (ne-eqb m (ones (suc n)) k, sub-one (suc n))
-
-pub widest-more : (n m : ℕ) → 0 < n
-    → widest (layout n m) ≡ cond (bit m (2 ^ (n - 1) - 1)) n (max (widest (layout (n - 1) (m % 2 ^ (2 ^ (n - 1))))) (widest (layout (n - 1) (m / 2 ^ (2 ^ (n - 1))))))
-unfolding widest layout
-widest-more zero m h = absurd (omega arith)
-widest-more (suc n) m h = rw (sub-one (suc n)) (cond-map widest (bit m (2 ^ n - 1)) merged (halves (layout n (m % 2 ^ (2 ^ n))) (layout n (m / 2 ^ (2 ^ n)))))

@@ -9,6 +9,10 @@ pub data Layout : ℕ → Type 0 where
   merged : {n : ℕ} → Layout n
   halves : {n : ℕ} → Layout n → Layout n → Layout (suc n)
 
+unfoldable pub isMerged : {n : ℕ} → Layout n → Bool
+isMerged merged = true
+isMerged (halves l r) = false
+
 -- bit k of a number, bit 0 being worth 1
 unfoldable pub bit : ℕ → ℕ → Bool
 bit m k = eqb (m / 2 ^ k % 2) 1

@@ -25,6 +25,17 @@ pub fn own_bit(half: u32, merge: u8) -> bool
     (merge >> place) & 1 == 1
 }
 
+// Whether a block is merged. A single slot counts as merged.
+pub fn is_merged(level: u32, merge: u8) -> bool
+    requires { ⌜ level ≤ 3 ⌝ }
+    ensures { λ r. ⌜ r ≡ spec.isMerged (layout level merge) ⌝ }
+{
+    if level == 0 {
+        return true;
+    }
+    own_bit(level - 1, merge)
+}
+
 // All merge bits of a block.
 pub fn ones(level: u32) -> u8
     requires { ⌜ level ≤ 3 ⌝ }
@@ -87,13 +98,10 @@ pub fn widest(level: u32, merge: u8) -> u32
     requires { ⌜ level ≤ 3 ⌝ }
     ensures { λ r. ⌜ r ≡ spec.widest (layout level merge) ⌝ }
 {
-    if level == 0 {
-        return 0;
-    }
-    let half = level - 1;
-    if own_bit(half, merge) {
+    if is_merged(level, merge) {
         return level;
     }
+    let half = level - 1;
     let left = widest(half, low(half, merge));
     larger(left, widest(half, high(half, merge)))
 }
@@ -117,16 +125,12 @@ pub fn code(level: u32, merge: u8) -> u32
     ensures { λ r. ⌜ r ≡ code_spec.code (layout level merge) ⌝ }
     ensures { λ r. ⌜ r ≤ 25 ⌝ }
 {
-    if level == 0 {
-        return 0;
+    if is_merged(level, merge) {
+        return layouts(level) - 1;
     }
     let half = level - 1;
-    let n = layouts(half);
-    if own_bit(half, merge) {
-        return n * n;
-    }
     let left = code(half, low(half, merge));
-    left * n + code(half, high(half, merge))
+    left * layouts(half) + code(half, high(half, merge))
 }
 
 // The merge bits of the layout that a code stands for.

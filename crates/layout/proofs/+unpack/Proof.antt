@@ -1,11 +1,10 @@
 use mathlib.Core.Path.{_≡_, refl, sym, ap, ap₂, _∙_}
 use Prim.Native.Nat.{_+_, _-_, _*_, _/_, _%_, _^_, _≤_, max}
 use native.Mathlib.Nat.{mul-le-mul}
-use borrow.Author.Tests.{eq-eqb, ne-eqb}
 use Rattle.layout.specs.Layout.{marks, ones}
 use Rattle.layout.specs.Code.{layouts, uncode}
 use Rattle.layout.proofs.Laws.{marks-in}
-use Rattle.layout.proofs.Codes.{uncode-more, halves-lt}
+use Rattle.layout.proofs.Codes.{uncode-merged, uncode-apart, halves-lt}
 use native.Mathlib.Omega.{arith}
 use Prim.Native.Nat.{ℕ, _<_}
 use borrow.Fn.Kinds.{In, Out}
@@ -79,10 +78,11 @@ unpack-ones-requires t c κs = omega arith
 
 -- src/lib.rt:140:9
 unpack-returns-2 : (t : ℕ) → unpack-lts.Need-returns-2 (K t) (unpack-at t) unpack.Post
+unfolding marks
 unpack-returns-2 t c = let d = c .before .before in
     let a = d .before .before .args in
-    let q : a .code ≡ layouts (a .level - 1) * layouts (a .level - 1) = c .before .if2 .taken ∙ ap (λ (n : ℕ). n * n) (d .layouts .ensures .0) in
-    c .ones .ensures ∙ sym (uncode-more (a .level) (a .code) (omega arith) ∙ rw (eq-eqb (a .code) (layouts (a .level - 1) * layouts (a .level - 1)) q))
+    rw (uncode-merged (a .level) (a .code) (omega arith) (c .before .if2 .taken ∙ ap (λ (n : ℕ). n * n) (d .layouts .ensures .0)))
+    (c .ones .ensures)
 
 -- src/lib.rt:142:29
 unpack-div-unpack : (t : ℕ) → unpack-lts.Need-div-unpack (K t) (unpack-at t) unpack.Post
@@ -108,16 +108,9 @@ unpack-beside-requires t c κs = (omega arith, (rw (c .before .unpack .ensures) 
 unpack-returns-3 : (t : ℕ) → unpack-lts.Need-returns-3 (K t) (unpack-at t) unpack.Post
 unpack-returns-3 t c = let d = c .before .before .before in
     let a = d .before .before .before .args in
-    let n = layouts (a .level - 1) in
-    sym
-    (uncode-more (a .level) (a .code) (omega arith)
-    ∙ rw (
-      ne-eqb (a .code) (n * n) (not-merged d),
-      ← d .before .layouts .ensures .0,
-      ← c .before .before .unpack .ensures,
-      ← c .before .unpack2 .ensures,
-    )
-    (sym (c .beside .ensures)))
+    c .beside .ensures
+    ∙ rw (c .before .unpack2 .ensures, c .before .before .unpack .ensures, d .before .layouts .ensures .0)
+    (sym (uncode-apart (a .level) (a .code) (omega arith) (not-merged d)))
 
 pub +unpack-spec : {M : Type 1} → statement M
 +unpack-spec = close μ-unpack λ t. unpack-lts.spec (K t)

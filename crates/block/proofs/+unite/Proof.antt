@@ -1,0 +1,202 @@
+use mathlib.Core.Path.{_≡_, refl, sym, ap, ap₂, _∙_}
+use Prim.Native.Nat.{_+_, _-_, _*_, _/_, _%_, _^_, _≤_}
+use mathlib.Core.Bool.{true, false}
+use Rattle.layout.specs.Layout.{isMerged, layout}
+use Rattle.layout.proofs.Laws.{above-slot}
+use Rattle.block.specs.Block.{block, total as total-of}
+use Rattle.block.specs.Sum.{unite as unite-of, held as held-of, summed}
+use Rattle.block.proofs.Laws.{block-merged}
+use Rattle.block.proofs.Halves.{Apart}
+use Rattle.block.proofs.Steps.{unite-counter, lefts-asked, rights-asked, both-join, both-sum}
+use native.Mathlib.Omega.{arith}
+use Prim.Native.Nat.{ℕ, _<_}
+use borrow.Fn.Kinds.{In, Out}
+use borrow.Fn.PlainCycle.{Measures, is, falls, and}
+use Rattle.block.proofs.unite.Reads as unite
+use Rattle.block.proofs.unite.Kinds as unite-kinds
+use Rattle.block.proofs.+unite.Lts-unite as unite-lts
+use Rattle.block.proofs.held.Kinds as held-kinds
+use Rattle.block.proofs.held.Reads as held-reads
+use Rattle.block.proofs.join.Kinds as join-kinds
+use Rattle.block.proofs.join.Reads as join-reads
+use Rattle.block.proofs.left_half.Kinds as left-half-kinds
+use Rattle.block.proofs.left_half.Reads as left-half-reads
+use Rattle.block.proofs.right_half.Kinds as right-half-kinds
+use Rattle.block.proofs.right_half.Reads as right-half-reads
+use Rattle.block.proofs.total.Kinds as total-kinds
+use Rattle.block.proofs.total.Reads as total-reads
+use Rattle.layout.proofs.is_merged.Kinds as is-merged-kinds
+use Rattle.layout.proofs.is_merged.Reads as is-merged-reads
+use Rattle.block.proofs.+unite.{statement}
+use Rattle.block.proofs.+unite.Tie.{close}
+
+abbrev μ-unite : Measures 0 unite-kinds.ps ℕ
+μ-unite κs a = a .0
+
+abbrev unite-at : ℕ → In 0 unite-kinds.ps
+unite-at t = and 0 unite-kinds.ps (is 0 unite-kinds.ps μ-unite t) unite.Pre
+
+abbrev unite-below : ℕ → In 0 unite-kinds.ps
+unite-below t = and 0 unite-kinds.ps (falls 0 unite-kinds.ps _<_ μ-unite t) unite.Pre
+
+-- what is known of the functions that are called
+abbrev K : ℕ → In 0 is-merged-kinds.ps × Out 0 is-merged-kinds.ps is-merged-kinds.r × In 0 total-kinds.ps × Out 0 total-kinds.ps total-kinds.r × In 0 held-kinds.ps × Out 0 held-kinds.ps held-kinds.r × In 0 left-half-kinds.ps × Out 0 left-half-kinds.ps left-half-kinds.r × In 0 right-half-kinds.ps × Out 0 right-half-kinds.ps right-half-kinds.r × In 0 unite-kinds.ps × Out 0 unite-kinds.ps unite-kinds.r × In 0 join-kinds.ps × Out 0 join-kinds.ps join-kinds.r
+K t = (
+  is-merged-reads.Asked,
+  is-merged-reads.Learnt,
+  total-reads.Asked,
+  total-reads.Learnt,
+  held-reads.Asked,
+  held-reads.Learnt,
+  left-half-reads.Asked,
+  left-half-reads.Learnt,
+  right-half-reads.Asked,
+  right-half-reads.Learnt,
+  unite-below t,
+  unite.Post,
+  join-reads.Asked,
+  join-reads.Learnt,
+)
+
+-- both blocks are two halves
+module _ {t : ℕ} (c : unite-lts.Else2 (K t) (unite-at t) unite.Post) where
+  is-apart : let a = c .before .before .before .before .args in isMerged (layout (a .level) (a .merge)) ≡ false
+  is-apart = sym (c .before .before .before .is-merged .ensures) ∙ c .before .before .if1 .left
+
+  other-apart : let a = c .before .before .before .before .args in isMerged (layout (a .level) (a .other-merge)) ≡ false
+  other-apart = sym (c .before .is-merged2 .ensures) ∙ c .if2 .left
+
+  above : 0 < c .before .before .before .before .args .level
+  above = above-slot _ _ is-apart
+
+module _ {t : ℕ} (c : unite-lts.After-right-half2 (K t) (unite-at t) unite.Post) where
+  here : let a = c .before .before .before .before .before .before .before .before .args in
+      Apart (a .level) (a .word) (a .merge) (c .before .before .before .left-half .result) (c .before .before .right-half .result)
+  here =
+      record {
+        apart = is-apart (c .before .before .before .before);
+        l-is = c .before .before .before .left-half .ensures;
+        r-is = c .before .before .right-half .ensures
+      }
+
+  other : let a = c .before .before .before .before .before .before .before .before .args in
+      Apart (a .level) (a .other-word) (a .other-merge) (c .before .left-half2 .result) (c .right-half2 .result)
+  other = record { apart = other-apart (c .before .before .before .before); l-is = c .before .left-half2 .ensures; r-is = c .right-half2 .ensures }
+
+-- src/lib.rt:200:8
+unite-is-merged-requires : (t : ℕ) → unite-lts.Need-is-merged-requires (K t) (unite-at t) unite.Post
+unite-is-merged-requires t c κs = omega arith
+
+-- src/lib.rt:201:35
+unite-total-requires : (t : ℕ) → unite-lts.Need-total-requires (K t) (unite-at t) unite.Post
+unite-total-requires t c κs = omega arith
+
+-- src/lib.rt:201:28
+unite-add-held : (t : ℕ) → unite-lts.Need-add-held (K t) (unite-at t) unite.Post
+unfolding total-of
+unite-add-held t c = let s = c .before .before .before in
+    let a = s .args in
+    record { fits = rw (c .total .ensures) (rw (block-merged (a .level) (a .word) (a .merge) (sym (c .before .before .is-merged .ensures) ∙ c .before .if1 .taken)) at (s .pre .1 .1 .1 .1)) }
+
+-- src/lib.rt:201:9
+unite-held-requires : (t : ℕ) → unite-lts.Need-held-requires (K t) (unite-at t) unite.Post
+unite-held-requires t c κs = omega arith
+
+-- src/lib.rt:201:9
+unite-returns : (t : ℕ) → unite-lts.Need-returns (K t) (unite-at t) unite.Post
+unfolding unite-of
+unite-returns t c = let a = c .before .before .before .before .args in
+    rw (block-merged (a .level) (a .word) (a .merge) (sym (c .before .before .before .is-merged .ensures) ∙ c .before .before .if1 .taken))
+    (c .held .ensures ∙ ap (λ (y : ℕ). summed (held-of (a .level) (a .word + y))) (c .before .total .ensures))
+
+-- src/lib.rt:203:8
+unite-is-merged-requires-2 : (t : ℕ) → unite-lts.Need-is-merged-requires-2 (K t) (unite-at t) unite.Post
+unite-is-merged-requires-2 t c κs = omega arith
+
+-- src/lib.rt:204:28
+unite-total-requires-2 : (t : ℕ) → unite-lts.Need-total-requires-2 (K t) (unite-at t) unite.Post
+unite-total-requires-2 t c κs = omega arith
+
+-- src/lib.rt:204:28
+unite-add-held-2 : (t : ℕ) → unite-lts.Need-add-held-2 (K t) (unite-at t) unite.Post
+unfolding total-of
+unite-add-held-2 t c = let s = c .before .before .before .before .before in
+    let a = s .args in
+    record { fits = rw (c .total2 .ensures) (rw (block-merged (a .level) (a .other-word) (a .other-merge) (sym (c .before .before .is-merged2 .ensures) ∙ c .before .if2 .taken)) at (s .pre .1 .1 .1 .1)) }
+
+-- src/lib.rt:204:9
+unite-held-requires-2 : (t : ℕ) → unite-lts.Need-held-requires-2 (K t) (unite-at t) unite.Post
+unite-held-requires-2 t c κs = omega arith
+
+-- src/lib.rt:204:9
+unite-returns-2 : (t : ℕ) → unite-lts.Need-returns-2 (K t) (unite-at t) unite.Post
+unite-returns-2 t c = let a = c .before .before .before .before .before .before .args in
+    rw (
+      block-merged (a .level) (a .other-word) (a .other-merge) (sym (c .before .before .before .is-merged2 .ensures) ∙ c .before .before .if2 .taken),
+      unite-counter (block (a .level) (a .word) (a .merge)) (a .other-word),
+    )
+    (c .held2 .ensures ∙ ap (λ (x : ℕ). summed (held-of (a .level) (x + a .other-word))) (c .before .total2 .ensures))
+
+-- src/lib.rt:206:16
+unite-sub-half : (t : ℕ) → unite-lts.Need-sub-half (K t) (unite-at t) unite.Post
+unite-sub-half t c = omega (arith, above c)
+
+-- src/lib.rt:207:9
+unite-left-half-requires : (t : ℕ) → unite-lts.Need-left-half-requires (K t) (unite-at t) unite.Post
+unite-left-half-requires t c κs = omega arith
+
+-- src/lib.rt:208:9
+unite-right-half-requires : (t : ℕ) → unite-lts.Need-right-half-requires (K t) (unite-at t) unite.Post
+unite-right-half-requires t c κs = omega arith
+
+-- src/lib.rt:209:9
+unite-left-half-requires-2 : (t : ℕ) → unite-lts.Need-left-half-requires-2 (K t) (unite-at t) unite.Post
+unite-left-half-requires-2 t c κs = omega arith
+
+-- src/lib.rt:210:9
+unite-right-half-requires-2 : (t : ℕ) → unite-lts.Need-right-half-requires-2 (K t) (unite-at t) unite.Post
+unite-right-half-requires-2 t c κs = omega arith
+
+-- src/lib.rt:211:9
+unite-unite-requires : (t : ℕ) → unite-lts.Need-unite-requires (K t) (unite-at t) unite.Post
+unite-unite-requires t c κs = let s = c .before .before .before .before .before .before .before .before in
+    (omega (arith, above (c .before .before .before .before)), lefts-asked (here (c)) (other (c)) (s .pre .1 .0) (s .pre .1 .1 .0) (s .pre .1 .1 .1 .0) (s .pre .1 .1 .1 .1))
+
+-- src/lib.rt:212:24
+unite-unite-requires-2 : (t : ℕ) → unite-lts.Need-unite-requires-2 (K t) (unite-at t) unite.Post
+unite-unite-requires-2 t c κs = let s = c .before .before .before .before .before .before .before .before .before in
+    (omega (arith, above (c .before .before .before .before .before)), rights-asked (here (c .before)) (other (c .before)) (s .pre .1 .0) (s .pre .1 .1 .0) (s .pre .1 .1 .1 .0) (s .pre .1 .1 .1 .1))
+
+-- src/lib.rt:212:5
+unite-join-requires : (t : ℕ) → unite-lts.Need-join-requires (K t) (unite-at t) unite.Post
+unite-join-requires t c κs = let s = c .before .before .before .before .before .before .before .before .before .before in
+    both-join (here (c .before .before)) (other (c .before .before)) (s .pre .1 .0) (s .pre .1 .1 .0) (s .pre .1 .1 .1 .0) (s .pre .1 .1 .1 .1) _ _ (c .before .unite .ensures) (c .unite2 .ensures)
+
+-- src/lib.rt:195:1
+unite-returns-3 : (t : ℕ) → unite-lts.Need-returns-3 (K t) (unite-at t) unite.Post
+unite-returns-3 t c = let s = c .before .before .before .before .before .before .before .before .before .before .before in
+    c .join .ensures ∙ both-sum (here (c .before .before .before)) (other (c .before .before .before)) (s .pre .1 .0) (s .pre .1 .1 .0) (s .pre .1 .1 .1 .0) (s .pre .1 .1 .1 .1) _ _ (c .before .before .unite .ensures) (c .before .unite2 .ensures)
+
+pub +unite-spec : {M : Type 1} → statement M
++unite-spec = close μ-unite λ t. unite-lts.spec (K t)
+    (unite-at t)
+    unite.Post
+    (unite-is-merged-requires t)
+    (unite-total-requires t)
+    (unite-add-held t)
+    (unite-held-requires t)
+    (unite-returns t)
+    (unite-is-merged-requires-2 t)
+    (unite-total-requires-2 t)
+    (unite-add-held-2 t)
+    (unite-held-requires-2 t)
+    (unite-returns-2 t)
+    (unite-sub-half t)
+    (unite-left-half-requires t)
+    (unite-right-half-requires t)
+    (unite-left-half-requires-2 t)
+    (unite-right-half-requires-2 t)
+    (unite-unite-requires t)
+    (unite-unite-requires-2 t)
+    (unite-join-requires t)
+    (unite-returns-3 t)

@@ -1,0 +1,5 @@
+pub mod Laws
+pub mod Adding
+pub mod Halves
+pub mod Steps
+pub mod Least

@@ -1,0 +1,3 @@
+pub mod Block
+pub mod Sum
+pub mod Least
