@@ -1,0 +1,40 @@
+-- Laws of the hash.
+use mathlib.Core.Path.{_≡_, refl, sym, ap, _∙_}
+use Prim.Native.Nat.{ℕ, _+_, _*_, _/_, _%_, _^_, _≤_, _<_}
+use mathlib.Core.List.{List, [], _∷_, _++_}
+use native.Mathlib.Nat.{mul-comm, le-div-iff-mul-le, div-lt-iff-lt-mul, div-mul-cancel, dvd-of-mod-eq-zero, div-zero}
+use native.Mathlib.Decide.{decLt}
+use native.Mathlib.Numerals.{add-one}
+use native.Mathlib.Omega.{arith}
+use lib.ListN.{length, getD, drop, drop-of-length-le}
+use lib.Seq.{drop-cons}
+use Rattle.group.specs.Hash.{fnvStep, fnv, slotOf}
+
+-- a run goes on from the state that the bytes before left
+pub fnv-more : (h : ℕ) (s : List ℕ) (i : ℕ) → i < length s → fnv h (drop i s) ≡ fnv (fnvStep h (getD s i 0)) (drop (i + 1) s)
+unfolding fnv
+fnv-more h s i k = rw (drop-cons s i 0, add-one)
+
+pub fnv-end : (h : ℕ) (s : List ℕ) (i : ℕ) → length s ≤ i → fnv h (drop i s) ≡ h
+unfolding fnv
+fnv-end h s i k = rw drop-of-length-le
+
+-- a width that divides 2 ^ 32 has its slots below it
+none : (q w : ℕ) → q * w ≡ 2 ^ 32 → q ≡ 0 → ⊥
+none q w e z = omega (arith, rw z at e)
+
+pub slot-lt : (h w : ℕ) → h < 2 ^ 32 → 2 ^ 32 % w ≡ 0 → slotOf h w < w
+unfolding slotOf
+slot-lt h w hh e =
+    let whole : 2 ^ 32 / w * w ≡ 2 ^ 32 = div-mul-cancel w (dvd-of-mod-eq-zero w e) in
+    let some : 0 < 2 ^ 32 / w = elim (decLt 0 (2 ^ 32 / w)) [ yes p ↦ p | no n ↦ absurd (none (2 ^ 32 / w) w whole (omega arith)) ] in
+    div-lt-iff-lt-mul {k = 2 ^ 32 / w} {x = h} {y = w} some .1 (omega (arith, mul-comm w (2 ^ 32 / w)))
+
+-- no slot where a width leaves no share of the hashes
+pub slot-none : (h w : ℕ) → 2 ^ 32 / w ≡ 0 → 0 ≡ slotOf h w
+unfolding slotOf
+slot-none h w e = rw e (sym (div-zero h))
+
+-- a slot as the contract has it
+pub with-lt : {x : ℕ} (h w : ℕ) → h < 2 ^ 32 → x ≡ slotOf h w → (x ≡ slotOf h w) × (2 ^ 32 % w ≡ 0 → x < w)
+with-lt h w hh e = (e, λ d. rw e (slot-lt h w hh d))

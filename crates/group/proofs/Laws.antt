@@ -1,0 +1,101 @@
+-- Laws of groups: encoding, and what the code's additions and unions come to.
+use mathlib.Core.Path.{_≡_, refl, sym, ap, ap₂, _∙_}
+use mathlib.Core.Bool.{Bool, true, false, cond}
+use Prim.Native.Nat.{ℕ, zero, suc, _+_, _-_, _*_, _/_, _%_, _^_, _≤_, _<_}
+use mathlib.Core.List.{List, [], _∷_}
+use native.Mathlib.Omega.{arith}
+use lib.ListN.{length}
+use Rattle.layout.specs.Layout.{marks, layout, valid}
+use Rattle.layout.proofs.Laws.{valid-marks}
+use Rattle.block.specs.declared.Summed.{Summed}
+use Rattle.block.specs.Block.{Block, cap, Fits, shape, word, block, total}
+use Rattle.block.specs.Sum.{Sum, fits, over, add, unite, summed, sumTotal, Sound}
+use Rattle.block.proofs.Laws.{word-lt, word-block, marks-block, block-is, block-fits, total-lt}
+use Rattle.block.proofs.Adding.{add-total, add-sound, unite-total, unite-sound}
+use Rattle.group.specs.declared.Group.{Group}
+use Rattle.group.specs.declared.Outcome.{Outcome}
+use Rattle.group.specs.Group.{number, bytes, decode, encode, stored, settle, unchanged, added, united}
+use Rattle.group.specs.Status.{invalidMerge, counterFull}
+use Rattle.group.proofs.Bytes.{Bytes, number-lt, number-bytes, bytes-number, bytes-length}
+
+-- a counter of level 3 holds 64 bits
+pub cap-three : cap 3 ≡ 2 ^ 64
+unfolding cap
+cap-three = refl
+
+-- eight bytes
+pub record Eight (xs : List ℕ) : Type 0 where
+  pub long : length xs ≡ 8
+  pub small : Bytes xs
+
+pub number-in : (xs : List ℕ) → Eight xs → number xs < cap 3
+unfolding cap
+number-in xs e = rw (e .long) at (number-lt xs (e .small))
+
+-- Encoding and decoding are inverse: a valid group is the encoding of one block, and a block whose counters hold their values is
+-- what its encoding stands for.
+pub encode-decode : (g : Group) → Eight (g .counts) → valid 3 (g .merge) ≡ true → encode (decode g) ≡ g
+unfolding encode decode
+encode-decode g e v =
+    rw (word-block 3 (number (g .counts)) (g .merge) (number-in (g .counts) e), marks-block 3 (number (g .counts)) (g .merge) v, ← e .long)
+    (ap (λ (l : List ℕ). record { counts = l; merge = g .merge }) (bytes-number (g .counts) (e .small)))
+
+pub decode-encode : (b : Block 3) → Fits b → decode (encode b) ≡ b
+unfolding encode decode cap
+decode-encode b f = rw (number-bytes 8 (word b) (word-lt b f)) (block-is b f)
+
+pub encode-valid : (b : Block 3) → valid 3 (encode b .merge) ≡ true
+unfolding encode
+encode-valid b = valid-marks (shape b)
+
+-- the code's answer, by the sum's total
+pub settle-fits : (g : Group) (x : Sum 3) → Sound x → sumTotal x < 2 ^ 64 → settle g x ≡ stored (summed x)
+unfolding settle stored summed Sound sumTotal encode cap
+settle-fits g (fits b) f h = refl
+settle-fits g (over s) f h = absurd (omega arith)
+
+pub settle-over : (g : Group) (x : Sum 3) → Sound x → 2 ^ 64 ≤ sumTotal x → settle g x ≡ unchanged counterFull g
+unfolding settle Sound sumTotal cap
+settle-over g (fits b) f h = absurd (omega (arith, total-lt b f, cap-three))
+settle-over g (over s) f h = refl
+
+module _ (g : Group) (slot amount : ℕ) where
+  pub added-invalid : valid 3 (g .merge) ≡ false → added g slot amount ≡ unchanged invalidMerge g
+  unfolding added
+  added-invalid v = rw v
+
+  module _ (h : number (g .counts) < cap 3) (v : valid 3 (g .merge) ≡ true) where
+    add-is-sound : Sound (add (decode g) (slot % 8) amount)
+    unfolding decode
+    add-is-sound = add-sound (decode g) (slot % 8) amount (block-fits 3 (number (g .counts)) (g .merge) h)
+
+    pub added-full : 2 ^ 64 ≤ total (decode g) + amount → added g slot amount ≡ unchanged counterFull g
+    unfolding added
+    added-full k = rw v (settle-over g (add (decode g) (slot % 8) amount) add-is-sound (omega (arith, add-total (decode g) (slot % 8) amount)))
+
+    pub added-stored : total (decode g) + amount < 2 ^ 64 → added g slot amount ≡ stored (summed (add (decode g) (slot % 8) amount))
+    unfolding added
+    added-stored k = rw v (settle-fits g (add (decode g) (slot % 8) amount) add-is-sound (omega (arith, add-total (decode g) (slot % 8) amount)))
+
+module _ (g source : Group) where
+  pub united-invalid : valid 3 (g .merge) ≡ false → united g source ≡ unchanged invalidMerge g
+  unfolding united
+  united-invalid v = rw v
+
+  pub united-source-invalid : valid 3 (g .merge) ≡ true → valid 3 (source .merge) ≡ false → united g source ≡ unchanged invalidMerge g
+  unfolding united
+  united-source-invalid v w = rw (v, w)
+
+  module _ (h : number (g .counts) < cap 3) (k : number (source .counts) < cap 3) (v : valid 3 (g .merge) ≡ true) (w : valid 3 (source .merge) ≡ true) where
+    unite-is-sound : Sound (unite (decode g) (decode source))
+    unfolding decode
+    unite-is-sound =
+        unite-sound (decode g) (decode source) (block-fits 3 (number (g .counts)) (g .merge) h) (block-fits 3 (number (source .counts)) (source .merge) k)
+
+    pub united-full : 2 ^ 64 ≤ total (decode g) + total (decode source) → united g source ≡ unchanged counterFull g
+    unfolding united
+    united-full k = rw (v, w) (settle-over g (unite (decode g) (decode source)) unite-is-sound (omega (arith, unite-total (decode g) (decode source))))
+
+    pub united-stored : total (decode g) + total (decode source) < 2 ^ 64 → united g source ≡ stored (summed (unite (decode g) (decode source)))
+    unfolding united
+    united-stored k = rw (v, w) (settle-fits g (unite (decode g) (decode source)) unite-is-sound (omega (arith, unite-total (decode g) (decode source))))

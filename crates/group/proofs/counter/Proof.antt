@@ -1,0 +1,46 @@
+use mathlib.Core.Path.{_≡_, refl, sym, ap, ap₂, _∙_}
+use Prim.Native.Nat.{ℕ, _+_, _-_, _*_, _/_, _%_, _^_, _≤_, _<_}
+use mathlib.Core.Bool.{Bool, true, false}
+use borrow.Author.Tests.{not-true, not-false}
+use Rattle.block.specs.declared.Counter.{Counter}
+use Rattle.block.specs.Block.{counterAt, block}
+use Rattle.layout.specs.Layout.{valid}
+use Rattle.group.specs.Group.{read, reading, decode}
+use borrow.Author.Needs.{needs}
+use Rattle.group.proofs.counter.Statement.{statement}
+use Rattle.group.proofs.counter.Tie as tie
+use Rattle.group.proofs.counter.Reads as reads
+use Rattle.group.proofs.counter.Lts as lts
+use Rattle.block.proofs.counter_at.Reads as counter-at-reads
+use Rattle.group.proofs.is_valid.Reads as is-valid-reads
+use Rattle.group.proofs.number_of.Reads as number-of-reads
+
+-- src/lib.rt:106:9
+is-valid-requires : tie.Need-is-valid-requires
+is-valid-requires c κs = search needs
+
+-- src/lib.rt:107:9
+returns : tie.Need-returns
+unfolding read
+returns c = let g = c .before .before .before .args .g in
+    let v : valid 3 (g .merge) ≡ false = sym (c .before .is-valid .ensures) ∙ not-true _ (c .if1 .taken) in
+    rw v
+
+-- src/lib.rt:113:34
+number-of-requires : tie.Need-number-of-requires
+number-of-requires c κs = search needs
+
+-- src/lib.rt:113:9
+counter-at-requires : tie.Need-counter-at-requires
+counter-at-requires c κs = search needs
+
+-- src/lib.rt:102:1
+returns-2 : tie.Need-returns-2
+unfolding read reading decode
+returns-2 c = let g = c .before .before .before .before .before .args .g in
+    let v : valid 3 (g .merge) ≡ true = sym (c .before .before .before .is-valid .ensures) ∙ not-false _ (c .before .before .if1 .left) in
+    rw (v, ← c .before .number-of .ensures) (ap reading (c .counter-at .ensures))
+
+pub counter-spec : {M : Type 1} → statement M
+counter-spec =
+    tie.close (tie.spec is-valid-requires returns number-of-requires counter-at-requires returns-2)

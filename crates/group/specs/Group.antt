@@ -1,0 +1,64 @@
+-- A group's calls. Document 01, 'Rows, groups and blocks' and 'Updating, asking, uniting'.
+use Prim.Native.Nat.{ℕ, zero, suc, _+_, _*_, _/_, _%_}
+use mathlib.Core.Bool.{cond, _&&_}
+use mathlib.Core.List.{List, [], _∷_}
+use Rattle.layout.specs.Layout.{marks, layout, valid}
+use Rattle.layout.specs.Layout as layout-spec
+use Rattle.block.specs.declared.Counter.{Counter}
+use Rattle.block.specs.declared.Summed.{Summed}
+use Rattle.block.specs.Block.{Block, shape, word, block, counterAt}
+use Rattle.block.specs.Sum.{Sum, fits, over}
+use Rattle.block.specs.Sum as sum
+use Rattle.group.specs.declared.Answer.{Answer}
+use Rattle.group.specs.declared.Group.{Group}
+use Rattle.group.specs.declared.Reading.{Reading}
+use Rattle.group.specs.declared.Outcome.{Outcome}
+use Rattle.group.specs.Status.{invalidMerge, counterFull, accepted, rejected}
+
+-- count bytes as one number, the lowest slot least significant
+unfoldable pub number : List ℕ → ℕ
+number [] = 0
+number (b ∷ bs) = b + 256 * number bs
+
+-- the n bytes of a number, the lowest first
+unfoldable pub bytes : ℕ → ℕ → List ℕ
+bytes zero v = []
+bytes (suc n) v = v % 256 ∷ bytes n (v / 256)
+
+-- the block of level 3 that a group stands for, and the group of such a block
+unfoldable pub decode : Group → Block 3
+decode g = block 3 (number (g .counts)) (g .merge)
+
+unfoldable pub encode : Block 3 → Group
+encode b = record { counts = bytes 8 (word b); merge = marks (shape b) }
+
+-- the counter of a slot; a slot number counts by its remainder by 8
+unfoldable pub reading : Counter → Reading
+reading c = record { status = 0; value = c .value; level = c .level }
+
+unfoldable pub read : Group → ℕ → Reading
+read g slot = cond (valid 3 (g .merge)) (reading (counterAt (decode g) (slot % 8))) (record { status = invalidMerge; value = 0; level = 0 })
+
+-- a rejected call leaves the group as it was
+abbrev pub unchanged : ℕ → Group → Outcome
+unchanged s g = record { status = s; group = g }
+
+-- the group that the code makes of the count bytes and merge bits of a block
+unfoldable pub stored : Summed → Outcome
+stored s = record { status = 0; group = record { counts = bytes 8 (s .word); merge = s .merge } }
+
+unfoldable pub settle : Group → Sum 3 → Outcome
+settle g (fits b) = record { status = 0; group = encode b }
+settle g (over s) = unchanged counterFull g
+
+-- an amount added to the counter of a slot
+unfoldable pub added : Group → ℕ → ℕ → Outcome
+added g slot amount = cond (valid 3 (g .merge)) (settle g (sum.add (decode g) (slot % 8) amount)) (unchanged invalidMerge g)
+
+-- a source group united with a target
+unfoldable pub united : Group → Group → Outcome
+united g source = cond (valid 3 (g .merge) && valid 3 (source .merge)) (settle g (sum.unite (decode g) (decode source))) (unchanged invalidMerge g)
+
+-- the largest level of a group's counters
+unfoldable pub widestOf : ℕ → Answer
+widestOf m = cond (valid 3 m) (accepted (layout-spec.widest (layout 3 m))) (rejected invalidMerge)

@@ -1,0 +1,25 @@
+-- FNV-1a of 32 bits, and the slot of a hash. Document 01, 'Where a key lands'.
+use Prim.Native.Nat.{ℕ, _*_, _/_, _%_, _^_}
+use mathlib.Core.List.{List, [], _∷_}
+use lib.Bits.{bitXor}
+
+-- the state before the first byte
+abbrev pub basis : ℕ
+basis = 2166136261
+
+-- a byte: exclusive or, multiply by the FNV prime, keep 32 bits
+unfoldable pub fnvStep : ℕ → ℕ → ℕ
+fnvStep h b = bitXor h b * 16777619 % 2 ^ 32
+
+-- the state after a run of bytes
+unfoldable pub fnv : ℕ → List ℕ → ℕ
+fnv h [] = h
+fnv h (b ∷ bs) = fnv (fnvStep h b) bs
+
+-- the hash of a key in a row: the row number as one byte, then the key
+unfoldable pub rowHash : ℕ → List ℕ → ℕ
+rowHash row key = fnv basis (row ∷ key)
+
+-- the slot of a hash in a row of w slots
+unfoldable pub slotOf : ℕ → ℕ → ℕ
+slotOf h w = h / (2 ^ 32 / w)

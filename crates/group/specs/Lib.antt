@@ -1,0 +1,4 @@
+pub mod Hash
+pub mod Status
+pub mod Group
+pub mod Pack

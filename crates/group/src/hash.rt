@@ -1,0 +1,61 @@
+// FNV-1a of 32 bits, and the slot of a hash.
+ghost use mathlib.Core.Path.{_≡_};
+ghost use Prim.Native.Nat.{_%_, _^_, _<_};
+ghost use Rattle.group.specs.Hash.{basis, fnvStep, fnv, rowHash, slotOf};
+
+// The running hash.
+pub struct Hash {
+    pub state: u32,
+}
+
+impl Hash {
+    pub fn start() -> Hash
+        ensures { λ r. ⌜ r .state ≡ basis ⌝ }
+    {
+        Hash { state: 2166136261 }
+    }
+
+    // The hash advanced by a byte.
+    pub fn step(self, byte: u8) -> Hash
+        ensures { λ r. ⌜ r .state ≡ fnvStep (self .state) byte ⌝ }
+    {
+        let mixed = (self.state ^ (byte as u32)) as u64;
+        Hash {
+            state: (mixed * 16777619 % 4294967296) as u32,
+        }
+    }
+
+    // The hash advanced by a run of bytes.
+    pub fn run(self, bytes: &[u8]) -> Hash
+        ensures { λ r. ⌜ r .state ≡ fnv (self .state) (now (bytes .entry)) ⌝ }
+    {
+        let mut h = self;
+        for i in 0..bytes.len() {
+            h = h.step(bytes[i]);
+        }
+        h
+    }
+}
+
+// The hash of a key in a row.
+pub fn row_hash(row: u8, key: &[u8]) -> u32
+    ensures { λ r. ⌜ r ≡ rowHash row (now (key .entry)) ⌝ }
+{
+    let h = Hash::start().step(row).run(key);
+    h.state
+}
+
+// The slot of a hash in a row of w slots.
+pub fn slot(hash: u32, w: usize) -> usize
+    ensures { λ r. ⌜ r ≡ slotOf hash w ⌝ }
+    ensures { λ r. ⌜ (2 ^ 32 % w ≡ 0 → r < w) ⌝ }
+{
+    if w == 0 {
+        return 0;
+    }
+    let share = 4294967296 / w;
+    if share == 0 {
+        return 0;
+    }
+    hash as usize / share
+}

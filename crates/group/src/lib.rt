@@ -1,0 +1,248 @@
+// A group of eight slots: its counters, its merge byte and its layout code; and the hash that finds a key's slot.
+pub mod hash;
+
+use block::Summed;
+ghost use mathlib.Core.Path.{_≡_};
+ghost use mathlib.Core.Bool.{_&&_};
+ghost use Rattle.layout.specs.Layout.{valid};
+ghost use Rattle.group.specs.Group.{number, bytes, read, stored, added, united, widestOf};
+ghost use Rattle.group.specs.Status as status_spec;
+ghost use Rattle.group.specs.Pack.{groupCode, packed, unpacked};
+
+// Document 01's numbers of rejected calls.
+pub const INVALID_MERGE: u8 = 5;
+pub const COUNTER_FULL: u8 = 6;
+pub const BAD_PAYLOAD: u8 = 9;
+
+// What a call answers: document 01's number, place and figure.
+pub struct Answer {
+    pub status: u8,
+    pub position: u64,
+    pub value: u64,
+}
+
+// Eight count bytes and their merge byte.
+pub struct Group {
+    pub counts: [u8; 8],
+    pub merge: u8,
+}
+
+// A counter that was read, or why not.
+pub struct Reading {
+    pub status: u8,
+    pub value: u64,
+    pub level: u32,
+}
+
+// A group after an addition or a union; if rejected, as it was before.
+pub struct Outcome {
+    pub status: u8,
+    pub group: Group,
+}
+
+// The merge bytes of four groups; all 0 if rejected.
+pub struct Unpacked {
+    pub answer: Answer,
+    pub merges: [u8; 4],
+}
+
+fn accepted(value: u64) -> Answer
+    ensures { λ r. ⌜ r ≡ status_spec.accepted value ⌝ }
+{
+    Answer {
+        status: 0,
+        position: 0,
+        value,
+    }
+}
+
+fn rejected(status: u8) -> Answer
+    ensures { λ r. ⌜ r ≡ status_spec.rejected status ⌝ }
+{
+    Answer {
+        status,
+        position: 0,
+        value: 0,
+    }
+}
+
+// The count bytes as one number, the lowest slot least significant.
+pub fn number_of(counts: [u8; 8]) -> u64
+    ensures { λ r. ⌜ r ≡ number counts ⌝ }
+{
+    let mut n: u64 = 0;
+    let mut i = 8;
+    while i > 0 {
+        i -= 1;
+        n = counts[i] as u64 + 256 * n;
+    }
+    n
+}
+
+// The eight bytes of a number, the lowest first.
+pub fn bytes_of(number: u64) -> [u8; 8]
+    ensures { λ r. ⌜ r ≡ bytes 8 number ⌝ }
+{
+    let mut out = [0u8; 8];
+    let mut rest = number;
+    for i in 0..8 {
+        out[i] = (rest % 256) as u8;
+        rest = rest / 256;
+    }
+    out
+}
+
+// Whether a merge byte is one of the 26 valid ones.
+pub fn is_valid(merge: u8) -> bool
+    ensures { λ r. ⌜ r ≡ valid 3 merge ⌝ }
+{
+    layout::is_valid(3, merge)
+}
+
+// The counter that a slot is in.
+pub fn counter(g: Group, slot: usize) -> Reading
+    ensures { λ r. ⌜ r ≡ read g slot ⌝ }
+{
+    let counts = g.counts;
+    if !is_valid(g.merge) {
+        return Reading {
+            status: INVALID_MERGE,
+            value: 0,
+            level: 0,
+        };
+    }
+    let c = block::counter_at(3, number_of(counts), g.merge, slot % 8);
+    Reading {
+        status: 0,
+        value: c.value,
+        level: c.level,
+    }
+}
+
+// The group of the count bytes and merge bits that an addition or a union left.
+fn settled(s: Summed) -> Outcome
+    ensures { λ r. ⌜ r ≡ stored s ⌝ }
+{
+    Outcome {
+        status: 0,
+        group: Group {
+            counts: bytes_of(s.word),
+            merge: s.merge,
+        },
+    }
+}
+
+// An amount added to the counter that a slot is in.
+pub fn add(g: Group, slot: usize, amount: u32) -> Outcome
+    ensures { λ r. ⌜ r ≡ added g slot amount ⌝ }
+{
+    let counts = g.counts;
+    if !is_valid(g.merge) {
+        return Outcome {
+            status: INVALID_MERGE,
+            group: g,
+        };
+    }
+    let word = number_of(counts);
+    if 18446744073709551615 - block::total(3, word, g.merge) < amount as u64 {
+        return Outcome {
+            status: COUNTER_FULL,
+            group: g,
+        };
+    }
+    settled(block::add(3, word, g.merge, slot % 8, amount as u64))
+}
+
+// A source group added into a group.
+pub fn unite(g: Group, source: Group) -> Outcome
+    ensures { λ r. ⌜ r ≡ united g source ⌝ }
+{
+    let counts = g.counts;
+    let added = source.counts;
+    if !is_valid(g.merge) {
+        return Outcome {
+            status: INVALID_MERGE,
+            group: g,
+        };
+    }
+    if !is_valid(source.merge) {
+        return Outcome {
+            status: INVALID_MERGE,
+            group: g,
+        };
+    }
+    let word = number_of(counts);
+    let source_word = number_of(added);
+    let most = 18446744073709551615 - block::total(3, word, g.merge);
+    if most < block::total(3, source_word, source.merge) {
+        return Outcome {
+            status: COUNTER_FULL,
+            group: g,
+        };
+    }
+    settled(block::unite(3, word, g.merge, source_word, source.merge))
+}
+
+// The largest level of a group's counters.
+pub fn widest(merge: u8) -> Answer
+    ensures { λ r. ⌜ r ≡ widestOf merge ⌝ }
+{
+    if !is_valid(merge) {
+        return rejected(INVALID_MERGE);
+    }
+    accepted(layout::widest(3, merge) as u64)
+}
+
+// The layout code of a group.
+pub fn code(merge: u8) -> Answer
+    ensures { λ r. ⌜ r ≡ groupCode merge ⌝ }
+{
+    if !is_valid(merge) {
+        return rejected(INVALID_MERGE);
+    }
+    accepted(layout::code(3, merge) as u64)
+}
+
+fn four_valid(a: u8, b: u8, c: u8, d: u8) -> bool
+    ensures { λ r. ⌜ r ≡ (valid 3 a && valid 3 b && valid 3 c && valid 3 d) ⌝ }
+{
+    if is_valid(a) {
+        if is_valid(b) {
+            if is_valid(c) {
+                return is_valid(d);
+            }
+        }
+    }
+    false
+}
+
+// The layout code of four groups in a row.
+pub fn pack(a: u8, b: u8, c: u8, d: u8) -> Answer
+    ensures { λ r. ⌜ r ≡ packed a b c d ⌝ }
+{
+    if !four_valid(a, b, c, d) {
+        return rejected(INVALID_MERGE);
+    }
+    let high = layout::code(3, a) * 17576 + layout::code(3, b) * 676;
+    accepted((high + layout::code(3, c) * 26 + layout::code(3, d)) as u64)
+}
+
+// The merge bytes of the four groups that a layout code stands for.
+pub fn unpack(code: u32) -> Unpacked
+    ensures { λ r. ⌜ r ≡ unpacked code ⌝ }
+{
+    if 456976 <= code {
+        return Unpacked {
+            answer: rejected(BAD_PAYLOAD),
+            merges: [0; 4],
+        };
+    }
+    let a = layout::unpack(3, code / 17576);
+    let b = layout::unpack(3, code / 676 % 26);
+    let c = layout::unpack(3, code / 26 % 26);
+    let d = layout::unpack(3, code % 26);
+    Unpacked {
+        answer: accepted(0),
+        merges: [a, b, c, d],
+    }
+}
