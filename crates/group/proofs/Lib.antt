@@ -1,3 +1,5 @@
 pub mod Hashing
 pub mod Bytes
 pub mod Laws
+pub mod Packing
+pub mod Cases

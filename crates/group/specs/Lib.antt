@@ -2,3 +2,4 @@ pub mod Hash
 pub mod Status
 pub mod Group
 pub mod Pack
+pub mod Cases
