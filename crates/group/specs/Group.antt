@@ -57,7 +57,8 @@ added g slot amount = cond (valid 3 (g .merge)) (settle g (sum.add (decode g) (s
 
 -- a source group united with a target
 unfoldable pub united : Group → Group → Outcome
-united g source = cond (valid 3 (g .merge) && valid 3 (source .merge)) (settle g (sum.unite (decode g) (decode source))) (unchanged invalidMerge g)
+united target source =
+    cond (valid 3 (target .merge) && valid 3 (source .merge)) (settle target (sum.unite (decode target) (decode source))) (unchanged invalidMerge target)
 
 -- the largest level of a group's counters
 unfoldable pub widestOf : ℕ → Answer

@@ -6,6 +6,7 @@ ghost use mathlib.Core.Path.{_≡_};
 ghost use mathlib.Core.Bool.{_&&_};
 ghost use Rattle.layout.specs.Layout.{valid};
 ghost use Rattle.group.specs.Group.{number, bytes, read, stored, added, united, widestOf};
+ghost use Rattle.group.specs.Group as spec;
 ghost use Rattle.group.specs.Status as status_spec;
 ghost use Rattle.group.specs.Pack.{groupCode, packed, unpacked};
 
@@ -132,55 +133,50 @@ fn settled(s: Summed) -> Outcome
     }
 }
 
+// A rejected group, as it was.
+fn unchanged(status: u8, g: Group) -> Outcome
+    ensures { λ r. ⌜ r ≡ spec.unchanged status g ⌝ }
+{
+    Outcome {
+        status,
+        group: g,
+    }
+}
+
 // An amount added to the counter that a slot is in.
 pub fn add(g: Group, slot: usize, amount: u32) -> Outcome
     ensures { λ r. ⌜ r ≡ added g slot amount ⌝ }
 {
     let counts = g.counts;
     if !is_valid(g.merge) {
-        return Outcome {
-            status: INVALID_MERGE,
-            group: g,
-        };
+        return unchanged(INVALID_MERGE, g);
     }
     let word = number_of(counts);
     if 18446744073709551615 - block::total(3, word, g.merge) < amount as u64 {
-        return Outcome {
-            status: COUNTER_FULL,
-            group: g,
-        };
+        return unchanged(COUNTER_FULL, g);
     }
     settled(block::add(3, word, g.merge, slot % 8, amount as u64))
 }
 
-// A source group added into a group.
-pub fn unite(g: Group, source: Group) -> Outcome
-    ensures { λ r. ⌜ r ≡ united g source ⌝ }
+// A source group united with a target.
+pub fn unite(target: Group, source: Group) -> Outcome
+    ensures { λ r. ⌜ r ≡ united target source ⌝ }
 {
-    let counts = g.counts;
-    let added = source.counts;
-    if !is_valid(g.merge) {
-        return Outcome {
-            status: INVALID_MERGE,
-            group: g,
-        };
+    let target_counts = target.counts;
+    let source_counts = source.counts;
+    if !is_valid(target.merge) {
+        return unchanged(INVALID_MERGE, target);
     }
     if !is_valid(source.merge) {
-        return Outcome {
-            status: INVALID_MERGE,
-            group: g,
-        };
+        return unchanged(INVALID_MERGE, target);
     }
-    let word = number_of(counts);
-    let source_word = number_of(added);
-    let most = 18446744073709551615 - block::total(3, word, g.merge);
-    if most < block::total(3, source_word, source.merge) {
-        return Outcome {
-            status: COUNTER_FULL,
-            group: g,
-        };
+    let word = number_of(target_counts);
+    let source_word = number_of(source_counts);
+    let room = 18446744073709551615 - block::total(3, word, target.merge);
+    if room < block::total(3, source_word, source.merge) {
+        return unchanged(COUNTER_FULL, target);
     }
-    settled(block::unite(3, word, g.merge, source_word, source.merge))
+    settled(block::unite(3, word, target.merge, source_word, source.merge))
 }
 
 // The largest level of a group's counters.

@@ -5,7 +5,7 @@ use native.Mathlib.Omega.{arith}
 use borrow.Author.Tests.{not-true, not-false}
 use Rattle.layout.specs.Layout.{valid}
 use Rattle.block.specs.Block.{cap, total}
-use Rattle.group.specs.Group.{number, decode, stored, united}
+use Rattle.group.specs.Group.{number, decode}
 use Rattle.group.proofs.Laws.{united-invalid, united-source-invalid, united-full, united-stored}
 use borrow.Author.Needs.{needs}
 use Rattle.group.proofs.unite.Statement.{statement}
@@ -17,16 +17,17 @@ use Rattle.block.proofs.unite.Reads as unite-reads
 use Rattle.group.proofs.is_valid.Reads as is-valid-reads
 use Rattle.group.proofs.number_of.Reads as number-of-reads
 use Rattle.group.proofs.settled.Reads as settled-reads
+use Rattle.group.proofs.unchanged.Reads as unchanged-reads
 
 -- both groups are valid, their numbers those of their bytes, and the code's totals the groups'
-is-sane : (c : tie.Else1) → valid 3 (c .before .before .before .before .args .g .merge) ≡ true
+is-sane : (c : tie.Else1) → valid 3 (c .before .before .before .before .args .target .merge) ≡ true
 is-sane c = sym (c .before .is-valid .ensures) ∙ not-false _ (c .if1 .left)
 
 source-sane : (c : tie.Else2) → valid 3 (c .before .before .before .before .before .before .args .source .merge) ≡ true
 source-sane c = sym (c .before .is-valid2 .ensures) ∙ not-false _ (c .if2 .left)
 
 module _ (c : tie.After-total2) where
-  word-in : number (c .before .before .before .before .before .before .before .before .before .before .args .g .counts) < cap 3
+  word-in : number (c .before .before .before .before .before .before .before .before .before .before .args .target .counts) < cap 3
   unfolding cap
   word-in = rw (← c .before .before .before .number-of .ensures) (omega arith)
 
@@ -34,7 +35,7 @@ module _ (c : tie.After-total2) where
   unfolding cap
   source-in = rw (← c .before .before .number-of2 .ensures) (omega arith)
 
-  total-is : c .before .total .result ≡ total (decode (c .before .before .before .before .before .before .before .before .before .before .args .g))
+  total-is : c .before .total .result ≡ total (decode (c .before .before .before .before .before .before .before .before .before .before .args .target))
   unfolding decode
   total-is = rw (← c .before .before .before .number-of .ensures) (c .before .total .ensures)
 
@@ -42,23 +43,33 @@ module _ (c : tie.After-total2) where
   unfolding decode
   source-is = rw (← c .before .before .number-of2 .ensures) (c .total2 .ensures)
 
--- src/lib.rt:161:9
+-- src/lib.rt:167:9
 is-valid-requires : tie.Need-is-valid-requires
 is-valid-requires c κs = search needs
 
--- src/lib.rt:162:9
-returns : tie.Need-returns
-returns c = let a = c .before .before .before .before .args in
-    sym (united-invalid (a .g) (a .source) (sym (c .before .is-valid .ensures) ∙ not-true _ (c .if1 .taken)))
+-- src/lib.rt:168:9
+unchanged-requires : tie.Need-unchanged-requires
+unchanged-requires c κs = search needs
 
--- src/lib.rt:167:9
+-- src/lib.rt:168:9
+returns : tie.Need-returns
+returns c = let a = c .before .before .before .before .before .args in
+    c .unchanged .ensures ∙ sym (united-invalid (a .target) (a .source) (sym (c .before .before .is-valid .ensures) ∙ not-true _ (c .before .if1 .taken)))
+
+-- src/lib.rt:170:9
 is-valid-requires-2 : tie.Need-is-valid-requires-2
 is-valid-requires-2 c κs = search needs
 
--- src/lib.rt:168:9
+-- src/lib.rt:171:9
+unchanged-requires-2 : tie.Need-unchanged-requires-2
+unchanged-requires-2 c κs = search needs
+
+-- src/lib.rt:171:9
 returns-2 : tie.Need-returns-2
-returns-2 c = let a = c .before .before .before .before .before .before .args in
-    sym (united-source-invalid (a .g) (a .source) (is-sane (c .before .before)) (sym (c .before .is-valid2 .ensures) ∙ not-true _ (c .if2 .taken)))
+returns-2 c = let d = c .before in
+    let a = d .before .before .before .before .before .before .args in
+    c .unchanged2 .ensures
+    ∙ sym (united-source-invalid (a .target) (a .source) (is-sane (d .before .before)) (sym (d .before .is-valid2 .ensures) ∙ not-true _ (d .if2 .taken)))
 
 -- src/lib.rt:173:9
 number-of-requires : tie.Need-number-of-requires
@@ -74,8 +85,8 @@ unfolding cap
 total-requires c κs = (omega arith, omega arith)
 
 -- src/lib.rt:175:16
-sub-most : tie.Need-sub-most
-sub-most c = search needs
+sub-room : tie.Need-sub-room
+sub-room c = search needs
 
 -- src/lib.rt:176:15
 total-requires-2 : tie.Need-total-requires-2
@@ -83,24 +94,29 @@ unfolding cap
 total-requires-2 c κs = (omega arith, omega arith)
 
 -- src/lib.rt:177:9
+unchanged-requires-3 : tie.Need-unchanged-requires-3
+unchanged-requires-3 c κs = search needs
+
+-- src/lib.rt:177:9
 returns-3 : tie.Need-returns-3
-returns-3 c = let d = c .before in
+returns-3 c = let d = c .before .before in
     let e = d .before .before .before .before in
     let a = e .before .before .before .before .before .before .args in
-    sym (united-full (a .g) (a .source) (word-in d) (source-in d) (is-sane (e .before .before)) (source-sane e) (omega (arith, total-is d, source-is d)))
+    c .unchanged3 .ensures
+    ∙ sym (united-full (a .target) (a .source) (word-in d) (source-in d) (is-sane (e .before .before)) (source-sane e) (omega (arith, total-is d, source-is d)))
 
--- src/lib.rt:182:13
+-- src/lib.rt:179:13
 unite-requires : tie.Need-unite-requires
 unfolding cap
 unite-requires c κs = let d = c .before in
     let e = d .before .before .before .before in
     (omega arith, ((omega arith, is-sane (e .before .before)), ((omega arith, source-sane e), omega (arith, d .before .total .ensures, d .total2 .ensures))))
 
--- src/lib.rt:182:5
+-- src/lib.rt:179:5
 settled-requires : tie.Need-settled-requires
 settled-requires c κs = search needs
 
--- src/lib.rt:156:1
+-- src/lib.rt:162:1
 returns-4 : tie.Need-returns-4
 unfolding decode
 returns-4 c = let d = c .before .before .before in
@@ -108,21 +124,24 @@ returns-4 c = let d = c .before .before .before in
     let a = e .before .before .before .before .before .before .args in
     c .settled .ensures
     ∙ rw (c .before .unite .ensures, d .before .before .before .number-of .ensures, d .before .before .number-of2 .ensures)
-    (sym (united-stored (a .g) (a .source) (word-in d) (source-in d) (is-sane (e .before .before)) (source-sane e) (omega (arith, total-is d, source-is d))))
+    (sym (united-stored (a .target) (a .source) (word-in d) (source-in d) (is-sane (e .before .before)) (source-sane e) (omega (arith, total-is d, source-is d))))
 
 pub unite-spec : {M : Type 1} → statement M
 unite-spec =
     tie.close
     (tie.spec
     is-valid-requires
+    unchanged-requires
     returns
     is-valid-requires-2
+    unchanged-requires-2
     returns-2
     number-of-requires
     number-of-requires-2
     total-requires
-    sub-most
+    sub-room
     total-requires-2
+    unchanged-requires-3
     returns-3
     unite-requires
     settled-requires
