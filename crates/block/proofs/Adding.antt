@@ -1,15 +1,13 @@
 -- Laws of adding and uniting, for any level.
-use mathlib.Core.Path.{_≡_, refl, sym, ap, ap₂, _∙_}
+use mathlib.Core.Path.{_≡_, refl, ap}
 use mathlib.Core.Bool.{Bool, true, false, cond, true≢false}
-use Prim.Native.Nat.{ℕ, zero, suc, _+_, _-_, _*_, _/_, _%_, _^_, _≤_, _<_}
-use native.Mathlib.Nat.{add-comm, add-assoc}
-use native.Mathlib.Numerals.{add-one}
+use Prim.Native.Nat.{ℕ, suc, _+_, _-_, _^_, _≤_, _<_}
 use native.Mathlib.Omega.{arith}
-use borrow.Author.Tests.{lt-ltb, le-ltb, ltb-true, ltb-false}
+use borrow.Author.Tests.{lt-ltb, ltb-true, ltb-false}
 use lib.Dec.{ltb}
-use Rattle.layout.specs.Layout.{Layout, merged, halves, bit, marks, layout, valid}
+use Rattle.layout.specs.Layout.{Layout, merged, halves}
 use Rattle.block.specs.declared.Counter.{Counter}
-use Rattle.block.specs.Block.{Block, counter, split, cap, Fits, shape, word, fill, block, counterAt, total}
+use Rattle.block.specs.Block.{Block, counter, split, cap, Fits, shape, counterAt, total}
 use Rattle.block.specs.Sum.{Sum, fits, over, held, join, add, unite, sumTotal, Sound}
 use Rattle.block.specs.Least.{together}
 
@@ -169,6 +167,7 @@ add-stays (split {n} l r) k a h = go (ltb k (2 ^ n)) refl h (λ h. add-stays l k
   where
     at : Bool → Counter
     at b = cond b (counterAt l k) (counterAt r (k - 2 ^ n))
+
     go : (b : Bool) → ltb k (2 ^ n) ≡ b → at b .value + a < cap (at b .level)
         → (counterAt l k .value + a < cap (counterAt l k .level) → Stays l k a)
         → (counterAt r (k - 2 ^ n) .value + a < cap (counterAt r (k - 2 ^ n) .level) → Stays r (k - 2 ^ n) a)

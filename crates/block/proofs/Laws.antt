@@ -1,9 +1,8 @@
 -- Laws of blocks, for any level.
-use mathlib.Core.Path.{_≡_, refl, sym, ap, ap₂, _∙_}
-use mathlib.Core.Bool.{Bool, true, false, cond}
-use Prim.Native.Nat.{ℕ, zero, suc, _+_, _-_, _*_, _/_, _%_, _^_, _≤_, _<_}
+use mathlib.Core.Path.{_≡_, refl, ap, ap₂, _∙_}
+use mathlib.Core.Bool.{true, false}
+use Prim.Native.Nat.{ℕ, suc, _+_, _*_, _/_, _%_, _^_, _≤_, _<_}
 use native.Mathlib.Nat.{mod-lt, div-eq-of-lt, le-div-iff-mul-le, div-lt-iff-lt-mul, div-add-mod', mul-le-mul-left}
-use native.Mathlib.Numerals.{sub-one}
 use native.Mathlib.Omega.{arith}
 use native.Mathlib.Decide.{decLt}
 use borrow.Author.Tests.{ne-eqb, lt-ltb, le-ltb}
@@ -95,8 +94,9 @@ total-lt (split {n} l r) f = omega (arith, cap-double n, total-lt l (f .0), tota
 -- a number is below the cap where nothing is above it
 pub zero-high : (n w : ℕ) → eqb (w / cap n) 0 ≡ ltb w (cap n)
 zero-high n w = elim (decLt w (cap n)) [
-    yes h ↦ rw (div-eq-of-lt {n = w} {m = cap n} h, lt-ltb w (cap n) h)
-    | no h ↦ rw (le-ltb w (cap n) (omega arith)) (ne-eqb (w / cap n) 0 (λ e. omega (arith, le-div-iff-mul-le {k = cap n} {x = 1} {y = w} (cap-pos n) .1 (omega arith)))) ]
+  | yes h ↦ rw (div-eq-of-lt {n = w} {m = cap n} h, lt-ltb w (cap n) h)
+  | no h ↦ rw (le-ltb w (cap n) (omega arith)) (ne-eqb (w / cap n) 0 (λ e. omega (arith, le-div-iff-mul-le {k = cap n} {x = 1} {y = w} (cap-pos n) .1 (omega arith))))
+]
 
 -- what the recursions on the level meet
 pub block-merged : (n w m : ℕ) → isMerged (layout n m) ≡ true → block n w m ≡ counter w

@@ -1,14 +1,13 @@
 -- The layout of a union is the least that suits both blocks, for any level.
-use mathlib.Core.Path.{_≡_, refl, sym, ap, ap₂, _∙_}
-use mathlib.Core.Bool.{Bool, true, false, cond}
-use Prim.Native.Nat.{ℕ, zero, suc, _+_, _≤_, _<_}
+use mathlib.Core.Path.{_≡_, refl, ap₂}
+use Prim.Native.Nat.{ℕ, suc, _+_, _<_}
 use native.Mathlib.Omega.{arith}
 use Rattle.layout.specs.Layout.{Layout, merged, halves}
-use Rattle.block.specs.Block.{Block, counter, split, cap, Fits, shape, total}
-use Rattle.block.specs.Sum.{Sum, fits, over, held, join, unite, Sound, sumTotal}
+use Rattle.block.specs.Block.{Block, counter, split, cap, shape, total}
+use Rattle.block.specs.Sum.{Sum, fits, over, held, join, unite, sumTotal}
 use Rattle.block.specs.Least.{Inside, Suits, Least}
 use Rattle.block.proofs.Laws.{cap-double}
-use Rattle.block.proofs.Adding.{held-cases, unite-total, unite-sound}
+use Rattle.block.proofs.Adding.{held-cases, unite-total}
 
 -- a layout that suits merges all that either block merged
 pub suits-merges : {n : ℕ} (L : Layout n) (x y : Block n) → Suits L x y → Inside (shape x) L × Inside (shape y) L

@@ -1,12 +1,12 @@
 -- What the code's addition and union ask of their recursive calls and of `join`, and what these give, in a block of two halves.
-use mathlib.Core.Path.{_≡_, refl, sym, ap, _∙_}
+use mathlib.Core.Path.{_≡_, refl, sym, _∙_}
 use mathlib.Core.Bool.{true, false}
 use Prim.Native.Nat.{ℕ, _+_, _-_, _^_, _≤_, _<_}
 use native.Mathlib.Omega.{arith}
 use lib.Dec.{ltb}
 use Rattle.block.specs.declared.Summed.{Summed}
 use Rattle.block.specs.Block.{Block, counter, split, block, total}
-use Rattle.block.specs.Sum.{Sum, fits, held, join, add, unite, summed, sumOf, sumTotal, Sound, Sane, Apt}
+use Rattle.block.specs.Sum.{fits, held, join, add, unite, summed, sumOf, sumTotal, Sound, Sane, Apt}
 use Rattle.block.proofs.Adding.{add-total, add-sound, unite-total, unite-sound}
 use Rattle.block.proofs.Halves.{Apart, both-apart, join-asks, join-gives, apart-is, left-sane, right-sane, left-is, right-is, left-fits, right-fits, total-apart}
 

@@ -1,5 +1,5 @@
 -- A block and its counters. Document 01, 'Rows, groups and blocks'.
-use Prim.Native.Nat.{ℕ, zero, suc, _+_, _-_, _*_, _/_, _%_, _^_, _<_}
+use Prim.Native.Nat.{ℕ, suc, _+_, _-_, _*_, _/_, _%_, _^_, _<_}
 use mathlib.Core.Bool.{cond}
 use lib.Dec.{ltb}
 use Rattle.layout.specs.Layout.{Layout, merged, halves, layout}

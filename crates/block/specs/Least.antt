@@ -1,5 +1,5 @@
 -- What a union's layout is: the least that suits both blocks. Document 01, 'Updating, asking, uniting'.
-use Prim.Native.Nat.{ℕ, suc, _+_, _-_, _^_, _<_}
+use Prim.Native.Nat.{ℕ, _+_, _-_, _^_, _<_}
 use mathlib.Core.Bool.{Bool, true, false, cond}
 use lib.Dec.{ltb}
 use Rattle.layout.specs.Layout.{Layout, merged, halves}

@@ -1,6 +1,11 @@
 // The counters of a block. Each function takes the block's level, its count bytes as one number, the lowest slot least significant,
 // and its merge bits. It recurses on the level.
-use layout::{beside, high, is_merged, low, ones, slots};
+use layout::beside;
+use layout::high;
+use layout::is_merged;
+use layout::low;
+use layout::ones;
+use layout::slots;
 ghost use mathlib.Core.Path.{_≡_};
 ghost use Prim.Native.Nat.{_+_, _-_, _*_, _/_, _%_, _^_, _<_, _≤_};
 ghost use lib.Dec.{ltb};
@@ -91,10 +96,7 @@ pub fn counter_at(level: u32, word: u64, merge: u8, slot: usize) -> Counter
     ensures { λ r. ⌜ r ≡ counterAt (block level word merge) slot ⌝ }
 {
     if is_merged(level, merge) {
-        return Counter {
-            value: word,
-            level,
-        };
+        return Counter { value: word, level };
     }
     let half = level - 1;
     let size = slots(half) as usize;
@@ -188,7 +190,11 @@ pub fn add(level: u32, word: u64, merge: u8, slot: usize, amount: u64) -> Summed
     if slot < size {
         return join(half, add(half, left.word, left.merge, slot, amount), right);
     }
-    join(half, left, add(half, right.word, right.merge, slot - size, amount))
+    join(
+        half,
+        left,
+        add(half, right.word, right.merge, slot - size, amount),
+    )
 }
 
 // Two blocks united.
@@ -207,6 +213,22 @@ pub fn unite(level: u32, word: u64, merge: u8, other_word: u64, other_merge: u8)
     let right = right_half(half, word, merge);
     let other_left = left_half(half, other_word, other_merge);
     let other_right = right_half(half, other_word, other_merge);
-    let united = unite(half, left.word, left.merge, other_left.word, other_left.merge);
-    join(half, united, unite(half, right.word, right.merge, other_right.word, other_right.merge))
+    let united = unite(
+        half,
+        left.word,
+        left.merge,
+        other_left.word,
+        other_left.merge,
+    );
+    join(
+        half,
+        united,
+        unite(
+            half,
+            right.word,
+            right.merge,
+            other_right.word,
+            other_right.merge,
+        ),
+    )
 }

@@ -10,6 +10,6 @@ use Rattle.group.specs.Cases.{cases, AllHold}
 
 pub cases-hold : AllHold cases
 unfolding bit ones marks layout valid layouts mergedCode code cap shape word fill block total sumTotal held join add unite
-  number bytes decode encode settle added united groupCode fourCode packed
+    number bytes decode encode settle added united groupCode fourCode packed
 cases-hold =
     (refl, (refl, (refl, (refl, (refl, (refl, (refl, (refl, (refl, (refl, (refl, (refl, (refl, (refl, (refl, (refl, (refl, (refl, (refl, (refl, (refl, (refl, (refl, tt)))))))))))))))))))))))

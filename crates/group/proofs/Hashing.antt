@@ -1,8 +1,8 @@
 -- Laws of the hash.
-use mathlib.Core.Path.{_≡_, refl, sym, ap, _∙_}
+use mathlib.Core.Path.{_≡_, sym}
 use Prim.Native.Nat.{ℕ, _+_, _*_, _/_, _%_, _^_, _≤_, _<_}
-use mathlib.Core.List.{List, [], _∷_, _++_}
-use native.Mathlib.Nat.{mul-comm, le-div-iff-mul-le, div-lt-iff-lt-mul, div-mul-cancel, dvd-of-mod-eq-zero, div-zero}
+use mathlib.Core.List.{List}
+use native.Mathlib.Nat.{mul-comm, div-lt-iff-lt-mul, div-mul-cancel, dvd-of-mod-eq-zero, div-zero}
 use native.Mathlib.Decide.{decLt}
 use native.Mathlib.Numerals.{add-one}
 use native.Mathlib.Omega.{arith}

@@ -1,22 +1,20 @@
 -- Laws of groups: encoding, and what the code's additions and unions come to.
-use mathlib.Core.Path.{_≡_, refl, sym, ap, ap₂, _∙_}
-use mathlib.Core.Bool.{Bool, true, false, cond}
-use Prim.Native.Nat.{ℕ, zero, suc, _+_, _-_, _*_, _/_, _%_, _^_, _≤_, _<_}
-use mathlib.Core.List.{List, [], _∷_}
+use mathlib.Core.Path.{_≡_, refl, ap}
+use mathlib.Core.Bool.{true, false}
+use Prim.Native.Nat.{ℕ, _+_, _%_, _^_, _≤_, _<_}
+use mathlib.Core.List.{List}
 use native.Mathlib.Omega.{arith}
 use lib.ListN.{length}
-use Rattle.layout.specs.Layout.{marks, layout, valid}
+use Rattle.layout.specs.Layout.{valid}
 use Rattle.layout.proofs.Laws.{valid-marks}
-use Rattle.block.specs.declared.Summed.{Summed}
-use Rattle.block.specs.Block.{Block, cap, Fits, shape, word, block, total}
+use Rattle.block.specs.Block.{Block, cap, Fits, shape, word, total}
 use Rattle.block.specs.Sum.{Sum, fits, over, add, unite, summed, sumTotal, Sound}
 use Rattle.block.proofs.Laws.{word-lt, word-block, marks-block, block-is, block-fits, total-lt}
 use Rattle.block.proofs.Adding.{add-total, add-sound, unite-total, unite-sound}
 use Rattle.group.specs.declared.Group.{Group}
-use Rattle.group.specs.declared.Outcome.{Outcome}
-use Rattle.group.specs.Group.{number, bytes, decode, encode, stored, settle, unchanged, added, united}
+use Rattle.group.specs.Group.{number, decode, encode, stored, settle, unchanged, added, united}
 use Rattle.group.specs.Status.{invalidMerge, counterFull}
-use Rattle.group.proofs.Bytes.{Bytes, number-lt, number-bytes, bytes-number, bytes-length}
+use Rattle.group.proofs.Bytes.{Bytes, number-lt, number-bytes, bytes-number}
 
 -- a counter of level 3 holds 64 bits
 pub cap-three : cap 3 ≡ 2 ^ 64

@@ -1,15 +1,14 @@
 -- Layout codes of groups: packing and unpacking are inverse, and the codes are exactly the numbers below 26 and below 456,976.
-use mathlib.Core.Path.{_≡_, refl, sym, ap, ap₂, _∙_}
-use mathlib.Core.Bool.{Bool, true, false, cond}
-use Prim.Native.Nat.{ℕ, zero, suc, _+_, _*_, _/_, _%_, _≤_, _<_}
-use mathlib.Core.List.{List, [], _∷_}
+use mathlib.Core.Path.{_≡_, refl, ap}
+use mathlib.Core.Bool.{Bool, true, cond}
+use Prim.Native.Nat.{ℕ, zero, suc, _+_, _*_, _/_, _%_, _<_}
+use mathlib.Core.List.{[], _∷_}
 use native.Mathlib.Omega.{arith}
 use borrow.Author.Tests.{lt-ltb}
-use Rattle.layout.specs.Layout.{marks, layout, valid, ones}
-use Rattle.layout.specs.Code.{layouts, code, uncode}
+use Rattle.layout.specs.Layout.{layout, valid, ones}
+use Rattle.layout.specs.Code.{layouts, uncode}
 use Rattle.layout.proofs.Laws.{layout-marks, marks-layout, valid-marks}
 use Rattle.layout.proofs.Codes.{code-lt, uncode-code, code-uncode}
-use Rattle.group.specs.declared.Unpacked.{Unpacked}
 use Rattle.group.specs.Status.{accepted}
 use Rattle.group.specs.Pack.{mergeCode, codeMerge, fourCode, packed, fourMerges, unpacked}
 

@@ -1,5 +1,5 @@
 -- Document 01's group cases P1 to P12, as one table.
-use Prim.Native.Nat.{ℕ, _^_, _-_}
+use Prim.Native.Nat.{ℕ}
 use mathlib.Core.Path.{_≡_}
 use mathlib.Core.List.{List, [], _∷_}
 use Rattle.group.specs.declared.Answer.{Answer}

@@ -12,7 +12,9 @@ ghost use Rattle.group.specs.Pack.{groupCode, packed, unpacked};
 
 // Document 01's numbers of rejected calls.
 pub const INVALID_MERGE: u8 = 5;
+
 pub const COUNTER_FULL: u8 = 6;
+
 pub const BAD_PAYLOAD: u8 = 9;
 
 // What a call answers: document 01's number, place and figure.
@@ -137,10 +139,7 @@ fn settled(s: Summed) -> Outcome
 fn unchanged(status: u8, g: Group) -> Outcome
     ensures { λ r. ⌜ r ≡ spec.unchanged status g ⌝ }
 {
-    Outcome {
-        status,
-        group: g,
-    }
+    Outcome { status, group: g }
 }
 
 // An amount added to the counter that a slot is in.

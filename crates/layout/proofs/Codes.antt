@@ -1,5 +1,5 @@
 -- Laws of layout codes, for any level.
-use mathlib.Core.Path.{_≡_, refl, sym, ap, ap₂, _∙_}
+use mathlib.Core.Path.{_≡_, refl, sym}
 use mathlib.Core.Bool.{Bool, true, false, cond}
 use Prim.Native.Nat.{ℕ, zero, suc, _+_, _-_, _*_, _/_, _%_, _^_, _≤_, _<_}
 use native.Mathlib.Nat.{mod-lt, div-lt-iff-lt-mul, div-add-mod', mul-le-mul-right}
@@ -9,8 +9,7 @@ use native.Mathlib.Omega.{arith}
 use borrow.Author.Tests.{eq-eqb, ne-eqb, eqb-true, eqb-false}
 use lib.Arith.{digits-lt, digits-div, digits-mod, lt-of-le-ne}
 use lib.Dec.{eqb}
-use lib.Pow.{pow-pos}
-use Rattle.layout.specs.Layout.{Layout, merged, halves, bit, ones, marks, layout}
+use Rattle.layout.specs.Layout.{Layout, merged, halves, marks, layout}
 use Rattle.layout.specs.Code.{layouts, mergedCode, code, uncode}
 
 pub layouts-pos : (n : ℕ) → 0 < layouts n

@@ -1,15 +1,15 @@
 -- Laws of merge bits, for any level.
-use mathlib.Core.Path.{_≡_, refl, sym, ap, ap₂, _∙_}
+use mathlib.Core.Path.{_≡_, refl, sym, ap, _∙_}
 use mathlib.Core.Bool.{Bool, true, false, cond, _&&_, _||_, or-true, and-eq-true-iff, true≢false}
 use mathlib.Core.Logic.{_⊎_, inl, inr, ⊎-elim}
-use Prim.Native.Nat.{ℕ, zero, suc, _+_, _-_, _*_, _/_, _%_, _^_, _≤_, _<_, max}
+use Prim.Native.Nat.{ℕ, zero, suc, _+_, _-_, _*_, _/_, _%_, _^_, _≤_, _<_}
 use native.Mathlib.Nat.{mul-assoc, mul-comm, pow-suc, mul-mod-left, one-mul, mod-eq-of-lt}
 use native.Mathlib.Numerals.{sub-one}
 use native.Mathlib.Omega.{arith}
 use borrow.Author.Tests.{eq-eqb, ne-eqb, eqb-true}
 use lib.Arith.{digits-lt}
 use lib.Dec.{eqb}
-use lib.Pow.{pow-pos, pow-lt, pow-mono, pow-add, ones-lt, ones-split, high, low, split}
+use lib.Pow.{pow-pos, pow-lt, pow-add, ones-lt, ones-split, high, low, split}
 use Rattle.layout.specs.Layout.{Layout, merged, halves, isMerged, bit, ones, marks, layout, valid, widest}
 
 -- a one shifted in a byte
@@ -39,7 +39,7 @@ unfolding bit ones
 bit-ones n =
     let e : 2 ^ suc n - 1 ≡ 2 ^ n + (2 ^ n - 1) = omega (arith, pow-pos n) in
     let h : (2 ^ (2 ^ suc n - 1) - 1) / 2 ^ (2 ^ n - 1) ≡ 2 ^ (2 ^ n) - 1 =
-        rw (e, ones-split (2 ^ n) (2 ^ n - 1)) (high (2 ^ (2 ^ n) - 1) (2 ^ n - 1) (ones-lt (2 ^ n - 1))) in
+    rw (e, ones-split (2 ^ n) (2 ^ n - 1)) (high (2 ^ (2 ^ n) - 1) (2 ^ n - 1) (ones-lt (2 ^ n - 1))) in
     rw h (eq-eqb ((2 ^ (2 ^ n) - 1) % 2) 1 (omega (arith, double n, pow-pos (2 ^ n - 1))))
 
 -- the bits of two halves taken apart

@@ -1,17 +1,15 @@
 use Rattle.block.proofs.Halves.{Apart}
 use borrow.Author.Tests.{lt-ltb, le-ltb}
 use Rattle.block.proofs.Steps.{left-asked, right-asked, left-join, left-sum, right-join, right-sum}
-use Rattle.block.specs.Block.{total}
+use Rattle.block.specs.Block.{total, block}
 use Rattle.block.specs.Sum.{add as add-of, summed}
 use Rattle.block.proofs.Laws.{block-merged}
-use mathlib.Core.Path.{_≡_, refl, sym, ap, ap₂, _∙_}
-use Prim.Native.Nat.{_+_, _-_, _*_, _/_, _%_, _^_, _≤_}
-use mathlib.Core.Bool.{true, false}
+use mathlib.Core.Path.{_≡_, sym, _∙_}
+use Prim.Native.Nat.{_-_, _^_, ℕ, _<_}
+use mathlib.Core.Bool.{false}
 use Rattle.layout.specs.Layout.{isMerged, layout}
 use Rattle.layout.proofs.Laws.{above-slot}
-use Rattle.block.specs.Block.{block}
 use native.Mathlib.Omega.{arith}
-use Prim.Native.Nat.{ℕ, _<_}
 use borrow.Fn.Kinds.{In, Out}
 use borrow.Fn.PlainCycle.{Measures, is, falls, and}
 use Rattle.block.proofs.add.Reads as add
@@ -79,75 +77,60 @@ here : {t : ℕ} (c : add-lts.After-right-half (K t) (add-at t) add.Post)
     Apart (a .level) (a .word) (a .merge) (c .before .left-half .result) (c .right-half .result)
 here c = record { apart = is-apart (c .before .before); l-is = c .before .left-half .ensures; r-is = c .right-half .ensures }
 
--- src/lib.rt:183:8
 add-is-merged-requires : (t : ℕ) → add-lts.Need-is-merged-requires (K t) (add-at t) add.Post
 add-is-merged-requires t c κs = omega arith
 
--- src/lib.rt:184:28
 add-add-held : (t : ℕ) → add-lts.Need-add-held (K t) (add-at t) add.Post
 unfolding total
 add-add-held t c = let s = c .before .before in
     let a = s .args in
     record { fits = rw (block-merged (a .level) (a .word) (a .merge) (sym (c .before .is-merged .ensures) ∙ c .if1 .taken)) at (s .pre .1 .1 .1) }
 
--- src/lib.rt:184:9
 add-held-requires : (t : ℕ) → add-lts.Need-held-requires (K t) (add-at t) add.Post
 add-held-requires t c κs = omega arith
 
--- src/lib.rt:184:9
 add-returns : (t : ℕ) → add-lts.Need-returns (K t) (add-at t) add.Post
 unfolding add-of
 add-returns t c = let a = c .before .before .before .args in
     rw (block-merged (a .level) (a .word) (a .merge) (sym (c .before .before .is-merged .ensures) ∙ c .before .if1 .taken)) (c .held .ensures)
 
--- src/lib.rt:186:16
 add-sub-half : (t : ℕ) → add-lts.Need-sub-half (K t) (add-at t) add.Post
 add-sub-half t c = omega (arith, above c)
 
--- src/lib.rt:187:9
 add-left-half-requires : (t : ℕ) → add-lts.Need-left-half-requires (K t) (add-at t) add.Post
 add-left-half-requires t c κs = omega arith
 
--- src/lib.rt:188:9
 add-right-half-requires : (t : ℕ) → add-lts.Need-right-half-requires (K t) (add-at t) add.Post
 add-right-half-requires t c κs = omega arith
 
--- src/lib.rt:189:16
 add-slots-requires : (t : ℕ) → add-lts.Need-slots-requires (K t) (add-at t) add.Post
 add-slots-requires t c κs = omega arith
 
--- src/lib.rt:189:16
 add-cast-size : (t : ℕ) → add-lts.Need-cast-size (K t) (add-at t) add.Post
 add-cast-size t c = omega arith
 
--- src/lib.rt:191:27
 add-add-requires : (t : ℕ) → add-lts.Need-add-requires (K t) (add-at t) add.Post
 add-add-requires t c κs = let s = c .before .before .before .before .before .before in
     (omega (arith, above (c .before .before .before .before)), left-asked (here (c .before .before)) (s .pre .1 .0) (s .pre .1 .1 .0) (s .args .slot) (s .args .amount) (s .pre .1 .1 .1))
 
--- src/lib.rt:191:9
 add-join-requires : (t : ℕ) → add-lts.Need-join-requires (K t) (add-at t) add.Post
 add-join-requires t c κs = let s = c .before .before .before .before .before .before .before in
     left-join (here (c .before .before .before)) (s .pre .1 .0) (s .pre .1 .1 .0) (s .args .slot) (s .args .amount) (s .pre .1 .1 .1) _ (c .add .ensures)
 
--- src/lib.rt:191:9
 add-returns-2 : (t : ℕ) → add-lts.Need-returns-2 (K t) (add-at t) add.Post
 add-returns-2 t c = let s = c .before .before .before .before .before .before .before .before in
     c .join .ensures
     ∙ left-sum (here (c .before .before .before .before)) (s .pre .1 .0) (s .pre .1 .1 .0) (s .args .slot) (s .args .amount) (s .pre .1 .1 .1) _ (c .before .add .ensures)
     (lt-ltb (s .args .slot) (2 ^ (s .args .level - 1)) (rw (c .before .before .before .slots .ensures .0) at (c .before .before .if2 .taken)))
 
--- src/lib.rt:193:22
 add-add-requires-2 : (t : ℕ) → add-lts.Need-add-requires-2 (K t) (add-at t) add.Post
 add-add-requires-2 t c κs = let s = c .before .before .before .before .before .before in
     (omega (arith, above (c .before .before .before .before)), right-asked (here (c .before .before)) (s .pre .1 .0) (s .pre .1 .1 .0) (s .args .slot) (s .args .amount) (s .pre .1 .1 .1))
 
--- src/lib.rt:193:5
 add-join-requires-2 : (t : ℕ) → add-lts.Need-join-requires-2 (K t) (add-at t) add.Post
 add-join-requires-2 t c κs = let s = c .before .before .before .before .before .before .before in
     right-join (here (c .before .before .before)) (s .pre .1 .0) (s .pre .1 .1 .0) (s .args .slot) (s .args .amount) (s .pre .1 .1 .1) _ (right-call c)
 
--- src/lib.rt:179:1
 add-returns-3 : (t : ℕ) → add-lts.Need-returns-3 (K t) (add-at t) add.Post
 add-returns-3 t c = let s = c .before .before .before .before .before .before .before .before in
     c .join2 .ensures

@@ -3,14 +3,12 @@ use borrow.Author.Tests.{lt-ltb, le-ltb}
 use Rattle.block.specs.Block.{counterAt}
 use Rattle.block.proofs.Laws.{block-merged}
 use Rattle.block.proofs.Halves.{apart-is}
-use mathlib.Core.Path.{_≡_, refl, sym, ap, ap₂, _∙_}
-use Prim.Native.Nat.{_+_, _-_, _*_, _/_, _%_, _^_, _≤_}
-use mathlib.Core.Bool.{true, false}
+use mathlib.Core.Path.{_≡_, refl, sym, _∙_}
+use Prim.Native.Nat.{_-_, _^_, ℕ, _<_}
+use mathlib.Core.Bool.{false}
 use Rattle.layout.specs.Layout.{isMerged, layout}
 use Rattle.layout.proofs.Laws.{above-slot}
-use Rattle.block.specs.Block.{block}
 use native.Mathlib.Omega.{arith}
-use Prim.Native.Nat.{ℕ, _<_}
 use borrow.Fn.Kinds.{In, Out}
 use borrow.Fn.PlainCycle.{Measures, is, falls, and}
 use Rattle.block.proofs.counter_at.Reads as counter-at
@@ -60,37 +58,29 @@ is-apart c = sym (c .before .is-merged .ensures) ∙ c .if1 .left
 above : {t : ℕ} (c : counter-at-lts.Else1 (K t) (counter-at-at t) counter-at.Post) → 0 < c .before .before .args .level
 above c = above-slot (c .before .before .args .level) (c .before .before .args .merge) (is-apart c)
 
--- src/lib.rt:95:8
 counter-at-is-merged-requires : (t : ℕ) → counter-at-lts.Need-is-merged-requires (K t) (counter-at-at t) counter-at.Post
 counter-at-is-merged-requires t c κs = omega arith
 
--- src/lib.rt:96:9
 counter-at-returns : (t : ℕ) → counter-at-lts.Need-returns (K t) (counter-at-at t) counter-at.Post
 unfolding counterAt
 counter-at-returns t c = let a = c .before .before .args in
     rw (block-merged (a .level) (a .word) (a .merge) (sym (c .before .is-merged .ensures) ∙ c .if1 .taken))
 
--- src/lib.rt:101:16
 counter-at-sub-half : (t : ℕ) → counter-at-lts.Need-sub-half (K t) (counter-at-at t) counter-at.Post
 counter-at-sub-half t c = omega (arith, above c)
 
--- src/lib.rt:102:16
 counter-at-slots-requires : (t : ℕ) → counter-at-lts.Need-slots-requires (K t) (counter-at-at t) counter-at.Post
 counter-at-slots-requires t c κs = omega arith
 
--- src/lib.rt:102:16
 counter-at-cast-size : (t : ℕ) → counter-at-lts.Need-cast-size (K t) (counter-at-at t) counter-at.Post
 counter-at-cast-size t c = omega arith
 
--- src/lib.rt:104:13
 counter-at-left-half-requires : (t : ℕ) → counter-at-lts.Need-left-half-requires (K t) (counter-at-at t) counter-at.Post
 counter-at-left-half-requires t c κs = omega arith
 
--- src/lib.rt:105:9
 counter-at-counter-at-requires : (t : ℕ) → counter-at-lts.Need-counter-at-requires (K t) (counter-at-at t) counter-at.Post
 counter-at-counter-at-requires t c κs = (omega (arith, above (c .before .before .before)), omega arith)
 
--- src/lib.rt:105:9
 counter-at-returns-2 : (t : ℕ) → counter-at-lts.Need-returns-2 (K t) (counter-at-at t) counter-at.Post
 unfolding counterAt
 counter-at-returns-2 t c = let d = c .before .before .before .before in
@@ -101,15 +91,12 @@ counter-at-returns-2 t c = let d = c .before .before .before .before in
     (apart-is {r = rightHalf (a .level - 1) (a .word) (a .merge)} (record { apart = is-apart d; l-is = c .before .left-half .ensures; r-is = refl }) (λ n b. counterAt b (a .slot))
     ∙ rw (lt-ltb (a .slot) (2 ^ (a .level - 1)) (rw size at (c .before .before .if2 .taken))))
 
--- src/lib.rt:107:9
 counter-at-right-half-requires : (t : ℕ) → counter-at-lts.Need-right-half-requires (K t) (counter-at-at t) counter-at.Post
 counter-at-right-half-requires t c κs = omega arith
 
--- src/lib.rt:108:5
 counter-at-counter-at-requires-2 : (t : ℕ) → counter-at-lts.Need-counter-at-requires-2 (K t) (counter-at-at t) counter-at.Post
 counter-at-counter-at-requires-2 t c κs = (omega (arith, above (c .before .before .before)), omega arith)
 
--- src/lib.rt:91:1
 counter-at-returns-3 : (t : ℕ) → counter-at-lts.Need-returns-3 (K t) (counter-at-at t) counter-at.Post
 unfolding counterAt
 counter-at-returns-3 t c = let d = c .before .before .before .before in

@@ -1,14 +1,12 @@
-use Rattle.block.specs.Block.{total as total-of}
+use Rattle.block.specs.Block.{total as total-of, block}
 use Rattle.block.proofs.Laws.{block-merged}
 use Rattle.block.proofs.Halves.{Apart, words-in, total-apart, total-in}
-use mathlib.Core.Path.{_≡_, refl, sym, ap, ap₂, _∙_}
-use Prim.Native.Nat.{_+_, _-_, _*_, _/_, _%_, _^_, _≤_}
-use mathlib.Core.Bool.{true, false}
+use mathlib.Core.Path.{_≡_, sym, ap₂, _∙_}
+use Prim.Native.Nat.{_+_, ℕ, _<_}
+use mathlib.Core.Bool.{false}
 use Rattle.layout.specs.Layout.{isMerged, layout}
 use Rattle.layout.proofs.Laws.{above-slot}
-use Rattle.block.specs.Block.{block}
 use native.Mathlib.Omega.{arith}
-use Prim.Native.Nat.{ℕ, _<_}
 use borrow.Fn.Kinds.{In, Out}
 use borrow.Fn.PlainCycle.{Measures, is, falls, and}
 use Rattle.block.proofs.total.Reads as total
@@ -63,43 +61,34 @@ halves-sum : {t : ℕ} (c : total-lts.After-total2 (K t) (total-at t) total.Post
     c .before .total .result + c .total2 .result ≡ total-of (block (a .level) (a .word) (a .merge))
 halves-sum c = ap₂ (λ (x y : ℕ). x + y) (c .before .total .ensures) (c .total2 .ensures) ∙ total-apart (here (c .before .before))
 
--- src/lib.rt:81:8
 total-is-merged-requires : (t : ℕ) → total-lts.Need-is-merged-requires (K t) (total-at t) total.Post
 total-is-merged-requires t c κs = omega arith
 
--- src/lib.rt:82:9
 total-returns : (t : ℕ) → total-lts.Need-returns (K t) (total-at t) total.Post
 unfolding total-of
 total-returns t c = let a = c .before .before .args in
     rw (block-merged (a .level) (a .word) (a .merge) (sym (c .before .is-merged .ensures) ∙ c .if1 .taken))
 
--- src/lib.rt:84:16
 total-sub-half : (t : ℕ) → total-lts.Need-sub-half (K t) (total-at t) total.Post
 total-sub-half t c = omega (arith, above c)
 
--- src/lib.rt:85:9
 total-left-half-requires : (t : ℕ) → total-lts.Need-left-half-requires (K t) (total-at t) total.Post
 total-left-half-requires t c κs = omega arith
 
--- src/lib.rt:86:9
 total-right-half-requires : (t : ℕ) → total-lts.Need-right-half-requires (K t) (total-at t) total.Post
 total-right-half-requires t c κs = omega arith
 
--- src/lib.rt:87:5
 total-total-requires : (t : ℕ) → total-lts.Need-total-requires (K t) (total-at t) total.Post
 total-total-requires t c κs = let s = c .before .before .before .before in
     (omega (arith, above (c .before .before)), (omega arith, words-in (here c) (s .pre .1 .1) .0))
 
--- src/lib.rt:87:42
 total-total-requires-2 : (t : ℕ) → total-lts.Need-total-requires-2 (K t) (total-at t) total.Post
 total-total-requires-2 t c κs = let s = c .before .before .before .before .before in
     (omega (arith, above (c .before .before .before)), (omega arith, words-in (here (c .before)) (s .pre .1 .1) .1))
 
--- src/lib.rt:87:5
 total-add-result : (t : ℕ) → total-lts.Need-add-result (K t) (total-at t) total.Post
 total-add-result t c = record { fits = rw (halves-sum c) (total-in (here (c .before .before)) (omega arith) (c .before .before .before .before .before .before .pre .1 .1)) }
 
--- src/lib.rt:77:1
 total-returns-2 : (t : ℕ) → total-lts.Need-returns-2 (K t) (total-at t) total.Post
 total-returns-2 t c = halves-sum c
 

@@ -1,6 +1,6 @@
-use mathlib.Core.Path.{_≡_, refl, sym, ap, ap₂, _∙_}
-use Prim.Native.Nat.{_+_, _-_, _*_, _/_, _%_, _^_, _≤_}
-use mathlib.Core.Bool.{true, false}
+use mathlib.Core.Path.{_≡_, sym, ap, _∙_}
+use Prim.Native.Nat.{_+_, ℕ, _<_}
+use mathlib.Core.Bool.{false}
 use Rattle.layout.specs.Layout.{isMerged, layout}
 use Rattle.layout.proofs.Laws.{above-slot}
 use Rattle.block.specs.Block.{block, total as total-of}
@@ -9,7 +9,6 @@ use Rattle.block.proofs.Laws.{block-merged}
 use Rattle.block.proofs.Halves.{Apart}
 use Rattle.block.proofs.Steps.{unite-counter, lefts-asked, rights-asked, both-join, both-sum}
 use native.Mathlib.Omega.{arith}
-use Prim.Native.Nat.{ℕ, _<_}
 use borrow.Fn.Kinds.{In, Out}
 use borrow.Fn.PlainCycle.{Measures, is, falls, and}
 use Rattle.block.proofs.unite.Reads as unite
@@ -76,59 +75,49 @@ module _ {t : ℕ} (c : unite-lts.After-right-half2 (K t) (unite-at t) unite.Pos
       record {
         apart = is-apart (c .before .before .before .before);
         l-is = c .before .before .before .left-half .ensures;
-        r-is = c .before .before .right-half .ensures
+        r-is = c .before .before .right-half .ensures;
       }
 
   other : let a = c .before .before .before .before .before .before .before .before .args in
       Apart (a .level) (a .other-word) (a .other-merge) (c .before .left-half2 .result) (c .right-half2 .result)
   other = record { apart = other-apart (c .before .before .before .before); l-is = c .before .left-half2 .ensures; r-is = c .right-half2 .ensures }
 
--- src/lib.rt:200:8
 unite-is-merged-requires : (t : ℕ) → unite-lts.Need-is-merged-requires (K t) (unite-at t) unite.Post
 unite-is-merged-requires t c κs = omega arith
 
--- src/lib.rt:201:35
 unite-total-requires : (t : ℕ) → unite-lts.Need-total-requires (K t) (unite-at t) unite.Post
 unite-total-requires t c κs = omega arith
 
--- src/lib.rt:201:28
 unite-add-held : (t : ℕ) → unite-lts.Need-add-held (K t) (unite-at t) unite.Post
 unfolding total-of
 unite-add-held t c = let s = c .before .before .before in
     let a = s .args in
     record { fits = rw (c .total .ensures) (rw (block-merged (a .level) (a .word) (a .merge) (sym (c .before .before .is-merged .ensures) ∙ c .before .if1 .taken)) at (s .pre .1 .1 .1 .1)) }
 
--- src/lib.rt:201:9
 unite-held-requires : (t : ℕ) → unite-lts.Need-held-requires (K t) (unite-at t) unite.Post
 unite-held-requires t c κs = omega arith
 
--- src/lib.rt:201:9
 unite-returns : (t : ℕ) → unite-lts.Need-returns (K t) (unite-at t) unite.Post
 unfolding unite-of
 unite-returns t c = let a = c .before .before .before .before .args in
     rw (block-merged (a .level) (a .word) (a .merge) (sym (c .before .before .before .is-merged .ensures) ∙ c .before .before .if1 .taken))
     (c .held .ensures ∙ ap (λ (y : ℕ). summed (held-of (a .level) (a .word + y))) (c .before .total .ensures))
 
--- src/lib.rt:203:8
 unite-is-merged-requires-2 : (t : ℕ) → unite-lts.Need-is-merged-requires-2 (K t) (unite-at t) unite.Post
 unite-is-merged-requires-2 t c κs = omega arith
 
--- src/lib.rt:204:28
 unite-total-requires-2 : (t : ℕ) → unite-lts.Need-total-requires-2 (K t) (unite-at t) unite.Post
 unite-total-requires-2 t c κs = omega arith
 
--- src/lib.rt:204:28
 unite-add-held-2 : (t : ℕ) → unite-lts.Need-add-held-2 (K t) (unite-at t) unite.Post
 unfolding total-of
 unite-add-held-2 t c = let s = c .before .before .before .before .before in
     let a = s .args in
     record { fits = rw (c .total2 .ensures) (rw (block-merged (a .level) (a .other-word) (a .other-merge) (sym (c .before .before .is-merged2 .ensures) ∙ c .before .if2 .taken)) at (s .pre .1 .1 .1 .1)) }
 
--- src/lib.rt:204:9
 unite-held-requires-2 : (t : ℕ) → unite-lts.Need-held-requires-2 (K t) (unite-at t) unite.Post
 unite-held-requires-2 t c κs = omega arith
 
--- src/lib.rt:204:9
 unite-returns-2 : (t : ℕ) → unite-lts.Need-returns-2 (K t) (unite-at t) unite.Post
 unite-returns-2 t c = let a = c .before .before .before .before .before .before .args in
     rw (
@@ -137,42 +126,33 @@ unite-returns-2 t c = let a = c .before .before .before .before .before .before 
     )
     (c .held2 .ensures ∙ ap (λ (x : ℕ). summed (held-of (a .level) (x + a .other-word))) (c .before .total2 .ensures))
 
--- src/lib.rt:206:16
 unite-sub-half : (t : ℕ) → unite-lts.Need-sub-half (K t) (unite-at t) unite.Post
 unite-sub-half t c = omega (arith, above c)
 
--- src/lib.rt:207:9
 unite-left-half-requires : (t : ℕ) → unite-lts.Need-left-half-requires (K t) (unite-at t) unite.Post
 unite-left-half-requires t c κs = omega arith
 
--- src/lib.rt:208:9
 unite-right-half-requires : (t : ℕ) → unite-lts.Need-right-half-requires (K t) (unite-at t) unite.Post
 unite-right-half-requires t c κs = omega arith
 
--- src/lib.rt:209:9
 unite-left-half-requires-2 : (t : ℕ) → unite-lts.Need-left-half-requires-2 (K t) (unite-at t) unite.Post
 unite-left-half-requires-2 t c κs = omega arith
 
--- src/lib.rt:210:9
 unite-right-half-requires-2 : (t : ℕ) → unite-lts.Need-right-half-requires-2 (K t) (unite-at t) unite.Post
 unite-right-half-requires-2 t c κs = omega arith
 
--- src/lib.rt:211:9
 unite-unite-requires : (t : ℕ) → unite-lts.Need-unite-requires (K t) (unite-at t) unite.Post
 unite-unite-requires t c κs = let s = c .before .before .before .before .before .before .before .before in
     (omega (arith, above (c .before .before .before .before)), lefts-asked (here (c)) (other (c)) (s .pre .1 .0) (s .pre .1 .1 .0) (s .pre .1 .1 .1 .0) (s .pre .1 .1 .1 .1))
 
--- src/lib.rt:212:24
 unite-unite-requires-2 : (t : ℕ) → unite-lts.Need-unite-requires-2 (K t) (unite-at t) unite.Post
 unite-unite-requires-2 t c κs = let s = c .before .before .before .before .before .before .before .before .before in
     (omega (arith, above (c .before .before .before .before .before)), rights-asked (here (c .before)) (other (c .before)) (s .pre .1 .0) (s .pre .1 .1 .0) (s .pre .1 .1 .1 .0) (s .pre .1 .1 .1 .1))
 
--- src/lib.rt:212:5
 unite-join-requires : (t : ℕ) → unite-lts.Need-join-requires (K t) (unite-at t) unite.Post
 unite-join-requires t c κs = let s = c .before .before .before .before .before .before .before .before .before .before in
     both-join (here (c .before .before)) (other (c .before .before)) (s .pre .1 .0) (s .pre .1 .1 .0) (s .pre .1 .1 .1 .0) (s .pre .1 .1 .1 .1) _ _ (c .before .unite .ensures) (c .unite2 .ensures)
 
--- src/lib.rt:195:1
 unite-returns-3 : (t : ℕ) → unite-lts.Need-returns-3 (K t) (unite-at t) unite.Post
 unite-returns-3 t c = let s = c .before .before .before .before .before .before .before .before .before .before .before in
     c .join .ensures ∙ both-sum (here (c .before .before .before)) (other (c .before .before .before)) (s .pre .1 .0) (s .pre .1 .1 .0) (s .pre .1 .1 .1 .0) (s .pre .1 .1 .1 .1) _ _ (c .before .before .unite .ensures) (c .before .unite2 .ensures)

@@ -1,5 +1,5 @@
-use mathlib.Core.Path.{_≡_, refl, sym, ap, ap₂, _∙_}
-use Prim.Native.Nat.{ℕ, _+_, _-_, _*_, _/_, _%_, _^_, _≤_, _<_}
+use mathlib.Core.Path.{_≡_, ap, _∙_}
+use Prim.Native.Nat.{ℕ, _+_, _*_, _^_}
 use Rattle.block.specs.Block.{cap}
 use native.Mathlib.Omega.{arith}
 use lib.Pow.{shl-exact}
@@ -8,27 +8,19 @@ use Rattle.block.proofs.Laws.{cap-below}
 use borrow.Author.Needs.{needs}
 use Rattle.block.proofs.beside_word.Statement.{statement}
 use Rattle.block.proofs.beside_word.Tie as tie
-use Rattle.block.proofs.beside_word.Reads as reads
-use Rattle.block.proofs.beside_word.Lts as lts
-use Rattle.layout.proofs.slots.Reads as slots-reads
 
--- src/lib.rt:49:20
 slots-requires : tie.Need-slots-requires
 slots-requires c κs = search needs
 
--- src/lib.rt:49:16
 mul-result : tie.Need-mul-result
 mul-result c = search needs
 
--- src/lib.rt:49:16
 cast-result : tie.Need-cast-result
 cast-result c = search needs
 
--- src/lib.rt:49:6
 shl-result : tie.Need-shl-result
 shl-result c = search needs
 
--- src/lib.rt:45:1
 returns : tie.Need-returns
 unfolding cap
 returns c = let a = c .before .args in

@@ -1,49 +1,35 @@
-use mathlib.Core.Path.{_≡_, refl, sym, ap, ap₂, _∙_}
-use Prim.Native.Nat.{ℕ, _+_, _-_, _*_, _/_, _%_, _^_, _≤_}
-use mathlib.Core.Bool.{true, false}
-use native.Mathlib.Omega.{arith}
+use mathlib.Core.Path.{ap₂, _∙_}
+use Prim.Native.Nat.{ℕ}
+use mathlib.Core.Bool.{false}
 use Rattle.layout.proofs.Laws.{valid-in}
-use Rattle.block.specs.declared.Summed.{Summed}
 use Rattle.block.proofs.Halves.{join-left, join-right, join-both}
 use borrow.Author.Needs.{needs}
 use Rattle.block.proofs.join.Statement.{statement}
 use Rattle.block.proofs.join.Tie as tie
-use Rattle.block.proofs.join.Reads as reads
-use Rattle.block.proofs.join.Lts as lts
-use Rattle.block.proofs.beside_word.Reads as beside-word-reads
-use Rattle.block.proofs.formed.Reads as formed-reads
-use Rattle.layout.proofs.beside.Reads as beside-reads
 
--- src/lib.rt:148:9
 formed-requires : tie.Need-formed-requires
 formed-requires c κs = search needs
 
--- src/lib.rt:148:9
 returns : tie.Need-returns
 returns c = let a = c .before .before .args in
     c .formed .ensures ∙ join-left (a .half) (a .left) (a .right) (c .before .if1 .taken)
 
--- src/lib.rt:151:9
 formed-requires-2 : tie.Need-formed-requires-2
 formed-requires-2 c κs = search needs
 
--- src/lib.rt:151:9
 returns-2 : tie.Need-returns-2
 returns-2 c = let a = c .before .before .before .args in
     c .formed2 .ensures ∙ join-right (a .half) (a .left) (a .right) (c .before .before .if1 .left) (c .before .if2 .taken)
 
--- src/lib.rt:155:15
 beside-word-requires : tie.Need-beside-word-requires
 beside-word-requires c κs = let p = c .before .before .pre .1 in
     (c .before .before .pre .0, (p .0 (c .before .if1 .left) .0, p .1 .0 (c .if2 .left) .0))
 
--- src/lib.rt:156:16
 beside-requires : tie.Need-beside-requires
 beside-requires c κs = let a = c .before .before .before .args in
     let p = c .before .before .before .pre .1 in
     (c .before .before .before .pre .0, (valid-in (a .half) (a .left .merge) (p .0 (c .before .before .if1 .left) .1), valid-in (a .half) (a .right .merge) (p .1 .0 (c .before .if2 .left) .1)))
 
--- src/lib.rt:143:1
 returns-3 : tie.Need-returns-3
 returns-3 c = let a = c .before .before .before .before .args in
     let p = c .before .before .before .before .pre .1 in

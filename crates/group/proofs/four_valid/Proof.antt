@@ -1,54 +1,43 @@
 use borrow.Author.Needs.{needs}
 use Rattle.group.proofs.four_valid.Statement.{statement}
 use Rattle.group.proofs.four_valid.Tie as tie
-use Rattle.group.proofs.four_valid.Reads as reads
-use Rattle.group.proofs.four_valid.Lts as lts
-use Rattle.group.proofs.is_valid.Reads as is-valid-reads
 
--- src/lib.rt:209:8
 is-valid-requires : tie.Need-is-valid-requires
 is-valid-requires c κs = search needs
 
--- src/lib.rt:210:12
 is-valid-requires-2 : tie.Need-is-valid-requires-2
 is-valid-requires-2 c κs = search needs
 
--- src/lib.rt:211:16
 is-valid-requires-3 : tie.Need-is-valid-requires-3
 is-valid-requires-3 c κs = search needs
 
--- src/lib.rt:212:17
 is-valid-requires-4 : tie.Need-is-valid-requires-4
 is-valid-requires-4 c κs = search needs
 
--- src/lib.rt:212:17
 returns : tie.Need-returns
 returns c = rw (
-      ← c .before .before .before .before .before .before .is-valid .ensures,
-      c .before .before .before .before .before .if1 .taken,
-      ← c .before .before .before .before .is-valid2 .ensures,
-      c .before .before .before .if2 .taken,
-      ← c .before .before .is-valid3 .ensures,
-      c .before .if3 .taken,
-    )
+  ← c .before .before .before .before .before .before .is-valid .ensures,
+  c .before .before .before .before .before .if1 .taken,
+  ← c .before .before .before .before .is-valid2 .ensures,
+  c .before .before .before .if2 .taken,
+  ← c .before .before .is-valid3 .ensures,
+  c .before .if3 .taken,
+)
     (c .is-valid4 .ensures)
 
--- src/lib.rt:206:1
 returns-2 : tie.Need-returns-2
 returns-2 c = rw (
-      ← c .before .before .before .before .before .is-valid .ensures,
-      c .before .before .before .before .if1 .taken,
-      ← c .before .before .before .is-valid2 .ensures,
-      c .before .before .if2 .taken,
-      ← c .before .is-valid3 .ensures,
-      c .if3 .left,
-    )
+  ← c .before .before .before .before .before .is-valid .ensures,
+  c .before .before .before .before .if1 .taken,
+  ← c .before .before .before .is-valid2 .ensures,
+  c .before .before .if2 .taken,
+  ← c .before .is-valid3 .ensures,
+  c .if3 .left,
+)
 
--- src/lib.rt:206:1
 returns-3 : tie.Need-returns-3
 returns-3 c = rw (← c .before .before .before .is-valid .ensures, c .before .before .if1 .taken, ← c .before .is-valid2 .ensures, c .if2 .left)
 
--- src/lib.rt:206:1
 returns-4 : tie.Need-returns-4
 returns-4 c = rw (← c .before .is-valid .ensures, c .if1 .left)
 

@@ -1,17 +1,14 @@
-use mathlib.Core.Path.{_≡_, refl, sym, ap, ap₂, _∙_}
-use Prim.Native.Nat.{ℕ, _+_, _-_, _*_, _/_, _%_, _^_, _≤_, _<_}
+use mathlib.Core.Path.{_≡_, sym, _∙_}
+use Prim.Native.Nat.{_+_, _-_, _^_, _≤_, _<_}
 use native.Mathlib.Omega.{arith}
 use borrow.Author.Needs.{needs}
-use lib.ListN.{length, getD, drop, length-drop, drop-of-length-le}
-use lib.Pow.{pow-mono}
+use lib.ListN.{length, getD, drop, drop-of-length-le}
 use mir.Val.{Fits}
 use mir.Syntax.{w8}
 use Rattle.group.specs.Group.{number}
 use Rattle.group.proofs.Bytes.{Bytes, number-more, tail-lt}
 use Rattle.group.proofs.number_of.Statement.{statement}
 use Rattle.group.proofs.number_of.Tie as tie
-use Rattle.group.proofs.number_of.Reads as reads
-use Rattle.group.proofs.number_of.Lts as lts
 
 abbrev Inv-loop : tie.InvT-loop
 Inv-loop counts n₀ i₀ n i = (i ≤ 8) × (n ≡ number (drop i counts))
@@ -27,37 +24,29 @@ below c =
     let long : length (c .before .before .args .t1) ≡ 8 = search needs in
     rw (c .before .loop .inv .1) (tail-lt (c .before .before .args .t1) (c .before .loop .i) (are-bytes c) long (omega arith))
 
--- src/lib.rt:74:5
 loop-holds : tie.Need-loop-holds Inv-loop μ-loop
 unfolding number
 loop-holds c = let long : length (c .args .t1) ≡ 8 = search needs in
     (omega arith, rw (drop-of-length-le (c .args .t1) {i = 8} (omega arith)))
 
--- src/lib.rt:75:9
 sub-i : tie.Need-sub-i Inv-loop μ-loop
 sub-i c = search needs
 
--- src/lib.rt:76:13
 array-read-n : tie.Need-array-read-n Inv-loop μ-loop
 array-read-n c = search needs
 
--- src/lib.rt:76:13
 cast-n : tie.Need-cast-n Inv-loop μ-loop
 cast-n c = search needs
 
--- src/lib.rt:76:32
 mul-n : tie.Need-mul-n Inv-loop μ-loop
 mul-n c = omega (arith, below c)
 
--- src/lib.rt:76:13
 add-n : tie.Need-add-n Inv-loop μ-loop
 add-n c = omega (arith, below c, are-bytes c (c .before .loop .i - 1))
 
--- src/lib.rt:74:5
 loop-less : tie.Need-loop-less Inv-loop μ-loop
 loop-less c = search needs
 
--- src/lib.rt:74:5
 loop-again : tie.Need-loop-again Inv-loop μ-loop
 loop-again c = let xs = c .before .before .args .t1 in
     let l = c .before .loop in
@@ -65,7 +54,6 @@ loop-again c = let xs = c .before .before .args .t1 in
     let e : l .i - 1 + 1 ≡ l .i = omega arith in
     (omega arith, sym (number-more xs (l .i - 1) (omega arith) ∙ rw (e, ← l .inv .1)))
 
--- src/lib.rt:69:1
 returns : tie.Need-returns Inv-loop μ-loop
 returns c = let e : c .before .loop .i ≡ 0 = omega arith in
     rw e at (c .before .loop .inv .1)

@@ -1,20 +1,14 @@
-use mathlib.Core.Path.{_≡_, refl, sym, ap, ap₂, _∙_}
+use mathlib.Core.Path.{ap}
 use mathlib.Core.List.{List}
 use Prim.Native.Nat.{ℕ}
-use Rattle.group.specs.declared.Outcome.{Outcome}
 use Rattle.group.specs.Group.{stored}
 use borrow.Author.Needs.{needs}
 use Rattle.group.proofs.settled.Statement.{statement}
 use Rattle.group.proofs.settled.Tie as tie
-use Rattle.group.proofs.settled.Reads as reads
-use Rattle.group.proofs.settled.Lts as lts
-use Rattle.group.proofs.bytes_of.Reads as bytes-of-reads
 
--- src/lib.rt:128:21
 bytes-of-requires : tie.Need-bytes-of-requires
 bytes-of-requires c κs = search needs
 
--- src/lib.rt:122:1
 returns : tie.Need-returns
 unfolding stored
 returns c = ap (λ (l : List ℕ). record { status = 0; group = record { counts = l; merge = c .before .args .s .merge } }) (c .bytes-of .ensures)

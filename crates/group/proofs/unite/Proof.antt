@@ -1,6 +1,6 @@
-use mathlib.Core.Path.{_≡_, refl, sym, ap, ap₂, _∙_}
-use Prim.Native.Nat.{ℕ, _+_, _-_, _*_, _/_, _%_, _^_, _≤_, _<_}
-use mathlib.Core.Bool.{Bool, true, false}
+use mathlib.Core.Path.{_≡_, sym, _∙_}
+use Prim.Native.Nat.{_<_}
+use mathlib.Core.Bool.{true}
 use native.Mathlib.Omega.{arith}
 use borrow.Author.Tests.{not-true, not-false}
 use Rattle.layout.specs.Layout.{valid}
@@ -10,14 +10,6 @@ use Rattle.group.proofs.Laws.{united-invalid, united-source-invalid, un
 use borrow.Author.Needs.{needs}
 use Rattle.group.proofs.unite.Statement.{statement}
 use Rattle.group.proofs.unite.Tie as tie
-use Rattle.group.proofs.unite.Reads as reads
-use Rattle.group.proofs.unite.Lts as lts
-use Rattle.block.proofs.total.Reads as total-reads
-use Rattle.block.proofs.unite.Reads as unite-reads
-use Rattle.group.proofs.is_valid.Reads as is-valid-reads
-use Rattle.group.proofs.number_of.Reads as number-of-reads
-use Rattle.group.proofs.settled.Reads as settled-reads
-use Rattle.group.proofs.unchanged.Reads as unchanged-reads
 
 -- both groups are valid, their numbers those of their bytes, and the code's totals the groups'
 is-sane : (c : tie.Else1) → valid 3 (c .before .before .before .before .args .target .merge) ≡ true
@@ -43,61 +35,48 @@ module _ (c : tie.After-total2) where
   unfolding decode
   source-is = rw (← c .before .before .number-of2 .ensures) (c .total2 .ensures)
 
--- src/lib.rt:167:9
 is-valid-requires : tie.Need-is-valid-requires
 is-valid-requires c κs = search needs
 
--- src/lib.rt:168:9
 unchanged-requires : tie.Need-unchanged-requires
 unchanged-requires c κs = search needs
 
--- src/lib.rt:168:9
 returns : tie.Need-returns
 returns c = let a = c .before .before .before .before .before .args in
     c .unchanged .ensures ∙ sym (united-invalid (a .target) (a .source) (sym (c .before .before .is-valid .ensures) ∙ not-true _ (c .before .if1 .taken)))
 
--- src/lib.rt:170:9
 is-valid-requires-2 : tie.Need-is-valid-requires-2
 is-valid-requires-2 c κs = search needs
 
--- src/lib.rt:171:9
 unchanged-requires-2 : tie.Need-unchanged-requires-2
 unchanged-requires-2 c κs = search needs
 
--- src/lib.rt:171:9
 returns-2 : tie.Need-returns-2
 returns-2 c = let d = c .before in
     let a = d .before .before .before .before .before .before .args in
     c .unchanged2 .ensures
     ∙ sym (united-source-invalid (a .target) (a .source) (is-sane (d .before .before)) (sym (d .before .is-valid2 .ensures) ∙ not-true _ (d .if2 .taken)))
 
--- src/lib.rt:173:9
 number-of-requires : tie.Need-number-of-requires
 number-of-requires c κs = search needs
 
--- src/lib.rt:174:9
 number-of-requires-2 : tie.Need-number-of-requires-2
 number-of-requires-2 c κs = search needs
 
--- src/lib.rt:175:39
 total-requires : tie.Need-total-requires
 unfolding cap
 total-requires c κs = (omega arith, omega arith)
 
--- src/lib.rt:175:16
 sub-room : tie.Need-sub-room
 sub-room c = search needs
 
--- src/lib.rt:176:15
 total-requires-2 : tie.Need-total-requires-2
 unfolding cap
 total-requires-2 c κs = (omega arith, omega arith)
 
--- src/lib.rt:177:9
 unchanged-requires-3 : tie.Need-unchanged-requires-3
 unchanged-requires-3 c κs = search needs
 
--- src/lib.rt:177:9
 returns-3 : tie.Need-returns-3
 returns-3 c = let d = c .before .before in
     let e = d .before .before .before .before in
@@ -105,18 +84,15 @@ returns-3 c = let d = c .before .before in
     c .unchanged3 .ensures
     ∙ sym (united-full (a .target) (a .source) (word-in d) (source-in d) (is-sane (e .before .before)) (source-sane e) (omega (arith, total-is d, source-is d)))
 
--- src/lib.rt:179:13
 unite-requires : tie.Need-unite-requires
 unfolding cap
 unite-requires c κs = let d = c .before in
     let e = d .before .before .before .before in
     (omega arith, ((omega arith, is-sane (e .before .before)), ((omega arith, source-sane e), omega (arith, d .before .total .ensures, d .total2 .ensures))))
 
--- src/lib.rt:179:5
 settled-requires : tie.Need-settled-requires
 settled-requires c κs = search needs
 
--- src/lib.rt:162:1
 returns-4 : tie.Need-returns-4
 unfolding decode
 returns-4 c = let d = c .before .before .before in

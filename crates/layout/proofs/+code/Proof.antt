@@ -1,13 +1,12 @@
-use mathlib.Core.Path.{_≡_, refl, sym, ap, ap₂, _∙_}
-use Prim.Native.Nat.{_+_, _-_, _*_, _/_, _%_, _^_, _≤_}
-use mathlib.Core.Bool.{true, false}
+use mathlib.Core.Path.{_≡_, sym, _∙_}
+use Prim.Native.Nat.{_*_, _≤_, ℕ, _<_}
+use mathlib.Core.Bool.{false}
 use native.Mathlib.Nat.{mul-le-mul}
 use Rattle.layout.specs.Layout.{isMerged, layout}
-use Rattle.layout.specs.Code.{layouts as layouts-of, code as code-of}
+use Rattle.layout.specs.Code.{code as code-of}
 use Rattle.layout.proofs.Laws.{is-merged, above-slot, layout-apart}
 use Rattle.layout.proofs.Codes.{merged-last, with-bound}
 use native.Mathlib.Omega.{arith}
-use Prim.Native.Nat.{ℕ, _<_}
 use borrow.Fn.Kinds.{In, Out}
 use borrow.Fn.PlainCycle.{Measures, is, falls, and}
 use Rattle.layout.proofs.code.Reads as code
@@ -58,19 +57,15 @@ above c = above-slot (c .before .before .args .level) (c .before .before .args .
 product : {t : ℕ} (c : code-lts.After-layouts2 (K t) (code-at t) code.Post) → c .before .code .result * c .layouts2 .result ≤ 25 * 26
 product c = mul-le-mul {n₁ = c .before .code .result} {m₁ = c .layouts2 .result} {n₂ = 25} {m₂ = 26} (c .before .code .ensures .1) (c .layouts2 .ensures .1 .1)
 
--- src/lib.rt:128:8
 code-is-merged-requires : (t : ℕ) → code-lts.Need-is-merged-requires (K t) (code-at t) code.Post
 code-is-merged-requires t c κs = omega arith
 
--- src/lib.rt:129:16
 code-layouts-requires : (t : ℕ) → code-lts.Need-layouts-requires (K t) (code-at t) code.Post
 code-layouts-requires t c κs = omega arith
 
--- src/lib.rt:129:16
 code-sub-result : (t : ℕ) → code-lts.Need-sub-result (K t) (code-at t) code.Post
 code-sub-result t c = omega arith
 
--- src/lib.rt:129:9
 code-returns : (t : ℕ) → code-lts.Need-returns (K t) (code-at t) code.Post
 unfolding code-of
 code-returns t c = let a = c .before .before .before .args in
@@ -78,39 +73,30 @@ code-returns t c = let a = c .before .before .before .args in
     (rw (is-merged _ (sym (c .before .before .is-merged .ensures) ∙ c .before .if1 .taken), c .layouts .ensures .0)
     (omega (arith, merged-last (a .level))))
 
--- src/lib.rt:131:16
 code-sub-half : (t : ℕ) → code-lts.Need-sub-half (K t) (code-at t) code.Post
 code-sub-half t c = omega (arith, above c)
 
--- src/lib.rt:132:27
 code-low-requires : (t : ℕ) → code-lts.Need-low-requires (K t) (code-at t) code.Post
 code-low-requires t c κs = omega arith
 
--- src/lib.rt:132:9
 code-code-requires : (t : ℕ) → code-lts.Need-code-requires (K t) (code-at t) code.Post
 code-code-requires t c κs = (omega (arith, above (c .before)), omega arith)
 
--- src/lib.rt:133:12
 code-layouts-requires-2 : (t : ℕ) → code-lts.Need-layouts-requires-2 (K t) (code-at t) code.Post
 code-layouts-requires-2 t c κs = omega arith
 
--- src/lib.rt:133:5
 code-mul-result : (t : ℕ) → code-lts.Need-mul-result (K t) (code-at t) code.Post
 code-mul-result t c = omega (arith, product c)
 
--- src/lib.rt:133:39
 code-high-requires : (t : ℕ) → code-lts.Need-high-requires (K t) (code-at t) code.Post
 code-high-requires t c κs = omega arith
 
--- src/lib.rt:133:28
 code-code-requires-2 : (t : ℕ) → code-lts.Need-code-requires-2 (K t) (code-at t) code.Post
 code-code-requires-2 t c κs = (omega (arith, above (c .before .before .before .before)), omega arith)
 
--- src/lib.rt:133:5
 code-add-result : (t : ℕ) → code-lts.Need-add-result (K t) (code-at t) code.Post
 code-add-result t c = omega (arith, product (c .before .before))
 
--- src/lib.rt:123:1
 code-returns-2 : (t : ℕ) → code-lts.Need-returns-2 (K t) (code-at t) code.Post
 unfolding code-of
 code-returns-2 t c = let d = c .before .before .before .before .before in

@@ -1,7 +1,5 @@
-use mathlib.Core.Path.{_≡_, refl, sym, ap, _∙_}
-use Prim.Native.Nat.{_+_, _-_, _*_, _/_, _%_, _^_, _≤_, max}
-use mathlib.Core.Bool.{Bool, true, false}
-use Rattle.layout.specs.Layout.{bit, ones, layout, valid, widest}
+use mathlib.Core.Path.{sym, _∙_}
+use Rattle.layout.specs.Layout.{ones, valid}
 use Rattle.layout.proofs.Laws.{valid-all, valid-more}
 use native.Mathlib.Omega.{arith}
 use Prim.Native.Nat.{ℕ, _<_}
@@ -42,41 +40,32 @@ K t = (
   high-reads.Learnt,
 )
 
--- src/lib.rt:67:9
 is-valid-returns : (t : ℕ) → is-valid-lts.Need-returns (K t) (is-valid-at t) is-valid.Post
 unfolding valid
 is-valid-returns t c = rw (c .if1 .taken)
 
--- src/lib.rt:69:17
 is-valid-ones-requires : (t : ℕ) → is-valid-lts.Need-ones-requires (K t) (is-valid-at t) is-valid.Post
 is-valid-ones-requires t c κs = omega arith
 
--- src/lib.rt:70:9
 is-valid-returns-2 : (t : ℕ) → is-valid-lts.Need-returns-2 (K t) (is-valid-at t) is-valid.Post
 is-valid-returns-2 t c = let a = c .before .before .before .args in
     sym (valid-all (a .level) (a .merge) (c .if2 .taken ∙ c .before .ones .ensures))
 
--- src/lib.rt:72:16
 is-valid-sub-half : (t : ℕ) → is-valid-lts.Need-sub-half (K t) (is-valid-at t) is-valid.Post
 is-valid-sub-half t c = omega arith
 
--- src/lib.rt:73:23
 is-valid-low-requires : (t : ℕ) → is-valid-lts.Need-low-requires (K t) (is-valid-at t) is-valid.Post
 is-valid-low-requires t c κs = omega arith
 
--- src/lib.rt:73:8
 is-valid-is-valid-requires : (t : ℕ) → is-valid-lts.Need-is-valid-requires (K t) (is-valid-at t) is-valid.Post
 is-valid-is-valid-requires t c κs = (omega arith, omega arith)
 
--- src/lib.rt:74:31
 is-valid-high-requires : (t : ℕ) → is-valid-lts.Need-high-requires (K t) (is-valid-at t) is-valid.Post
 is-valid-high-requires t c κs = omega arith
 
--- src/lib.rt:74:9
 is-valid-is-valid-requires-2 : (t : ℕ) → is-valid-lts.Need-is-valid-requires-2 (K t) (is-valid-at t) is-valid.Post
 is-valid-is-valid-requires-2 t c κs = (omega arith, omega arith)
 
--- src/lib.rt:74:9
 is-valid-returns-3 : (t : ℕ) → is-valid-lts.Need-returns-3 (K t) (is-valid-at t) is-valid.Post
 is-valid-returns-3 t c = let d = c .before .before .before .before .before in
     let a = d .before .before .before .args in
@@ -90,7 +79,6 @@ is-valid-returns-3 t c = let d = c .before .before .before .before .before in
     )
     (sym (c .is-valid2 .ensures)))
 
--- src/lib.rt:62:1
 is-valid-returns-4 : (t : ℕ) → is-valid-lts.Need-returns-4 (K t) (is-valid-at t) is-valid.Post
 is-valid-returns-4 t c = let d = c .before .before .before in
     let a = d .before .before .before .args in

@@ -1,10 +1,9 @@
-use mathlib.Core.Path.{_≡_, refl, sym, ap, _∙_}
-use Prim.Native.Nat.{_+_, _-_, _*_, _/_, _%_, _^_, _≤_, max}
+use mathlib.Core.Path.{sym, ap, _∙_}
+use Prim.Native.Nat.{_+_, _-_, _*_, _≤_, ℕ, _<_}
 use native.Mathlib.Nat.{mul-le-mul}
 use Rattle.layout.specs.Code.{layouts}
 use Rattle.layout.proofs.Codes.{layouts-more, layouts-below-three}
 use native.Mathlib.Omega.{arith}
-use Prim.Native.Nat.{ℕ, _<_}
 use borrow.Fn.Kinds.{In, Out}
 use borrow.Fn.PlainCycle.{Measures, is, falls, and}
 use Rattle.layout.proofs.layouts.Reads as layouts
@@ -36,35 +35,29 @@ square c =
     let few : n ≤ 5 = rw (c .layouts .ensures .0) (layouts-below-three (c .before .before .args .level - 1) (omega arith)) in
     mul-le-mul {n₁ = n} {m₁ = n} {n₂ = 5} {m₂ = 5} few few
 
--- src/lib.rt:106:9
 layouts-returns :
     (t : ℕ) → layouts-lts.Need-returns (layouts-below t, layouts.Post) (layouts-at t) layouts.Post
 unfolding layouts
 layouts-returns t c = (rw (c .if1 .taken), (omega arith, omega arith))
 
--- src/lib.rt:108:21
 layouts-sub-layouts :
     (t : ℕ) →
     layouts-lts.Need-sub-layouts (layouts-below t, layouts.Post) (layouts-at t) layouts.Post
 layouts-sub-layouts t c = omega arith
 
--- src/lib.rt:108:9
 layouts-layouts-requires : (t : ℕ) → layouts-lts.Need-layouts-requires (K t) (layouts-at t) layouts.Post
 layouts-layouts-requires t c κs = (omega arith, omega arith)
 
--- src/lib.rt:109:5
 layouts-mul-result :
     (t : ℕ) →
     layouts-lts.Need-mul-result (layouts-below t, layouts.Post) (layouts-at t) layouts.Post
 layouts-mul-result t c = omega (arith, square c)
 
--- src/lib.rt:109:5
 layouts-add-result :
     (t : ℕ) →
     layouts-lts.Need-add-result (layouts-below t, layouts.Post) (layouts-at t) layouts.Post
 layouts-add-result t c = omega (arith, square c)
 
--- src/lib.rt:100:1
 layouts-returns-2 :
     (t : ℕ) →
     layouts-lts.Need-returns-2 (layouts-below t, layouts.Post) (layouts-at t) layouts.Post

@@ -1,12 +1,11 @@
-use mathlib.Core.Path.{_≡_, refl, sym, ap, ap₂, _∙_}
-use Prim.Native.Nat.{_+_, _-_, _*_, _/_, _%_, _^_, _≤_, max}
+use mathlib.Core.Path.{_≡_, sym, ap, _∙_}
+use Prim.Native.Nat.{_-_, _*_, _/_, _%_, ℕ, _<_}
 use native.Mathlib.Nat.{mul-le-mul}
 use Rattle.layout.specs.Layout.{marks, ones}
 use Rattle.layout.specs.Code.{layouts, uncode}
 use Rattle.layout.proofs.Laws.{marks-in}
 use Rattle.layout.proofs.Codes.{uncode-merged, uncode-apart, halves-lt}
 use native.Mathlib.Omega.{arith}
-use Prim.Native.Nat.{ℕ, _<_}
 use borrow.Fn.Kinds.{In, Out}
 use borrow.Fn.PlainCycle.{Measures, is, falls, and}
 use Rattle.layout.proofs.unpack.Reads as unpack
@@ -55,28 +54,22 @@ parts c =
     let a = c .before .before .before .args in
     rw (c .before .layouts .ensures .0) (halves-lt (a .level) (a .code) (omega arith) (c .before .before .before .pre .1 .1) (not-merged c))
 
--- src/lib.rt:135:9
 unpack-returns : (t : ℕ) → unpack-lts.Need-returns (K t) (unpack-at t) unpack.Post
 unfolding marks uncode ones
 unpack-returns t c = sym (ap (λ (n : ℕ). marks (uncode n (c .before .args .code))) (c .if1 .taken))
 
--- src/lib.rt:137:16
 unpack-sub-half : (t : ℕ) → unpack-lts.Need-sub-half (K t) (unpack-at t) unpack.Post
 unpack-sub-half t c = omega arith
 
--- src/lib.rt:138:9
 unpack-layouts-requires : (t : ℕ) → unpack-lts.Need-layouts-requires (K t) (unpack-at t) unpack.Post
 unpack-layouts-requires t c κs = omega arith
 
--- src/lib.rt:139:16
 unpack-mul-if2 : (t : ℕ) → unpack-lts.Need-mul-if2 (K t) (unpack-at t) unpack.Post
 unpack-mul-if2 t c = let n = c .layouts in omega (arith, mul-le-mul {n₁ = n .result} {m₁ = n .result} {n₂ = 26} {m₂ = 26} (n .ensures .1 .1) (n .ensures .1 .1))
 
--- src/lib.rt:140:9
 unpack-ones-requires : (t : ℕ) → unpack-lts.Need-ones-requires (K t) (unpack-at t) unpack.Post
 unpack-ones-requires t c κs = omega arith
 
--- src/lib.rt:140:9
 unpack-returns-2 : (t : ℕ) → unpack-lts.Need-returns-2 (K t) (unpack-at t) unpack.Post
 unfolding marks
 unpack-returns-2 t c = let d = c .before .before in
@@ -84,27 +77,23 @@ unpack-returns-2 t c = let d = c .before .before in
     rw (uncode-merged (a .level) (a .code) (omega arith) (c .before .if2 .taken ∙ ap (λ (n : ℕ). n * n) (d .layouts .ensures .0)))
     (c .ones .ensures)
 
--- src/lib.rt:142:29
 unpack-div-unpack : (t : ℕ) → unpack-lts.Need-div-unpack (K t) (unpack-at t) unpack.Post
 unpack-div-unpack t c = omega arith
 
--- src/lib.rt:142:9
 unpack-unpack-requires : (t : ℕ) → unpack-lts.Need-unpack-requires (K t) (unpack-at t) unpack.Post
 unpack-unpack-requires t c κs = (omega arith, (omega arith, parts c .0))
 
--- src/lib.rt:143:37
 unpack-rem-unpack : (t : ℕ) → unpack-lts.Need-rem-unpack (K t) (unpack-at t) unpack.Post
 unpack-rem-unpack t c = omega arith
 
--- src/lib.rt:143:24
 unpack-unpack-requires-2 : (t : ℕ) → unpack-lts.Need-unpack-requires-2 (K t) (unpack-at t) unpack.Post
 unpack-unpack-requires-2 t c κs = (omega arith, (omega arith, parts (c .before) .1))
 
--- src/lib.rt:143:5
 unpack-beside-requires : (t : ℕ) → unpack-lts.Need-beside-requires (K t) (unpack-at t) unpack.Post
-unpack-beside-requires t c κs = (omega arith, (rw (c .before .unpack .ensures) (marks-in _), rw (c .unpack2 .ensures) (marks-in _)))
+unpack-beside-requires t c κs = let left = marks-in (uncode (c .before .before .before .before .before .args .level - 1) (c .before .before .before .before .before .args .code / c .before .before .before .layouts .result)) in
+    let right = marks-in (uncode (c .before .before .before .before .before .args .level - 1) (c .before .before .before .before .before .args .code % c .before .before .before .layouts .result)) in
+    (omega arith, (omega (arith, left, right, c .before .unpack .ensures, c .unpack2 .ensures), omega (arith, left, right, c .before .unpack .ensures, c .unpack2 .ensures)))
 
--- src/lib.rt:130:1
 unpack-returns-3 : (t : ℕ) → unpack-lts.Need-returns-3 (K t) (unpack-at t) unpack.Post
 unpack-returns-3 t c = let d = c .before .before .before in
     let a = d .before .before .before .args in

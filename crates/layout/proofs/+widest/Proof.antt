@@ -1,8 +1,6 @@
-use mathlib.Core.Bool.{true, false}
-use Rattle.layout.specs.Layout.{isMerged}
-use mathlib.Core.Path.{_≡_, refl, sym, ap, ap₂, _∙_}
-use Prim.Native.Nat.{_+_, _-_, _*_, _/_, _%_, _^_, _≤_}
-use Rattle.layout.specs.Layout.{layout, widest}
+use mathlib.Core.Bool.{false}
+use Rattle.layout.specs.Layout.{isMerged, layout, widest}
+use mathlib.Core.Path.{_≡_, sym, _∙_}
 use Rattle.layout.proofs.Laws.{is-merged, above-slot, layout-apart}
 use native.Mathlib.Omega.{arith}
 use Prim.Native.Nat.{ℕ, _<_}
@@ -53,40 +51,31 @@ is-apart c = sym (c .before .is-merged .ensures) ∙ c .if1 .left
 above : {t : ℕ} (c : widest-lts.Else1 (K t) (widest-at t) widest.Post) → 0 < c .before .before .args .level
 above c = above-slot (c .before .before .args .level) (c .before .before .args .merge) (is-apart c)
 
--- src/lib.rt:101:8
 widest-is-merged-requires : (t : ℕ) → widest-lts.Need-is-merged-requires (K t) (widest-at t) widest.Post
 widest-is-merged-requires t c κs = omega arith
 
--- src/lib.rt:102:9
 widest-returns : (t : ℕ) → widest-lts.Need-returns (K t) (widest-at t) widest.Post
 unfolding widest
 widest-returns t c = rw (is-merged _ (sym (c .before .is-merged .ensures) ∙ c .if1 .taken))
 
--- src/lib.rt:104:16
 widest-sub-half : (t : ℕ) → widest-lts.Need-sub-half (K t) (widest-at t) widest.Post
 widest-sub-half t c = omega (arith, above c)
 
--- src/lib.rt:105:29
 widest-low-requires : (t : ℕ) → widest-lts.Need-low-requires (K t) (widest-at t) widest.Post
 widest-low-requires t c κs = omega arith
 
--- src/lib.rt:105:9
 widest-widest-requires : (t : ℕ) → widest-lts.Need-widest-requires (K t) (widest-at t) widest.Post
 widest-widest-requires t c κs = (omega (arith, above (c .before)), omega arith)
 
--- src/lib.rt:106:31
 widest-high-requires : (t : ℕ) → widest-lts.Need-high-requires (K t) (widest-at t) widest.Post
 widest-high-requires t c κs = omega arith
 
--- src/lib.rt:106:18
 widest-widest-requires-2 : (t : ℕ) → widest-lts.Need-widest-requires-2 (K t) (widest-at t) widest.Post
 widest-widest-requires-2 t c κs = (omega (arith, above (c .before .before .before)), omega arith)
 
--- src/lib.rt:106:5
 widest-larger-requires : (t : ℕ) → widest-lts.Need-larger-requires (K t) (widest-at t) widest.Post
 widest-larger-requires t c κs = omega arith
 
--- src/lib.rt:97:1
 widest-returns-2 : (t : ℕ) → widest-lts.Need-returns-2 (K t) (widest-at t) widest.Post
 unfolding widest
 widest-returns-2 t c = let d = c .before .before .before .before .before in

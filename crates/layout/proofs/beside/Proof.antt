@@ -1,33 +1,26 @@
-use mathlib.Core.Path.{_≡_, refl, sym, ap, _∙_}
-use Prim.Native.Nat.{ℕ, _+_, _-_, _*_, _/_, _%_, _^_, _≤_, _<_}
+use mathlib.Core.Path.{_≡_, ap}
+use Prim.Native.Nat.{ℕ, _*_, _^_, _≤_, _<_}
 use native.Mathlib.Omega.{arith}
 use lib.Bits.{or-shifted}
-use native.Mathlib.Nat.{mod-eq-of-lt}
-use lib.Pow.{pow-mono, pow-add}
-use native.Mathlib.Nat.{mul-le-mul}
+use native.Mathlib.Nat.{mod-eq-of-lt, mul-le-mul}
+use lib.Pow.{pow-mono}
 use borrow.Author.Needs.{needs}
 use Rattle.layout.proofs.beside.Statement.{statement}
 use Rattle.layout.proofs.beside.Tie as tie
-use Rattle.layout.proofs.beside.Reads as reads
-use Rattle.layout.proofs.beside.Lts as lts
-use Rattle.layout.proofs.slots.Reads as slots-reads
 
--- src/lib.rt:58:15
 slots-requires : tie.Need-slots-requires
 slots-requires c κs = search needs
 
--- src/lib.rt:58:6
 shl-result : tie.Need-shl-result
 shl-result c = search needs
 
--- src/lib.rt:54:1
 returns : tie.Need-returns
 returns c = let a = c .before .args in
     let p = 2 ^ (2 ^ a .half) in
     let e : 2 ^ (c .slots .result) ≡ p = ap (λ (k : ℕ). 2 ^ k) (c .slots .ensures .0) in
     let small : p ≤ 16 = rw (← e) (pow-mono {i = c .slots .result} {j = 4} (omega arith)) in
     let fits : a .right * p < 256 =
-        omega (arith, mul-le-mul {n₁ = a .right} {m₁ = p} {n₂ = 15} {m₂ = 16} (omega arith) small) in
+    omega (arith, mul-le-mul {n₁ = a .right} {m₁ = p} {n₂ = 15} {m₂ = 16} (omega arith) small) in
     rw (e, mod-eq-of-lt {n = a .right * p} {m = 256} fits) (or-shifted (a .right) (2 ^ a .half) (a .left) (c .before .pre .1 .0))
 
 pub beside-spec : {M : Type 1} → statement M

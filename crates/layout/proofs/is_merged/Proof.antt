@@ -1,29 +1,22 @@
 use Prim.Native.Nat.{ℕ}
-use mathlib.Core.Path.{_≡_, refl, sym, ap, ap₂, _∙_}
+use mathlib.Core.Path.{sym, ap, _∙_}
 use native.Mathlib.Omega.{arith}
 use Rattle.layout.specs.Layout.{isMerged, layout}
 use Rattle.layout.proofs.Laws.{own-bit}
 use borrow.Author.Needs.{needs}
 use Rattle.layout.proofs.is_merged.Statement.{statement}
 use Rattle.layout.proofs.is_merged.Tie as tie
-use Rattle.layout.proofs.is_merged.Reads as reads
-use Rattle.layout.proofs.is_merged.Lts as lts
-use Rattle.layout.proofs.own_bit.Reads as own-bit-reads
 
--- src/lib.rt:34:9
 returns : tie.Need-returns
 unfolding isMerged layout
 returns c = sym (ap (λ (n : ℕ). isMerged (layout n (c .before .args .merge))) (c .if1 .taken))
 
--- src/lib.rt:36:13
 sub-own-bit : tie.Need-sub-own-bit
 sub-own-bit c = search needs
 
--- src/lib.rt:36:5
 own-bit-requires : tie.Need-own-bit-requires
 own-bit-requires c κs = search needs
 
--- src/lib.rt:29:1
 returns-2 : tie.Need-returns-2
 returns-2 c = c .own-bit .ensures ∙ sym (own-bit (c .before .before .args .level) (c .before .before .args .merge) (omega arith))
 

@@ -1,5 +1,4 @@
-use mathlib.Core.Path.{_≡_, refl, sym, ap, _∙_}
-use Prim.Native.Nat.{ℕ, _+_, _-_, _*_, _/_, _%_, _^_, _≤_, _<_}
+use Prim.Native.Nat.{_-_, _^_}
 use native.Mathlib.Omega.{arith}
 use Rattle.layout.proofs.Laws.{one-shl}
 use lib.Pow.{pow-mono, pow-pos}
@@ -7,32 +6,24 @@ use Rattle.layout.specs.Layout.{ones}
 use borrow.Author.Needs.{needs}
 use Rattle.layout.proofs.ones.Statement.{statement}
 use Rattle.layout.proofs.ones.Tie as tie
-use Rattle.layout.proofs.ones.Reads as reads
-use Rattle.layout.proofs.ones.Lts as lts
 
--- src/lib.rt:33:26
 cast-places : tie.Need-cast-places
 cast-places c = search needs
 
--- src/lib.rt:33:19
 shl-places : tie.Need-shl-places
 shl-places c = search needs
 
--- src/lib.rt:33:18
 sub-places : tie.Need-sub-places
 sub-places c = rw (one-shl (c .args .level) (omega arith)) (pow-pos (c .args .level))
 
--- src/lib.rt:34:6
 shl-result : tie.Need-shl-result
 shl-result c = let n = c .args .level in
     rw (one-shl n (omega arith)) (omega (arith, pow-mono {i = n} {j = 3} (c .pre), pow-pos n))
 
--- src/lib.rt:34:5
 sub-result : tie.Need-sub-result
 sub-result c = let n = c .args .level in
     rw (one-shl n (omega arith), one-shl (2 ^ n - 1) (omega (arith, pow-mono {i = n} {j = 3} (c .pre), pow-pos n))) (pow-pos (2 ^ n - 1))
 
--- src/lib.rt:29:1
 returns : tie.Need-returns
 unfolding ones
 returns c = let n = c .args .level in

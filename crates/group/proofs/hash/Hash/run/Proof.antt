@@ -1,15 +1,12 @@
-use mathlib.Core.Path.{_≡_, refl, sym, ap, ap₂, _∙_}
-use Prim.Native.Nat.{ℕ, _+_, _-_, _*_, _/_, _%_, _^_, _≤_, _<_}
+use mathlib.Core.Path.{_≡_, refl, sym, _∙_}
+use Prim.Native.Nat.{_-_, _≤_}
 use native.Mathlib.Omega.{arith}
 use borrow.Author.Needs.{needs}
 use lib.ListN.{length, drop}
-use Rattle.group.specs.Hash.{fnv, fnvStep}
+use Rattle.group.specs.Hash.{fnv}
 use Rattle.group.proofs.Hashing.{fnv-more, fnv-end}
 use Rattle.group.proofs.hash.Hash.run.Statement.{statement}
 use Rattle.group.proofs.hash.Hash.run.Tie as tie
-use Rattle.group.proofs.hash.Hash.run.Reads as reads
-use Rattle.group.proofs.hash.Hash.run.Lts as lts
-use Rattle.group.proofs.hash.Hash.step.Reads as step-reads
 
 abbrev Inv-loop : tie.InvT-loop
 Inv-loop bytes h₀ i₀ i-end h i = (i ≤ i-end) × (i-end ≡ length bytes) × (fnv (h .state) (drop i bytes) ≡ fnv (h₀ .state) bytes)
@@ -17,33 +14,26 @@ Inv-loop bytes h₀ i₀ i-end h i = (i ≤ i-end) × (i-end ≡ length bytes) �
 abbrev μ-loop : tie.MeasureT-loop
 μ-loop bytes h₀ i₀ i-end h i = i-end - i
 
--- src/hash.rt:33:9
 loop-holds : tie.Need-loop-holds Inv-loop μ-loop
 loop-holds c = (omega arith, refl, refl)
 
--- src/hash.rt:34:24
 shared-slice-read-step : tie.Need-shared-slice-read-step Inv-loop μ-loop
 shared-slice-read-step c = search needs
 
--- src/hash.rt:34:13
 step-requires : tie.Need-step-requires Inv-loop μ-loop
 step-requires c κs = search needs
 
--- src/hash.rt:33:13
 add-i : tie.Need-add-i Inv-loop μ-loop
 add-i c = search needs
 
--- src/hash.rt:33:9
 loop-less : tie.Need-loop-less Inv-loop μ-loop
 loop-less c = search needs
 
--- src/hash.rt:33:9
 loop-again : tie.Need-loop-again Inv-loop μ-loop
 loop-again c = let l = c .before .before .before .loop in
     let s = c .before .before .before .before .before .args .bytes .now in
     (omega arith, l .inv .1, rw (c .step .ensures) (sym (fnv-more (l .h .state) s (l .i) (omega arith)) ∙ l .inv .2))
 
--- src/hash.rt:29:5
 returns : tie.Need-returns Inv-loop μ-loop
 returns c = let l = c .before .loop in
     sym (fnv-end (l .h .state) _ (l .i) (omega arith)) ∙ l .inv .2

@@ -1,0 +1,29 @@
+-- A meter's depth d and width w, and the length of its memory. Document 01, 'Rows, groups and blocks'.
+use Prim.Native.Nat.{ℕ, zero, suc, _-_, _*_, _/_}
+use mathlib.Core.Bool.{Bool, false, _&&_, _||_}
+use lib.Dec.{leb, eqb}
+
+-- rows: 1 to 8
+unfoldable pub validDepth : ℕ → Bool
+validDepth d = leb 1 d && leb d 8
+
+-- one of n powers of two, the first of which is p
+unfoldable pub oneOfPowers : ℕ → ℕ → ℕ → Bool
+oneOfPowers zero p w = false
+oneOfPowers (suc n) p w = eqb w p || oneOfPowers n (p * 2) w
+
+-- The logarithm of the largest width, 65,536. The smallest width is 32, 2 ^ 5.
+abbrev pub largestLog : ℕ
+largestLog = 16
+
+-- slots of a row: a power of two from 32 to the largest width
+unfoldable pub validWidth : ℕ → Bool
+validWidth w = oneOfPowers (largestLog - 4) 32 w
+
+-- the bytes of a row: w count bytes, then w / 8 merge bytes
+unfoldable pub stride : ℕ → ℕ
+stride w = w * 9 / 8
+
+-- the bytes of a meter
+unfoldable pub size : ℕ → ℕ → ℕ
+size d w = d * stride w

@@ -1,0 +1,38 @@
+-- Where rows and groups lie in a meter's memory. Document 01, 'Rows, groups and blocks' and 'Where a key lands'.
+use Prim.Native.Nat.{ℕ, zero, suc, _+_, _*_, min, max}
+use mathlib.Core.List.{List, [], _∷_, _++_}
+use lib.ListN.{getD, take, drop, set}
+use Rattle.group.specs.declared.Group.{Group}
+use Rattle.group.specs.Hash.{rowHash, slotOf}
+
+-- What f makes of each of n rows of `stride` bytes, the first of which is row r. Bytes after the last row stay.
+unfoldable pub mapRows : (ℕ → List ℕ → List ℕ) → ℕ → ℕ → ℕ → List ℕ → List ℕ
+mapRows f stride zero r memory = memory
+mapRows f stride (suc n) r memory = f r (take stride memory) ++ mapRows f stride n (r + 1) (drop stride memory)
+
+-- what f reads of each of those rows
+unfoldable pub ofRows : (ℕ → List ℕ → ℕ) → ℕ → ℕ → ℕ → List ℕ → List ℕ
+ofRows f stride zero r memory = []
+ofRows f stride (suc n) r memory = f r (take stride memory) ∷ ofRows f stride n (r + 1) (drop stride memory)
+
+-- Group g of a row of w slots: count bytes from 8 × g on, and the merge byte at w + g.
+unfoldable pub groupAt : ℕ → List ℕ → ℕ → Group
+groupAt w row g = record { counts = take 8 (drop (8 * g) row); merge = getD row (w + g) 0 }
+
+-- the row with another group g
+unfoldable pub withGroup : ℕ → List ℕ → ℕ → Group → List ℕ
+withGroup w row g x = set (take (8 * g) row ++ x .counts ++ drop (8 * g + 8) row) (w + g) (x .merge)
+
+-- the slot that a key lands in, in a row
+unfoldable pub keySlot : ℕ → ℕ → List ℕ → ℕ
+keySlot w r key = slotOf (rowHash r key) w
+
+-- the least and the largest of a list
+unfoldable pub least : List ℕ → ℕ
+least [] = 0
+least (x ∷ []) = x
+least (x ∷ y ∷ ys) = min x (least (y ∷ ys))
+
+unfoldable pub largest : List ℕ → ℕ
+largest [] = 0
+largest (x ∷ xs) = max x (largest xs)

@@ -1,0 +1,1 @@
+// A meter in lent memory.
