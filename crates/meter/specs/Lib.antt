@@ -1,4 +1,1 @@
-pub mod Geometry
-pub mod Order
-pub mod Rows
 pub mod Meter

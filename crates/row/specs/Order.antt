@@ -3,10 +3,9 @@ use Prim.Native.Nat.{ℕ, zero, suc, min}
 use mathlib.Core.Bool.{Bool, cond, _&&_}
 use mathlib.Core.List.{List, [], _∷_}
 use lib.Dec.{leb, eqb}
-use lib.ListN.{length}
 use Rattle.group.specs.declared.Answer.{Answer}
 use Rattle.group.specs.Status.{accepted, rejected}
-use Rattle.meter.specs.Geometry.{validDepth, validWidth, size}
+use Rattle.row.specs.Geometry.{validDepth, validWidth, size}
 
 -- a line's number, unless what it asks for holds
 abbrev pub unless : Bool → ℕ → ℕ
@@ -35,19 +34,26 @@ badDepth d = unless (validDepth d) 1
 abbrev pub badWidth : ℕ → ℕ
 badWidth w = unless (validWidth w) 2
 
-abbrev pub badLength : ℕ → ℕ → List ℕ → ℕ
-badLength d w memory = unless (eqb (length memory) (size d w)) 3
+abbrev pub badLength : ℕ → ℕ → ℕ → ℕ
+badLength d w bytes = unless (eqb bytes (size d w)) 3
+
+abbrev pub badShape : ℕ → ℕ → ℕ → ℕ
+badShape d w bytes = firstOf (badDepth d ∷ badWidth w ∷ badLength d w bytes ∷ [])
 
 -- line 4: a key is 1 to 64 bytes
-abbrev pub badKey : List ℕ → ℕ
-badKey key = unless (leb 1 (length key) && leb (length key) 64) 4
+abbrev pub badKey : ℕ → ℕ
+badKey bytes = unless (leb 1 bytes && leb bytes 64) 4
+
+-- an answer by its status: accepted with a value, or rejected
+unfoldable pub answerOf : ℕ → ℕ → Answer
+answerOf zero value = accepted value
+answerOf (suc s) value = rejected (suc s)
 
 -- what a call answers and leaves in the memory it may write
 pub record Done : Type 0 where
   pub answer : Answer
   pub memory : List ℕ
 
--- accepted with a value and a new memory, or rejected with the memory as it was
+-- a rejected call leaves the memory as it was
 unfoldable pub finish : ℕ → ℕ → List ℕ → List ℕ → Done
-finish zero value after before = record { answer = accepted value; memory = after }
-finish (suc s) value after before = record { answer = rejected (suc s); memory = before }
+finish status value after before = record { answer = answerOf status value; memory = cond (eqb status 0) after before }

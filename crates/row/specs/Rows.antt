@@ -3,7 +3,6 @@ use Prim.Native.Nat.{ℕ, zero, suc, _+_, _*_, min, max}
 use mathlib.Core.List.{List, [], _∷_, _++_}
 use lib.ListN.{getD, take, drop, set}
 use Rattle.group.specs.declared.Group.{Group}
-use Rattle.group.specs.Hash.{rowHash, slotOf}
 
 -- What f makes of each of n rows of `stride` bytes, the first of which is row r. Bytes after the last row stay.
 unfoldable pub mapRows : (ℕ → List ℕ → List ℕ) → ℕ → ℕ → ℕ → List ℕ → List ℕ
@@ -23,9 +22,10 @@ groupAt w row g = record { counts = take 8 (drop (8 * g) row); merge = getD row 
 unfoldable pub withGroup : ℕ → List ℕ → ℕ → Group → List ℕ
 withGroup w row g x = set (take (8 * g) row ++ x .counts ++ drop (8 * g + 8) row) (w + g) (x .merge)
 
--- the slot that a key lands in, in a row
-unfoldable pub keySlot : ℕ → ℕ → List ℕ → ℕ
-keySlot w r key = slotOf (rowHash r key) w
+-- What f gives for each of n groups of a row, the first of which is group g.
+unfoldable pub ofGroups : (ℕ → ℕ) → ℕ → ℕ → List ℕ
+ofGroups f zero g = []
+ofGroups f (suc n) g = f g ∷ ofGroups f n (g + 1)
 
 -- the least and the largest of a list
 unfoldable pub least : List ℕ → ℕ

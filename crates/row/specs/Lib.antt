@@ -1,0 +1,4 @@
+pub mod Geometry
+pub mod Order
+pub mod Rows
+pub mod Row
