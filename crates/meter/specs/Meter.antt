@@ -5,43 +5,59 @@ use lib.ListN.{length, take, drop, replicate}
 use Rattle.group.specs.declared.Answer.{Answer}
 use Rattle.group.specs.Hash.{basis}
 use Rattle.row.specs.Geometry.{stride}
-use Rattle.row.specs.Order.{firstOf, earliest, badDepth, badWidth, badLength, badKey, answerOf, Done, finish}
+use Rattle.row.specs.Order.{firstOf, earliest, badDepth, badWidth, badLength, badShape, badKey, answerOf, Done, finish}
 use Rattle.row.specs.Rows.{mapRows, ofRows, least, largest}
 use Rattle.row.specs.Row.{updateStatus, updateRow, readRow, widestStatus, widestRow, uniteStatus, uniteRow}
 
 -- Clearing reads nothing and sets every byte to 0.
 unfoldable pub cleared : ℕ → ℕ → List ℕ → Done
-cleared d w memory = finish (firstOf (badDepth d ∷ badWidth w ∷ badLength d w (length memory) ∷ [])) 0 (replicate (length memory) 0) memory
+cleared d w memory = finish (badShape d w (length memory)) 0 (replicate (length memory) 0) memory
+
+-- lines 1 to 4, of a call with a key
+unfoldable pub badCall : ℕ → ℕ → List ℕ → List ℕ → ℕ
+badCall d w memory key = firstOf (badDepth d ∷ badWidth w ∷ badLength d w (length memory) ∷ badKey (length key) ∷ [])
 
 -- An update adds an amount to the key's counter in each row.
 unfoldable pub updated : ℕ → ℕ → List ℕ → List ℕ → ℕ → Done
 updated d w memory key amount =
-    finish
-    (firstOf (badDepth d ∷ badWidth w ∷ badLength d w (length memory) ∷ badKey (length key) ∷ earliest (ofRows (updateStatus basis w key amount) (stride w) d 0 memory) ∷ []))
+    finish (firstOf (badCall d w memory key ∷ earliest (ofRows (updateStatus basis w key amount) (stride w) d 0 memory) ∷ []))
     0 (mapRows (updateRow basis w key amount) (stride w) d 0 memory) memory
 
 -- An estimate is the least value of the key's counters.
+unfoldable pub readStatus : ℕ → List ℕ → ℕ → List ℕ → ℕ
+readStatus w key r row = readRow basis w key r row .status
+
+unfoldable pub readValue : ℕ → List ℕ → ℕ → List ℕ → ℕ
+readValue w key r row = readRow basis w key r row .value
+
 unfoldable pub estimated : ℕ → ℕ → List ℕ → List ℕ → Answer
 estimated d w memory key =
-    answerOf
-    (firstOf (badDepth d ∷ badWidth w ∷ badLength d w (length memory) ∷ badKey (length key) ∷ earliest (ofRows (λ r row. readRow basis w key r row .status) (stride w) d 0 memory) ∷ []))
-    (least (ofRows (λ r row. readRow basis w key r row .value) (stride w) d 0 memory))
+    answerOf (firstOf (badCall d w memory key ∷ earliest (ofRows (readStatus w key) (stride w) d 0 memory) ∷ []))
+    (least (ofRows (readValue w key) (stride w) d 0 memory))
 
 -- The widest level is the largest level of any counter in the meter.
+abbrev pub rowStatus : ℕ → ℕ → List ℕ → ℕ
+rowStatus w r row = widestStatus w row
+
+abbrev pub rowLevel : ℕ → ℕ → List ℕ → ℕ
+rowLevel w r row = widestRow w row
+
 unfoldable pub widest : ℕ → ℕ → List ℕ → Answer
 widest d w memory =
-    answerOf
-    (firstOf (badDepth d ∷ badWidth w ∷ badLength d w (length memory) ∷ earliest (ofRows (λ r row. widestStatus w row) (stride w) d 0 memory) ∷ []))
-    (largest (ofRows (λ r row. widestRow w row) (stride w) d 0 memory))
+    answerOf (firstOf (badShape d w (length memory) ∷ earliest (ofRows (rowStatus w) (stride w) d 0 memory) ∷ []))
+    (largest (ofRows (rowLevel w) (stride w) d 0 memory))
 
--- row r of a memory
+-- A union adds a source meter into a target meter, row by row. The source is only read.
 unfoldable pub rowOf : ℕ → List ℕ → ℕ → List ℕ
 rowOf w memory r = take (stride w) (drop (r * stride w) memory)
 
--- A union adds a source meter into a target meter, row by row. The source is only read.
+unfoldable pub sourceStatus : ℕ → List ℕ → ℕ → List ℕ → ℕ
+sourceStatus w source r row = uniteStatus w (rowOf w source r) row
+
+unfoldable pub sourceAdded : ℕ → List ℕ → ℕ → List ℕ → List ℕ
+sourceAdded w source r row = uniteRow w (rowOf w source r) row
+
 unfoldable pub united : ℕ → ℕ → List ℕ → List ℕ → Done
 united d w memory source =
-    finish
-    (firstOf (badDepth d ∷ badWidth w ∷ badLength d w (length memory) ∷ badLength d w (length source)
-    ∷ earliest (ofRows (λ r row. uniteStatus w (rowOf w source r) row) (stride w) d 0 memory) ∷ []))
-    0 (mapRows (λ r row. uniteRow w (rowOf w source r) row) (stride w) d 0 memory) memory
+    finish (firstOf (badShape d w (length memory) ∷ badLength d w (length source) ∷ earliest (ofRows (sourceStatus w source) (stride w) d 0 memory) ∷ []))
+    0 (mapRows (sourceAdded w source) (stride w) d 0 memory) memory

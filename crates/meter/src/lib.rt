@@ -1,1 +1,227 @@
-// A meter in lent memory.
+// A meter in lent memory: clearing, updates, estimates, the widest level and unions. Every call takes any depth, width, memory and
+// key, and answers by document 01's number, place and figure. A rejected call leaves the memory as it was.
+use group::Answer;
+use group::hash::Hash;
+use row::{answer, bad_key, bad_shape, earlier};
+ghost use mathlib.Core.Path.{_≡_};
+ghost use Prim.Native.Nat.{_≤_, min, max};
+ghost use lib.ListN.{length, replicate};
+ghost use Rattle.group.specs.Hash.{basis};
+ghost use Rattle.row.specs.Geometry.{RowIn, RowsIn};
+ghost use Rattle.row.specs.Geometry as geometry;
+ghost use Rattle.row.specs.Order.{earliest, badShape};
+ghost use Rattle.row.specs.Rows.{mapRows, ofRows, least, largest};
+ghost use Rattle.row.specs.Row.{updateStatus, updateRow};
+ghost use Rattle.meter.specs.Meter.{rowOf, cleared, badCall, updated, readStatus, readValue, estimated, rowStatus, rowLevel, sourceStatus, sourceAdded};
+ghost use Rattle.meter.specs.Meter as spec;
+
+// Every byte 0.
+fn fill(memory: &mut [u8])
+    ensures { λ _. ⌜ now (memory .exit) ≡ replicate (length (now (memory .entry))) 0 ⌝ }
+{
+    for i in 0..memory.len() {
+        memory[i] = 0;
+    }
+}
+
+// Clears a meter. Reads no byte of it.
+pub fn clear(d: usize, w: usize, memory: &mut [u8]) -> Answer
+    ensures { λ r. ⌜ r ≡ cleared d w (now (memory .entry)) .answer ⌝ }
+    ensures { λ r. ⌜ now (memory .exit) ≡ cleared d w (now (memory .entry)) .memory ⌝ }
+{
+    let bad = bad_shape(d, w, memory.len());
+    if bad != 0 {
+        return answer(bad, 0);
+    }
+    fill(memory);
+    answer(0, 0)
+}
+
+// What is wrong with a call that has a key, before any group is read.
+fn bad_call(d: usize, w: usize, memory: &[u8], key: &[u8]) -> u8
+    ensures { λ r. ⌜ r ≡ badCall d w (now (memory .entry)) (now (key .entry)) ⌝ }
+{
+    let shape = bad_shape(d, w, memory.len());
+    if shape != 0 {
+        return shape;
+    }
+    bad_key(key.len())
+}
+
+// Row r of a memory.
+fn row_at(w: usize, memory: &[u8], r: usize) -> &[u8]
+    requires { ⌜ RowIn w r (length (now memory)) ⌝ }
+    ensures { λ s. ⌜ now s ≡ rowOf w (now (memory .entry)) r ⌝ }
+    ensures { λ s. ⌜ length (now s) ≡ geometry.stride w ⌝ }
+{
+    let stride = row::stride(w);
+    let a = r * stride;
+    let e = a + stride;
+    &memory[a..e]
+}
+
+// Whether every row takes an update.
+fn update_status(d: usize, w: usize, memory: &[u8], key: &[u8], amount: u32) -> u8
+    requires { ⌜ RowsIn d w (length (now memory)) ⌝ }
+    ensures { λ s. ⌜ s ≡ earliest (ofRows (updateStatus basis w (now (key .entry)) amount) (geometry.stride w) d 0 (now (memory .entry))) ⌝ }
+{
+    let mut status = 0u8;
+    for r in 0..d {
+        let next = row::update_status(row_at(w, memory, r), Hash::start(), w, key, amount, r);
+        status = earlier(status, next);
+    }
+    status
+}
+
+// An update of every row.
+fn update_rows(d: usize, w: usize, memory: &mut [u8], key: &[u8], amount: u32)
+    requires { ⌜ RowsIn d w (length (now memory)) ⌝ }
+    ensures { λ _. ⌜ now (memory .exit) ≡ mapRows (updateRow basis w (now (key .entry)) amount) (geometry.stride w) d 0 (now (memory .entry)) ⌝ }
+{
+    let stride = row::stride(w);
+    for r in 0..d {
+        let a = r * stride;
+        let e = a + stride;
+        row::update_row(&mut memory[a..e], Hash::start(), w, key, amount, r);
+    }
+}
+
+// Adds an amount to the key's counter in each row. Stores in no row before every row is known to take it.
+pub fn update(d: usize, w: usize, memory: &mut [u8], key: &[u8], amount: u32) -> Answer
+    ensures { λ r. ⌜ r ≡ updated d w (now (memory .entry)) (now (key .entry)) amount .answer ⌝ }
+    ensures { λ r. ⌜ now (memory .exit) ≡ updated d w (now (memory .entry)) (now (key .entry)) amount .memory ⌝ }
+{
+    let bad = bad_call(d, w, memory, key);
+    if bad != 0 {
+        return answer(bad, 0);
+    }
+    let status = update_status(d, w, memory, key, amount);
+    if status != 0 {
+        return answer(status, 0);
+    }
+    update_rows(d, w, memory, key, amount);
+    answer(0, 0)
+}
+
+fn smaller(a: u64, b: u64) -> u64
+    ensures { λ r. ⌜ r ≡ min a b ⌝ }
+{
+    if b < a { b } else { a }
+}
+
+// The first status of the key's counters, and their least value.
+fn read_rows(d: usize, w: usize, memory: &[u8], key: &[u8]) -> Answer
+    requires { ⌜ 1 ≤ d ⌝ ∗ ⌜ RowsIn d w (length (now memory)) ⌝ }
+    ensures { λ a. ⌜ a .status ≡ earliest (ofRows (readStatus w (now (key .entry))) (geometry.stride w) d 0 (now (memory .entry))) ⌝ }
+    ensures { λ a. ⌜ a .value ≡ least (ofRows (readValue w (now (key .entry))) (geometry.stride w) d 0 (now (memory .entry))) ⌝ }
+{
+    let first = row::read_row(row_at(w, memory, 0), Hash::start(), w, key, 0);
+    let mut status = first.status;
+    let mut value = first.value;
+    for r in 1..d {
+        let c = row::read_row(row_at(w, memory, r), Hash::start(), w, key, r);
+        status = earlier(status, c.status);
+        value = smaller(value, c.value);
+    }
+    Answer {
+        status,
+        position: 0,
+        value,
+    }
+}
+
+// The least value of the key's counters.
+pub fn estimate(d: usize, w: usize, memory: &[u8], key: &[u8]) -> Answer
+    ensures { λ r. ⌜ r ≡ estimated d w (now (memory .entry)) (now (key .entry)) ⌝ }
+{
+    let bad = bad_call(d, w, memory, key);
+    if bad != 0 {
+        return answer(bad, 0);
+    }
+    let found = read_rows(d, w, memory, key);
+    answer(found.status, found.value)
+}
+
+fn larger(a: u64, b: u64) -> u64
+    ensures { λ r. ⌜ r ≡ max a b ⌝ }
+{
+    if a < b { b } else { a }
+}
+
+// The first status of a meter's groups, and their largest level.
+fn widest_rows(d: usize, w: usize, memory: &[u8]) -> Answer
+    requires { ⌜ RowsIn d w (length (now memory)) ⌝ }
+    ensures { λ a. ⌜ a .status ≡ earliest (ofRows (rowStatus w) (geometry.stride w) d 0 (now (memory .entry))) ⌝ }
+    ensures { λ a. ⌜ a .value ≡ largest (ofRows (rowLevel w) (geometry.stride w) d 0 (now (memory .entry))) ⌝ }
+{
+    let mut status = 0u8;
+    let mut value = 0u64;
+    for r in 0..d {
+        let c = row::widest_row(row_at(w, memory, r), w);
+        status = earlier(status, c.status);
+        value = larger(value, c.value);
+    }
+    Answer {
+        status,
+        position: 0,
+        value,
+    }
+}
+
+// The largest level of any counter in a meter.
+pub fn widest(d: usize, w: usize, memory: &[u8]) -> Answer
+    ensures { λ r. ⌜ r ≡ spec.widest d w (now (memory .entry)) ⌝ }
+{
+    let bad = bad_shape(d, w, memory.len());
+    if bad != 0 {
+        return answer(bad, 0);
+    }
+    let found = widest_rows(d, w, memory);
+    answer(found.status, found.value)
+}
+
+// Whether every row takes a source's.
+fn unite_status(d: usize, w: usize, memory: &[u8], source: &[u8]) -> u8
+    requires { ⌜ RowsIn d w (length (now memory)) ⌝ ∗ ⌜ length (now source) ≡ length (now memory) ⌝ }
+    ensures { λ s. ⌜ s ≡ earliest (ofRows (sourceStatus w (now (source .entry))) (geometry.stride w) d 0 (now (memory .entry))) ⌝ }
+{
+    let mut status = 0u8;
+    for r in 0..d {
+        let next = row::unite_status(row_at(w, memory, r), row_at(w, source, r), w);
+        status = earlier(status, next);
+    }
+    status
+}
+
+// A source's rows added into a meter's.
+fn unite_rows(d: usize, w: usize, memory: &mut [u8], source: &[u8])
+    requires { ⌜ RowsIn d w (length (now memory)) ⌝ ∗ ⌜ length (now source) ≡ length (now memory) ⌝ }
+    ensures { λ _. ⌜ now (memory .exit) ≡ mapRows (sourceAdded w (now (source .entry))) (geometry.stride w) d 0 (now (memory .entry)) ⌝ }
+{
+    let stride = row::stride(w);
+    for r in 0..d {
+        let a = r * stride;
+        let e = a + stride;
+        row::unite_row(&mut memory[a..e], row_at(w, source, r), w);
+    }
+}
+
+// Adds a source meter of the same depth and width into a meter. The source is only read.
+pub fn unite(d: usize, w: usize, memory: &mut [u8], source: &[u8]) -> Answer
+    ensures { λ r. ⌜ r ≡ spec.united d w (now (memory .entry)) (now (source .entry)) .answer ⌝ }
+    ensures { λ r. ⌜ now (memory .exit) ≡ spec.united d w (now (memory .entry)) (now (source .entry)) .memory ⌝ }
+{
+    let bad = bad_shape(d, w, memory.len());
+    if bad != 0 {
+        return answer(bad, 0);
+    }
+    if source.len() != memory.len() {
+        return answer(3, 0);
+    }
+    let status = unite_status(d, w, memory, source);
+    if status != 0 {
+        return answer(status, 0);
+    }
+    unite_rows(d, w, memory, source);
+    answer(0, 0)
+}

@@ -1,6 +1,7 @@
 -- A meter's depth d and width w, and the length of its memory. Document 01, 'Rows, groups and blocks'.
-use Prim.Native.Nat.{ℕ, zero, suc, _-_, _*_, _/_}
-use mathlib.Core.Bool.{Bool, false, _&&_, _||_}
+use Prim.Native.Nat.{ℕ, zero, suc, _+_, _-_, _*_, _/_, _≤_, _<_}
+use mathlib.Core.Path.{_≡_}
+use mathlib.Core.Bool.{Bool, true, false, _&&_, _||_}
 use lib.Dec.{leb, eqb}
 
 -- rows: 1 to 8
@@ -27,3 +28,10 @@ stride w = w * 9 / 8
 -- the bytes of a meter
 unfoldable pub size : ℕ → ℕ → ℕ
 size d w = d * stride w
+
+-- row r, and d rows, of a valid width lie in so many bytes
+abbrev pub RowIn : ℕ → ℕ → ℕ → Type 0
+RowIn w r bytes = (validWidth w ≡ true) × (r < 8) × (r * stride w + stride w ≤ bytes)
+
+abbrev pub RowsIn : ℕ → ℕ → ℕ → Type 0
+RowsIn d w bytes = (validWidth w ≡ true) × (d ≤ 8) × (bytes ≡ size d w)

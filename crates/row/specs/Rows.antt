@@ -27,11 +27,14 @@ unfoldable pub ofGroups : (ℕ → ℕ) → ℕ → ℕ → List ℕ
 ofGroups f zero g = []
 ofGroups f (suc n) g = f g ∷ ofGroups f n (g + 1)
 
--- the least and the largest of a list
+-- the least of a number and of a list, the least of a list, and the largest
+unfoldable pub leastOr : ℕ → List ℕ → ℕ
+leastOr v [] = v
+leastOr v (x ∷ xs) = leastOr (min v x) xs
+
 unfoldable pub least : List ℕ → ℕ
 least [] = 0
-least (x ∷ []) = x
-least (x ∷ y ∷ ys) = min x (least (y ∷ ys))
+least (x ∷ xs) = leastOr x xs
 
 unfoldable pub largest : List ℕ → ℕ
 largest [] = 0
