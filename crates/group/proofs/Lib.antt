@@ -1,5 +1,6 @@
 pub mod Hashing
 pub mod Bytes
 pub mod Laws
+pub mod Outcomes
 pub mod Packing
 pub mod Cases

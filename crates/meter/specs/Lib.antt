@@ -1,1 +1,2 @@
 pub mod Meter
+pub mod Valid

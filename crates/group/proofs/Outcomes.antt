@@ -1,0 +1,49 @@
+-- What an addition or a union leaves: eight count bytes and, if accepted, a valid merge byte.
+use mathlib.Core.Path.{_≡_, refl}
+use mathlib.Core.Bool.{Bool, true, false, cond, _&&_}
+use Prim.Native.Nat.{ℕ, _%_}
+use native.Mathlib.Omega.{arith}
+use lib.ListN.{length}
+use Rattle.layout.specs.Layout.{valid}
+use Rattle.block.specs.Block.{word}
+use Rattle.block.specs.Sum.{Sum, fits, over, add, unite}
+use Rattle.group.specs.declared.Group.{Group}
+use Rattle.group.specs.Status.{invalidMerge}
+use Rattle.group.specs.Group.{decode, encode, settle, unchanged, added, united}
+use Rattle.group.proofs.Bytes.{bytes-length}
+use Rattle.group.proofs.Laws.{encode-valid}
+
+settle-eight : (g : Group) (x : Sum 3) → length (g .counts) ≡ 8 → length (settle g x .group .counts) ≡ 8
+unfolding settle encode
+settle-eight g (fits b) h = bytes-length 8 (word b)
+settle-eight g (over s) h = h
+
+settle-valid : (g : Group) (x : Sum 3) → settle g x .status ≡ 0 → valid 3 (settle g x .group .merge) ≡ true
+unfolding settle
+settle-valid g (fits b) e = encode-valid b
+settle-valid g (over s) e = absurd (omega arith)
+
+either-eight : (b : Bool) (g : Group) (x : Sum 3) → length (g .counts) ≡ 8 → length (cond b (settle g x) (unchanged invalidMerge g) .group .counts) ≡ 8
+either-eight true g x h = settle-eight g x h
+either-eight false g x h = h
+
+either-valid : (b : Bool) (g : Group) (x : Sum 3) → cond b (settle g x) (unchanged invalidMerge g) .status ≡ 0
+    → valid 3 (cond b (settle g x) (unchanged invalidMerge g) .group .merge) ≡ true
+either-valid true g x e = settle-valid g x e
+either-valid false g x e = absurd (omega arith)
+
+pub added-eight : (g : Group) (slot amount : ℕ) → length (g .counts) ≡ 8 → length (added g slot amount .group .counts) ≡ 8
+unfolding added
+added-eight g slot amount h = either-eight (valid 3 (g .merge)) g (add (decode g) (slot % 8) amount) h
+
+pub added-valid : (g : Group) (slot amount : ℕ) → added g slot amount .status ≡ 0 → valid 3 (added g slot amount .group .merge) ≡ true
+unfolding added
+added-valid g slot amount e = either-valid (valid 3 (g .merge)) g (add (decode g) (slot % 8) amount) e
+
+pub united-eight : (target source : Group) → length (target .counts) ≡ 8 → length (united target source .group .counts) ≡ 8
+unfolding united
+united-eight target source h = either-eight (valid 3 (target .merge) && valid 3 (source .merge)) target (unite (decode target) (decode source)) h
+
+pub united-valid : (target source : Group) → united target source .status ≡ 0 → valid 3 (united target source .group .merge) ≡ true
+unfolding united
+united-valid target source e = either-valid (valid 3 (target .merge) && valid 3 (source .merge)) target (unite (decode target) (decode source)) e

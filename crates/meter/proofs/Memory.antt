@@ -1,0 +1,276 @@
+-- What an accepted call leaves, group by group, and that memories stay valid.
+use mathlib.Core.Path.{_≡_, refl, sym, ap, ap₂, _∙_}
+use mathlib.Core.Bool.{Bool, true, false, cond}
+use mathlib.Core.List.{List, [], _∷_}
+use Prim.Native.Nat.{ℕ, zero, suc, _+_, _-_, _*_, _/_, _%_, _^_, _≤_, _<_}
+use native.Mathlib.Nat.{zero-mul, suc-mul, zero-add, add-zero, mod-lt}
+use native.Mathlib.Decide.{decLt, ℕ-discrete}
+use native.Mathlib.Omega.{arith}
+use borrow.Author.Tests.{eqb-true}
+use lib.Dec.{eqb}
+use lib.ListN.{length, getD, take, drop, replicate, length-drop, length-replicate, getD-replicate}
+use lib.Seq.{drop-drop, getD-take, getD-drop}
+use Rattle.layout.specs.Layout.{valid, ones}
+use lib.Bits.{bitXor}
+use Rattle.group.specs.Hash.{basis, fnv, fnvStep}
+use Rattle.group.proofs.Hashing.{slot-lt}
+use Rattle.group.proofs.Outcomes.{added-eight, added-valid, united-valid}
+use Rattle.row.specs.Geometry.{validWidth, stride, size, RowsIn}
+use Rattle.row.specs.Order.{firstOf, earlier, earliest, unless, badLength, badShape, answerOf, finish}
+use Rattle.row.specs.Rows.{mapRows, ofRows, ofGroups, groupAt, withGroup}
+use Rattle.row.specs.Row.{keySlot, addedIn, updateStatus, updateRow, unitedAt, unitedStatus, uniteStatus, uniteRow}
+use Rattle.row.proofs.Widths.{wide, stride-is, slot-in, group-in, first-one}
+use Rattle.row.proofs.Lists.{row-in}
+use Rattle.row.proofs.Groups.{row-mapped, length-mapped, length-with, group-same, group-other, eight-at, length-united, united-from}
+use Rattle.meter.specs.Meter.{badCall, rowOf, cleared, updated, sourceStatus, sourceAdded, united}
+use Rattle.meter.specs.Valid.{Valid}
+use Rattle.meter.proofs.Gather.{one-row, shape-good, row-length, first-skip, first-stop}
+use Rattle.meter.proofs.Calls.{call-good, cleared-good, updated-good, united-good}
+
+-- no status where the first of several is none
+none-earlier : (a b : ℕ) → earlier a b ≡ 0 → (a ≡ 0) × (b ≡ 0)
+unfolding earlier
+none-earlier zero b e = (refl, e)
+none-earlier (suc a) zero e = absurd (omega arith)
+none-earlier (suc a) (suc b) e = absurd (omega arith)
+
+none-rows : (f : ℕ → List ℕ → ℕ) (s n r : ℕ) (memory : List ℕ) → earliest (ofRows f s n r memory) ≡ 0
+    → (k : ℕ) → k < n → f (r + k) (take s (drop (k * s) memory)) ≡ 0
+unfolding ofRows earliest
+none-rows f s zero r memory e k h = absurd (omega arith)
+none-rows f s (suc n) r memory e zero h = rw (zero-mul s, add-zero r) (none-earlier _ _ e .0)
+none-rows f s (suc n) r memory e (suc k) h =
+    let at : suc k * s ≡ s + k * s = omega (arith, suc-mul k s) in
+    let index : r + suc k ≡ r + 1 + k = omega arith in
+    rw (at, index, ← drop-drop (k * s) s memory) (none-rows f s n (r + 1) (drop s memory) (none-earlier _ _ e .1) k (omega arith))
+
+row-none : (f : ℕ → List ℕ → ℕ) (d w : ℕ) (memory : List ℕ) → earliest (ofRows f (stride w) d 0 memory) ≡ 0 → (r : ℕ) → r < d → f r (rowOf w memory r) ≡ 0
+unfolding rowOf
+row-none f d w memory e r h =
+    ap (λ (k : ℕ). f k (take (stride w) (drop (r * stride w) memory))) (sym (zero-add r)) ∙ none-rows f (stride w) d 0 memory e r h
+
+none-groups : (f : ℕ → ℕ) (n g : ℕ) → earliest (ofGroups f n g) ≡ 0 → (k : ℕ) → g ≤ k → k < g + n → f k ≡ 0
+unfolding ofGroups earliest
+none-groups f zero g e k p q = absurd (omega arith)
+none-groups f (suc n) g e k p q =
+    elim (decLt g k) [
+      yes m ↦ none-groups f n (g + 1) (none-earlier _ _ e .1) k (omega arith) (omega arith)
+      | no m ↦ let z : k ≡ g = omega arith in rw z (none-earlier _ _ e .0) ]
+
+-- an accepted call passed every test
+status-is : (s v : ℕ) → answerOf s v .status ≡ s
+unfolding answerOf
+status-is zero v = refl
+status-is (suc s) v = refl
+
+none-first : (s : ℕ) (ss : List ℕ) → firstOf (s ∷ ss) ≡ 0 → (s ≡ 0) × (firstOf ss ≡ 0)
+unfolding firstOf
+none-first zero ss e = (refl, e)
+none-first (suc s) ss e = absurd (omega arith)
+
+-- rows of a memory written row by row
+rows-after : (f : ℕ → List ℕ → List ℕ) (d w : ℕ) (memory : List ℕ) → RowsIn d w (length memory)
+    → ((r : ℕ) (row : List ℕ) → length row ≡ stride w → length (f r row) ≡ stride w)
+    → (r : ℕ) → r < d → rowOf w (mapRows f (stride w) d 0 memory) r ≡ f r (rowOf w memory r)
+unfolding rowOf size
+rows-after f d w memory p keeps r h =
+    row-mapped f (stride w) keeps d 0 r memory h (omega (arith, p .2)) ∙ ap (λ (k : ℕ). f k (take (stride w) (drop (r * stride w) memory))) (zero-add r)
+
+length-after : (f : ℕ → List ℕ → List ℕ) (d w : ℕ) (memory : List ℕ) → RowsIn d w (length memory)
+    → ((r : ℕ) (row : List ℕ) → length row ≡ stride w → length (f r row) ≡ stride w)
+    → length (mapRows f (stride w) d 0 memory) ≡ length memory
+unfolding size
+length-after f d w memory p keeps = length-mapped f (stride w) keeps d 0 memory (omega (arith, p .2))
+
+-- a key's slot lies in its row
+fnv-lt : (h : ℕ) (bytes : List ℕ) → h < 2 ^ 32 → fnv h bytes < 2 ^ 32
+unfolding fnv fnvStep
+fnv-lt h [] l = l
+fnv-lt h (b ∷ bs) l = fnv-lt (bitXor h b * 16777619 % 2 ^ 32) bs (mod-lt (bitXor h b * 16777619) (omega arith))
+
+pub key-in : (w : ℕ) (key : List ℕ) (r : ℕ) → validWidth w ≡ true → keySlot basis w key r < w
+unfolding keySlot
+key-in w key r v = slot-lt (fnv basis (r ∷ key)) w (fnv-lt basis (r ∷ key) (omega arith)) (wide w v .shares)
+
+module _ (w : ℕ) (v : validWidth w ≡ true) where
+  -- where groups lie
+  in-row : (g : ℕ) (row : List ℕ) → length row ≡ stride w → g < w / 8 → (8 * g + 8 ≤ w) × (w + g < length row)
+  in-row g row l h = let i = group-in w g v h in (i .0, omega (arith, i .1))
+
+  full-row : (row : List ℕ) → length row ≡ stride w → w ≤ length row
+  full-row row l = omega (arith, stride-is w)
+
+  module _ (key : List ℕ) (amount r : ℕ) (row : List ℕ) (l : length row ≡ stride w) where
+    slot : ℕ
+    slot = keySlot basis w key r
+
+    key-group : slot / 8 < w / 8
+    unfolding slot
+    key-group = slot-in w (keySlot basis w key r) v (key-in w key r v)
+
+    eight : length (addedIn w row (keySlot basis w key r) amount .group .counts) ≡ 8
+    unfolding addedIn slot
+    eight = added-eight (groupAt w row (slot / 8)) slot amount (eight-at w (slot / 8) row (in-row (slot / 8) row l key-group .0) (full-row row l))
+
+    -- an update keeps the row's length, writes the key's group and no other
+    update-length : length (updateRow basis w key amount r row) ≡ stride w
+    unfolding updateRow slot
+    update-length =
+        let i = in-row (slot / 8) row l key-group in
+        length-with w row (slot / 8) (addedIn w row slot amount .group) eight (i .0) (i .1) ∙ l
+
+    pub update-group : groupAt w (updateRow basis w key amount r row) (keySlot basis w key r / 8) ≡ addedIn w row (keySlot basis w key r) amount .group
+    unfolding updateRow slot
+    update-group =
+        let i = in-row (slot / 8) row l key-group in
+        group-same w row (slot / 8) (addedIn w row slot amount .group) eight (i .0) (i .1)
+
+    pub update-other : (g : ℕ) → g < w / 8 → (g ≡ keySlot basis w key r / 8 → ⊥) → groupAt w (updateRow basis w key amount r row) g ≡ groupAt w row g
+    unfolding updateRow slot
+    update-other g h n =
+        let i = in-row (slot / 8) row l key-group in
+        group-other w row (slot / 8) (addedIn w row slot amount .group) eight (i .0) (i .1) g (in-row g row l h .0) n
+
+  module _ (source row : List ℕ) (l : length row ≡ stride w) where
+    groups-in : 8 * (0 + w / 8) ≤ w
+    groups-in = omega arith
+
+    -- a union keeps the row's length and writes each group's union
+    unite-length : length (uniteRow w source row) ≡ stride w
+    unfolding uniteRow
+    unite-length = length-united w source (w / 8) 0 row groups-in (omega (arith, stride-is w)) ∙ l
+
+    pub unite-group : (g : ℕ) → g < w / 8 → groupAt w (uniteRow w source row) g ≡ unitedAt w source row g .group
+    unfolding uniteRow
+    unite-group g h = united-from w source (w / 8) 0 row groups-in (omega (arith, stride-is w)) g (omega arith) (omega arith)
+
+update-tests : (d w : ℕ) (memory key : List ℕ) (amount : ℕ) → updated d w memory key amount .answer .status ≡ 0
+    → firstOf (badCall d w memory key ∷ earliest (ofRows (updateStatus basis w key amount) (stride w) d 0 memory) ∷ []) ≡ 0
+unfolding updated finish
+update-tests d w memory key amount e = sym (status-is _ 0) ∙ e
+
+-- An accepted update: every row is that row's own update, and the memory keeps its length and stays valid.
+pub record Updated (d w : ℕ) (memory key : List ℕ) (amount : ℕ) (after : List ℕ) : Type 0 where
+  pub good : badShape d w (length memory) ≡ 0
+  pub taken : (r : ℕ) → r < d → addedIn w (rowOf w memory r) (keySlot basis w key r) amount .status ≡ 0
+  pub long : length after ≡ length memory
+  pub row : (r : ℕ) → r < d → rowOf w after r ≡ updateRow basis w key amount r (rowOf w memory r)
+
+pub update-accepted : (d w : ℕ) (memory key : List ℕ) (amount : ℕ) → updated d w memory key amount .answer .status ≡ 0
+    → Updated d w memory key amount (updated d w memory key amount .memory)
+unfolding updateStatus
+update-accepted d w memory key amount e =
+    let t = none-first (badCall d w memory key) (earliest (ofRows (updateStatus basis w key amount) (stride w) d 0 memory) ∷ []) (update-tests d w memory key amount e) in
+    let rows = sym (first-one (earliest (ofRows (updateStatus basis w key amount) (stride w) d 0 memory))) ∙ t .1 in
+    let shape = call-good d w memory key (t .0) in
+    let p = shape-good d w (length memory) shape .1 in
+    let after = updated-good d w memory key amount (t .0) rows .1 in
+    let keeps : (r : ℕ) (row : List ℕ) → length row ≡ stride w → length (updateRow basis w key amount r row) ≡ stride w = update-length w (p .0) key amount in
+    record {
+      good = shape;
+      taken = λ r h. row-none (updateStatus basis w key amount) d w memory rows r h;
+      long = rw (← after) (length-after (updateRow basis w key amount) d w memory p keeps);
+      row = λ r h. rw (← after) (rows-after (updateRow basis w key amount) d w memory p keeps r h)
+    }
+
+-- lengths of the rows of a memory that they lie in
+pub rows-long : (d w : ℕ) (memory : List ℕ) → RowsIn d w (length memory) → (r : ℕ) → r < d → length (rowOf w memory r) ≡ stride w
+rows-long d w memory p r h = row-length w r memory (one-row d w r p h .2)
+
+pub update-valid : (d w : ℕ) (memory key : List ℕ) (amount : ℕ) → updated d w memory key amount .answer .status ≡ 0 → Valid d w memory
+    → Valid d w (updated d w memory key amount .memory)
+unfolding addedIn
+update-valid d w memory key amount e m =
+    let u = update-accepted d w memory key amount e in
+    let p = m .rows in
+    record {
+      some = m .some;
+      rows = (p .0, p .1, u .long ∙ p .2);
+      merges = λ r g h k.
+        let l = rows-long d w memory p r h in
+        rw (u .row r h)
+        (elim (ℕ-discrete g (keySlot basis w key r / 8)) [
+          yes z ↦ rw (z, update-group w (p .0) key amount r (rowOf w memory r) l) (added-valid _ _ _ (u .taken r h))
+          | no n ↦ rw (update-other w (p .0) key amount r (rowOf w memory r) l g k n) (m .merges r g h k) ])
+    }
+
+-- An accepted union: every row is that row's own union, and the memory keeps its length and stays valid.
+pub record United (d w : ℕ) (memory source after : List ℕ) : Type 0 where
+  pub good : badShape d w (length memory) ≡ 0
+  pub same : length source ≡ length memory
+  pub taken : (r g : ℕ) → r < d → g < w / 8 → unitedAt w (rowOf w source r) (rowOf w memory r) g .status ≡ 0
+  pub long : length after ≡ length memory
+  pub row : (r : ℕ) → r < d → rowOf w after r ≡ uniteRow w (rowOf w source r) (rowOf w memory r)
+
+unite-tests : (d w : ℕ) (memory source : List ℕ) → united d w memory source .answer .status ≡ 0
+    → firstOf (badShape d w (length memory) ∷ badLength d w (length source) ∷ earliest (ofRows (sourceStatus w source) (stride w) d 0 memory) ∷ []) ≡ 0
+unfolding united finish
+unite-tests d w memory source e = sym (status-is _ 0) ∙ e
+
+length-good : (d w n : ℕ) → badLength d w n ≡ 0 → n ≡ size d w
+length-good d w n = go (eqb n (size d w)) refl
+  where
+    go : (b : Bool) → eqb n (size d w) ≡ b → unless b 3 ≡ 0 → n ≡ size d w
+    go true e z = eqb-true n (size d w) e
+    go false e z = absurd (omega arith)
+
+pub unite-accepted : (d w : ℕ) (memory source : List ℕ) → united d w memory source .answer .status ≡ 0
+    → United d w memory source (united d w memory source .memory)
+unfolding sourceStatus sourceAdded uniteStatus unitedStatus
+unite-accepted d w memory source e =
+    let rows = earliest (ofRows (sourceStatus w source) (stride w) d 0 memory) in
+    let t = none-first (badShape d w (length memory)) (badLength d w (length source) ∷ rows ∷ []) (unite-tests d w memory source e) in
+    let s = none-first (badLength d w (length source)) (rows ∷ []) (t .1) in
+    let taken = sym (first-one rows) ∙ s .1 in
+    let p = shape-good d w (length memory) (t .0) .1 in
+    let same : length source ≡ length memory = length-good d w (length source) (s .0) ∙ sym (p .2) in
+    let after = united-good d w memory source (t .0) same taken .1 in
+    let keeps : (r : ℕ) (row : List ℕ) → length row ≡ stride w → length (sourceAdded w source r row) ≡ stride w = λ r row l. unite-length w (p .0) (rowOf w source r) row l in
+    record {
+      good = t .0;
+      same = same;
+      taken = λ r g h k. none-groups (unitedStatus w (rowOf w source r) (rowOf w memory r)) (w / 8) 0 (row-none (sourceStatus w source) d w memory taken r h) g (omega arith) (omega arith);
+      long = rw (← after) (length-after (sourceAdded w source) d w memory p keeps);
+      row = λ r h. rw (← after) (rows-after (sourceAdded w source) d w memory p keeps r h)
+    }
+
+pub unite-valid : (d w : ℕ) (memory source : List ℕ) → united d w memory source .answer .status ≡ 0 → Valid d w memory → Valid d w (united d w memory source .memory)
+unfolding unitedAt
+unite-valid d w memory source e m =
+    let u = unite-accepted d w memory source e in
+    let p = m .rows in
+    record {
+      some = m .some;
+      rows = (p .0, p .1, u .long ∙ p .2);
+      merges = λ r g h k.
+        rw (u .row r h, unite-group w (p .0) (rowOf w source r) (rowOf w memory r) (rows-long d w memory p r h) g k)
+        (united-valid (groupAt w (rowOf w memory r) g) (groupAt w (rowOf w source r) g) (u .taken r g h k))
+    }
+
+-- A cleared memory is valid: every merge byte is 0.
+zero-at : (n i : ℕ) → getD {A = ℕ} (replicate n 0) i 0 ≡ 0
+zero-at zero i = refl
+zero-at (suc n) zero = refl
+zero-at (suc n) (suc i) = zero-at n i
+
+clear-tests : (d w : ℕ) (memory : List ℕ) → cleared d w memory .answer .status ≡ 0 → badShape d w (length memory) ≡ 0
+unfolding cleared finish
+clear-tests d w memory e = sym (status-is _ 0) ∙ e
+
+pub clear-valid : (d w : ℕ) (memory : List ℕ) → cleared d w memory .answer .status ≡ 0 → Valid d w (cleared d w memory .memory)
+unfolding groupAt rowOf valid ones
+clear-valid d w memory e =
+    let shape = clear-tests d w memory e in
+    let s = shape-good d w (length memory) shape in
+    let after = cleared-good d w memory shape .1 in
+    rw (← after)
+    (record {
+      some = s .0;
+      rows = (s .1 .0, s .1 .1, length-replicate (length memory) 0 ∙ s .1 .2);
+      merges = λ r g h k.
+        rw (
+          getD-take {A = ℕ} (stride w) (drop (r * stride w) (replicate (length memory) 0)) (w + g) 0 (group-in w g (s .1 .0) k .1),
+          getD-drop {A = ℕ} (r * stride w) (replicate (length memory) 0) (w + g) 0,
+          zero-at (length memory) (r * stride w + (w + g)),
+        )
+    })
