@@ -1,14 +1,14 @@
 -- What each call answers and leaves, by the tests that led there.
-use mathlib.Core.Path.{_≡_, refl, sym, ap, _∙_}
-use mathlib.Core.List.{List, [], _∷_, _++_}
-use Prim.Native.Nat.{ℕ, zero, suc, _<_}
+use mathlib.Core.Path.{_≡_, sym, _∙_}
+use mathlib.Core.List.{List, [], _∷_}
+use Prim.Native.Nat.{ℕ}
 use native.Mathlib.Decide.{decLt}
 use native.Mathlib.Omega.{arith}
 use borrow.Author.Tests.{eq-eqb, ne-eqb}
 use lib.ListN.{length, replicate}
 use Rattle.group.specs.Hash.{basis}
-use Rattle.row.specs.Geometry.{stride, size, RowsIn}
-use Rattle.row.specs.Order.{firstOf, earliest, badDepth, badWidth, badLength, badShape, badKey, answerOf, finish}
+use Rattle.row.specs.Geometry.{stride, size}
+use Rattle.row.specs.Order.{firstOf, earliest, badDepth, badWidth, badLength, badShape, badKey, answerOf}
 use Rattle.row.specs.Rows.{mapRows, ofRows, least, largest}
 use Rattle.row.specs.Row.{updateStatus, updateRow}
 use Rattle.row.proofs.Widths.{first-rest, first-part, first-one}

@@ -1,7 +1,7 @@
 -- What is read of rows, gathered one by one, and a call's tests taken in two parts.
 use mathlib.Core.Path.{_≡_, refl, sym, ap, _∙_}
 use mathlib.Core.Bool.{Bool, true, false}
-use mathlib.Core.List.{List, [], _∷_, _++_, append-nil, append-assoc}
+use mathlib.Core.List.{List, [], _∷_, _++_}
 use Prim.Native.Nat.{ℕ, zero, suc, _+_, _-_, _*_, _≤_, _<_, min, max}
 use native.Mathlib.Nat.{max-zero}
 use native.Mathlib.Numerals.{add-one}
@@ -11,7 +11,7 @@ use lib.Dec.{eqb}
 use lib.ListN.{length, take, drop, set, replicate, length-drop, replicate-append-replicate}
 use lib.Seq.{length-take-le, take-suc-set}
 use Rattle.row.specs.Geometry.{validDepth, validWidth, stride, size, RowIn, RowsIn}
-use Rattle.row.specs.Order.{firstOf, earlier, earliest, unless, badShape, answerOf, Done, finish}
+use Rattle.row.specs.Order.{firstOf, earlier, earliest, unless, badShape, answerOf, finish}
 use Rattle.row.specs.Rows.{ofRows, leastOr, least, largest}
 use Rattle.row.proofs.Widths.{depth-in, earlier-none, earlier-assoc}
 use Rattle.row.proofs.Lists.{row-in, rows-read, rows-read-none, rows-read-all}

@@ -1,14 +1,14 @@
 -- What an accepted call leaves, group by group, and that memories stay valid.
-use mathlib.Core.Path.{_≡_, refl, sym, ap, ap₂, _∙_}
-use mathlib.Core.Bool.{Bool, true, false, cond}
+use mathlib.Core.Path.{_≡_, refl, sym, ap, _∙_}
+use mathlib.Core.Bool.{Bool, true, false}
 use mathlib.Core.List.{List, [], _∷_}
-use Prim.Native.Nat.{ℕ, zero, suc, _+_, _-_, _*_, _/_, _%_, _^_, _≤_, _<_}
+use Prim.Native.Nat.{ℕ, zero, suc, _+_, _*_, _/_, _%_, _^_, _≤_, _<_}
 use native.Mathlib.Nat.{zero-mul, suc-mul, zero-add, add-zero, mod-lt}
 use native.Mathlib.Decide.{decLt, ℕ-discrete}
 use native.Mathlib.Omega.{arith}
 use borrow.Author.Tests.{eqb-true}
 use lib.Dec.{eqb}
-use lib.ListN.{length, getD, take, drop, replicate, length-drop, length-replicate, getD-replicate}
+use lib.ListN.{length, getD, take, drop, replicate, length-replicate}
 use lib.Seq.{drop-drop, getD-take, getD-drop}
 use Rattle.layout.specs.Layout.{valid, ones}
 use lib.Bits.{bitXor}
@@ -17,14 +17,13 @@ use Rattle.group.proofs.Hashing.{slot-lt}
 use Rattle.group.proofs.Outcomes.{added-eight, added-valid, united-valid}
 use Rattle.row.specs.Geometry.{validWidth, stride, size, RowsIn}
 use Rattle.row.specs.Order.{firstOf, earlier, earliest, unless, badLength, badShape, answerOf, finish}
-use Rattle.row.specs.Rows.{mapRows, ofRows, ofGroups, groupAt, withGroup}
+use Rattle.row.specs.Rows.{mapRows, ofRows, ofGroups, groupAt}
 use Rattle.row.specs.Row.{keySlot, addedIn, updateStatus, updateRow, unitedAt, unitedStatus, uniteStatus, uniteRow}
 use Rattle.row.proofs.Widths.{wide, stride-is, slot-in, group-in, first-one}
-use Rattle.row.proofs.Lists.{row-in}
 use Rattle.row.proofs.Groups.{row-mapped, length-mapped, length-with, group-same, group-other, eight-at, length-united, united-from}
 use Rattle.meter.specs.Meter.{badCall, rowOf, cleared, updated, sourceStatus, sourceAdded, united}
 use Rattle.meter.specs.Valid.{Valid}
-use Rattle.meter.proofs.Gather.{one-row, shape-good, row-length, first-skip, first-stop}
+use Rattle.meter.proofs.Gather.{one-row, shape-good, row-length}
 use Rattle.meter.proofs.Calls.{call-good, cleared-good, updated-good, united-good}
 
 -- no status where the first of several is none
@@ -54,8 +53,9 @@ unfolding ofGroups earliest
 none-groups f zero g e k p q = absurd (omega arith)
 none-groups f (suc n) g e k p q =
     elim (decLt g k) [
-      yes m ↦ none-groups f n (g + 1) (none-earlier _ _ e .1) k (omega arith) (omega arith)
-      | no m ↦ let z : k ≡ g = omega arith in rw z (none-earlier _ _ e .0) ]
+      | yes m ↦ none-groups f n (g + 1) (none-earlier _ _ e .1) k (omega arith) (omega arith)
+      | no m ↦ let z : k ≡ g = omega arith in rw z (none-earlier _ _ e .0)
+    ]
 
 -- an accepted call passed every test
 status-is : (s v : ℕ) → answerOf s v .status ≡ s
@@ -170,7 +170,7 @@ update-accepted d w memory key amount e =
       good = shape;
       taken = λ r h. row-none (updateStatus basis w key amount) d w memory rows r h;
       long = rw (← after) (length-after (updateRow basis w key amount) d w memory p keeps);
-      row = λ r h. rw (← after) (rows-after (updateRow basis w key amount) d w memory p keeps r h)
+      row = λ r h. rw (← after) (rows-after (updateRow basis w key amount) d w memory p keeps r h);
     }
 
 -- lengths of the rows of a memory that they lie in
@@ -187,11 +187,12 @@ update-valid d w memory key amount e m =
       some = m .some;
       rows = (p .0, p .1, u .long ∙ p .2);
       merges = λ r g h k.
-        let l = rows-long d w memory p r h in
-        rw (u .row r h)
-        (elim (ℕ-discrete g (keySlot basis w key r / 8)) [
-          yes z ↦ rw (z, update-group w (p .0) key amount r (rowOf w memory r) l) (added-valid _ _ _ (u .taken r h))
-          | no n ↦ rw (update-other w (p .0) key amount r (rowOf w memory r) l g k n) (m .merges r g h k) ])
+          let l = rows-long d w memory p r h in
+          rw (u .row r h)
+          (elim (ℕ-discrete g (keySlot basis w key r / 8)) [
+            | yes z ↦ rw (z, update-group w (p .0) key amount r (rowOf w memory r) l) (added-valid _ _ _ (u .taken r h))
+            | no n ↦ rw (update-other w (p .0) key amount r (rowOf w memory r) l g k n) (m .merges r g h k)
+          ]);
     }
 
 -- An accepted union: every row is that row's own union, and the memory keeps its length and stays valid.
@@ -231,7 +232,7 @@ unite-accepted d w memory source e =
       same = same;
       taken = λ r g h k. none-groups (unitedStatus w (rowOf w source r) (rowOf w memory r)) (w / 8) 0 (row-none (sourceStatus w source) d w memory taken r h) g (omega arith) (omega arith);
       long = rw (← after) (length-after (sourceAdded w source) d w memory p keeps);
-      row = λ r h. rw (← after) (rows-after (sourceAdded w source) d w memory p keeps r h)
+      row = λ r h. rw (← after) (rows-after (sourceAdded w source) d w memory p keeps r h);
     }
 
 pub unite-valid : (d w : ℕ) (memory source : List ℕ) → united d w memory source .answer .status ≡ 0 → Valid d w memory → Valid d w (united d w memory source .memory)
@@ -243,8 +244,8 @@ unite-valid d w memory source e m =
       some = m .some;
       rows = (p .0, p .1, u .long ∙ p .2);
       merges = λ r g h k.
-        rw (u .row r h, unite-group w (p .0) (rowOf w source r) (rowOf w memory r) (rows-long d w memory p r h) g k)
-        (united-valid (groupAt w (rowOf w memory r) g) (groupAt w (rowOf w source r) g) (u .taken r g h k))
+          rw (u .row r h, unite-group w (p .0) (rowOf w source r) (rowOf w memory r) (rows-long d w memory p r h) g k)
+          (united-valid (groupAt w (rowOf w memory r) g) (groupAt w (rowOf w source r) g) (u .taken r g h k));
     }
 
 -- A cleared memory is valid: every merge byte is 0.
@@ -268,9 +269,9 @@ clear-valid d w memory e =
       some = s .0;
       rows = (s .1 .0, s .1 .1, length-replicate (length memory) 0 ∙ s .1 .2);
       merges = λ r g h k.
-        rw (
-          getD-take {A = ℕ} (stride w) (drop (r * stride w) (replicate (length memory) 0)) (w + g) 0 (group-in w g (s .1 .0) k .1),
-          getD-drop {A = ℕ} (r * stride w) (replicate (length memory) 0) (w + g) 0,
-          zero-at (length memory) (r * stride w + (w + g)),
-        )
+          rw (
+            getD-take {A = ℕ} (stride w) (drop (r * stride w) (replicate (length memory) 0)) (w + g) 0 (group-in w g (s .1 .0) k .1),
+            getD-drop {A = ℕ} (r * stride w) (replicate (length memory) 0) (w + g) 0,
+            zero-at (length memory) (r * stride w + (w + g)),
+          );
     })

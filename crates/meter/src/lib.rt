@@ -2,7 +2,10 @@
 // key, and answers by document 01's number, place and figure. A rejected call leaves the memory as it was.
 use group::Answer;
 use group::hash::Hash;
-use row::{answer, bad_key, bad_shape, earlier};
+use row::answer;
+use row::bad_key;
+use row::bad_shape;
+use row::earlier;
 ghost use mathlib.Core.Path.{_≡_};
 ghost use Prim.Native.Nat.{_≤_, min, max};
 ghost use lib.ListN.{length, replicate};
@@ -55,9 +58,9 @@ fn row_at(w: usize, memory: &[u8], r: usize) -> &[u8]
     ensures { λ s. ⌜ length (now s) ≡ geometry.stride w ⌝ }
 {
     let stride = row::stride(w);
-    let a = r * stride;
-    let e = a + stride;
-    &memory[a..e]
+    let start = r * stride;
+    let end = start + stride;
+    &memory[start..end]
 }
 
 // Whether every row takes an update.
@@ -176,8 +179,8 @@ pub fn widest(d: usize, w: usize, memory: &[u8]) -> Answer
     if bad != 0 {
         return answer(bad, 0);
     }
-    let found = widest_rows(d, w, memory);
-    answer(found.status, found.value)
+    let level = widest_rows(d, w, memory);
+    answer(level.status, level.value)
 }
 
 // Whether every row takes a source's.
@@ -200,9 +203,9 @@ fn unite_rows(d: usize, w: usize, memory: &mut [u8], source: &[u8])
 {
     let stride = row::stride(w);
     for r in 0..d {
-        let a = r * stride;
-        let e = a + stride;
-        row::unite_row(&mut memory[a..e], row_at(w, source, r), w);
+        let start = r * stride;
+        let end = start + stride;
+        row::unite_row(&mut memory[start..end], row_at(w, source, r), w);
     }
 }
 
@@ -218,9 +221,9 @@ pub fn unite(d: usize, w: usize, memory: &mut [u8], source: &[u8]) -> Answer
     if source.len() != memory.len() {
         return answer(3, 0);
     }
-    let status = unite_status(d, w, memory, source);
-    if status != 0 {
-        return answer(status, 0);
+    let full = unite_status(d, w, memory, source);
+    if full != 0 {
+        return answer(full, 0);
     }
     unite_rows(d, w, memory, source);
     answer(0, 0)

@@ -1,14 +1,13 @@
 -- Laws of rows and groups: what a write leaves of the others.
-use mathlib.Core.Path.{_≡_, refl, sym, ap, ap₂, _∙_}
-use mathlib.Core.List.{List, [], _∷_, _++_, append-assoc}
-use Prim.Native.Nat.{ℕ, zero, suc, _+_, _-_, _*_, _/_, _≤_, _<_}
-use native.Mathlib.Nat.{zero-mul, suc-mul, add-zero, add-assoc, mul-le-mul-right}
+use mathlib.Core.Path.{_≡_, refl, sym, ap, _∙_}
+use mathlib.Core.List.{List, _++_, append-assoc}
+use Prim.Native.Nat.{ℕ, zero, suc, _+_, _-_, _*_, _≤_, _<_}
+use native.Mathlib.Nat.{zero-mul, suc-mul, add-zero}
 use native.Mathlib.Decide.{decLt}
-use native.Mathlib.Numerals.{add-one}
 use native.Mathlib.Omega.{arith}
 use lib.Arith.{lt-of-le-ne}
 use lib.ListN.{length, getD, take, drop, set, length-append, length-drop, length-set, take-append-drop}
-use lib.Seq.{length-take-le, take-at, drop-at, take-append-le, drop-append-le, drop-drop, take-take, getD-set-same, getD-set-other, getD-take, getD-drop, take-set-le, drop-set-add}
+use lib.Seq.{length-take-le, take-at, drop-at, take-append-le, drop-append-le, drop-drop, getD-set-same, getD-set-other, getD-drop, take-set-le, drop-set-add}
 use Rattle.group.specs.declared.Group.{Group}
 use Rattle.group.specs.Group.{united}
 use Rattle.group.proofs.Outcomes.{united-eight}
@@ -90,10 +89,10 @@ module _ (w : ℕ) (row : List ℕ) (g : ℕ) (x : Group) (eight : length (x .co
   unfolding groupAt withGroup pasted
   group-same =
       let eight-of : take 8 (drop (8 * g) (set pasted (w + g) (x .merge))) ≡ x .counts =
-          past g counts
-          ∙ ap (λ (l : List ℕ). take 8 (drop (8 * g) l)) (append-assoc (take (8 * g) row) (x .counts) (drop (8 * g + 8) row))
-          ∙ ap (take 8) (drop-at (take (8 * g) row) (x .counts ++ drop (8 * g + 8) row) (8 * g) front)
-          ∙ take-at (x .counts) (drop (8 * g + 8) row) 8 eight in
+      past g counts
+      ∙ ap (λ (l : List ℕ). take 8 (drop (8 * g) l)) (append-assoc (take (8 * g) row) (x .counts) (drop (8 * g + 8) row))
+      ∙ ap (take 8) (drop-at (take (8 * g) row) (x .counts ++ drop (8 * g + 8) row) (8 * g) front)
+      ∙ take-at (x .counts) (drop (8 * g + 8) row) 8 eight in
       let byte : getD (set pasted (w + g) (x .merge)) (w + g) 0 ≡ x .merge = getD-set-same pasted (w + g) (x .merge) 0 (rw length-pasted merge) in
       rw (eight-of, byte)
 
@@ -122,9 +121,9 @@ module _ (w : ℕ) (row : List ℕ) (g : ℕ) (x : Group) (eight : length (x .co
   unfolding groupAt withGroup pasted
   group-other k h n =
       let byte : getD (set pasted (w + g) (x .merge)) (w + k) 0 ≡ getD row (w + k) 0 =
-          getD-set-other pasted (w + g) (w + k) (x .merge) 0 (λ e. n (omega arith)) ∙ merge-other k in
+      getD-set-other pasted (w + g) (w + k) (x .merge) 0 (λ e. n (omega arith)) ∙ merge-other k in
       let eight-of : take 8 (drop (8 * k) (set pasted (w + g) (x .merge))) ≡ take 8 (drop (8 * k) row) =
-          past k h ∙ elim (decLt k g) [ yes l ↦ counts-before k l | no m ↦ ap (take 8) (counts-after k (lt-of-le-ne (omega arith) (λ e. n (sym e)))) ] in
+      past k h ∙ elim (decLt k g) [ yes l ↦ counts-before k l | no m ↦ ap (take 8) (counts-after k (lt-of-le-ne (omega arith) (λ e. n (sym e)))) ] in
       rw (eight-of, byte)
 
 -- count bytes of a group that lies in the row
@@ -165,9 +164,10 @@ module _ (w : ℕ) (source : List ℕ) where
       let eight = united-eights row g (omega arith) (omega arith) in
       let e = length-with w row g x eight (omega arith) (omega arith) in
       elim (decLt g k) [
-        yes m ↦
-          united-from n (g + 1) next (omega arith) (omega (arith, e)) k (omega arith) (omega arith)
-          ∙ ap (λ (y : Group). united y (groupAt w source k) .group) (group-other w row g x eight (omega arith) (omega arith) k (omega arith) (λ z. omega arith))
+        | yes m ↦
+            united-from n (g + 1) next (omega arith) (omega (arith, e)) k (omega arith) (omega arith)
+            ∙ ap (λ (y : Group). united y (groupAt w source k) .group) (group-other w row g x eight (omega arith) (omega arith) k (omega arith) (λ z. omega arith))
         | no m ↦
-          let z : k ≡ g = omega arith in
-          rw z (united-before n (g + 1) next (omega arith) (omega (arith, e)) g (omega arith) ∙ group-same w row g x eight (omega arith) (omega arith)) ]
+            let z : k ≡ g = omega arith in
+            rw z (united-before n (g + 1) next (omega arith) (omega (arith, e)) g (omega arith) ∙ group-same w row g x eight (omega arith) (omega arith))
+      ]

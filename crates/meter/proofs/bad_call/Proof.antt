@@ -1,28 +1,20 @@
-use mathlib.Core.Path.{_≡_, refl, sym, ap, ap₂, _∙_}
+use mathlib.Core.Path.{sym, _∙_}
 use Rattle.meter.proofs.Calls.{call-shape-bad, call-key}
 use borrow.Author.Needs.{needs}
 use Rattle.meter.proofs.bad_call.Statement.{statement}
 use Rattle.meter.proofs.bad_call.Tie as tie
-use Rattle.meter.proofs.bad_call.Reads as reads
-use Rattle.meter.proofs.bad_call.Lts as lts
-use Rattle.row.proofs.bad_key.Reads as bad-key-reads
-use Rattle.row.proofs.bad_shape.Reads as bad-shape-reads
 
--- src/lib.rt:43:9
 bad-shape-requires : tie.Need-bad-shape-requires
 bad-shape-requires c κs = search needs
 
--- src/lib.rt:45:9
 returns : tie.Need-returns
 returns c = let a = c .before .before .before .before .args in
     let e = c .before .bad-shape .ensures in
     e ∙ call-shape-bad (a .d) (a .w) (a .memory .now) (a .key .now) (λ z. c .if1 .taken (e ∙ z))
 
--- src/lib.rt:47:5
 bad-key-requires : tie.Need-bad-key-requires
 bad-key-requires c κs = search needs
 
--- src/lib.rt:40:1
 returns-2 : tie.Need-returns-2
 returns-2 c = let a = c .before .before .before .before .before .args in
     c .bad-key .ensures ∙ call-key (a .d) (a .w) (a .memory .now) (a .key .now) (sym (c .before .before .bad-shape .ensures) ∙ c .before .if1 .left)

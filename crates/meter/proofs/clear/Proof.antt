@@ -1,41 +1,29 @@
-use mathlib.Core.Path.{_≡_, refl, sym, ap, ap₂, _∙_}
+use mathlib.Core.Path.{sym, _∙_}
 use Rattle.meter.proofs.Calls.{cleared-bad, cleared-good}
 use borrow.Author.Needs.{needs}
 use Rattle.meter.proofs.clear.Statement.{statement}
 use Rattle.meter.proofs.clear.Tie as tie
-use Rattle.meter.proofs.clear.Reads as reads
-use Rattle.meter.proofs.clear.Lts as lts
-use Rattle.meter.proofs.fill.Reads as fill-reads
-use Rattle.row.proofs.answer.Reads as answer-reads
-use Rattle.row.proofs.bad_shape.Reads as bad-shape-reads
 
--- src/lib.rt:32:9
 bad-shape-requires : tie.Need-bad-shape-requires
 bad-shape-requires c κs = search needs
 
--- src/lib.rt:34:9
 answer-requires : tie.Need-answer-requires
 answer-requires c κs = search needs
 
--- src/lib.rt:34:9
 returns : tie.Need-returns
 returns c = let a = c .before .before .before .before .args in
     let p = cleared-bad (a .d) (a .w) (a .memory .now) (c .before .before .bad-shape .result) (c .before .before .bad-shape .ensures) (c .before .if1 .taken) in
     (c .answer .ensures ∙ p .0, p .1)
 
--- src/lib.rt:36:5
 fill-requires : tie.Need-fill-requires
 fill-requires c κs = search needs
 
--- src/lib.rt:37:5
 answer-requires-2 : tie.Need-answer-requires-2
 answer-requires-2 c κs = search needs
 
--- src/lib.rt:28:1
 same-length : tie.Need-same-length
 same-length c = search needs
 
--- src/lib.rt:28:1
 returns-2 : tie.Need-returns-2
 returns-2 c = let a = c .before .before .before .before .before .before .before .before .args in
     let p = cleared-good (a .d) (a .w) (a .memory .now) (sym (c .before .before .before .before .before .before .bad-shape .ensures) ∙ c .before .before .before .before .before .if1 .left) in

@@ -1,39 +1,28 @@
-use mathlib.Core.Path.{_≡_, refl, sym, ap, ap₂, _∙_}
+use mathlib.Core.Path.{sym, ap₂, _∙_}
 use Rattle.meter.proofs.Gather.{shape-good}
 use Rattle.row.specs.Order.{answerOf}
 use Rattle.meter.proofs.Calls.{call-good, estimated-bad, estimated-good}
 use borrow.Author.Needs.{needs}
 use Rattle.meter.proofs.estimate.Statement.{statement}
 use Rattle.meter.proofs.estimate.Tie as tie
-use Rattle.meter.proofs.estimate.Reads as reads
-use Rattle.meter.proofs.estimate.Lts as lts
-use Rattle.meter.proofs.bad_call.Reads as bad-call-reads
-use Rattle.meter.proofs.read_rows.Reads as read-rows-reads
-use Rattle.row.proofs.answer.Reads as answer-reads
 
--- src/lib.rt:135:9
 bad-call-requires : tie.Need-bad-call-requires
 bad-call-requires c κs = search needs
 
--- src/lib.rt:137:9
 answer-requires : tie.Need-answer-requires
 answer-requires c κs = search needs
 
--- src/lib.rt:137:9
 returns : tie.Need-returns
 returns c = let a = c .before .before .before .before .before .args in
     c .answer .ensures ∙ estimated-bad (a .d) (a .w) (a .memory .now) (a .key .now) (c .before .before .bad-call .result) (c .before .before .bad-call .ensures) (c .before .if1 .taken)
 
--- src/lib.rt:139:9
 read-rows-requires : tie.Need-read-rows-requires
 read-rows-requires c κs = let a = c .before .before .before .before .args in
     shape-good (a .d) (a .w) _ (call-good (a .d) (a .w) (a .memory .now) (a .key .now) (sym (c .before .bad-call .ensures) ∙ c .if1 .left))
 
--- src/lib.rt:140:5
 answer-requires-2 : tie.Need-answer-requires-2
 answer-requires-2 c κs = search needs
 
--- src/lib.rt:132:1
 returns-2 : tie.Need-returns-2
 returns-2 c = let a = c .before .before .before .before .before .before .args in
     let found = c .before .read-rows .ensures in

@@ -1,16 +1,12 @@
-use lib.ListN.{length, take, drop, replicate, length-set}
+use lib.ListN.{length, take, replicate, length-set}
 use lib.Seq.{take-all}
-use mathlib.Core.Path.{_≡_, refl, sym, ap, ap₂, _∙_}
-use Prim.Native.Nat.{ℕ, _+_, _-_, _*_, _/_, _%_, _^_, _≤_, _<_, min, max}
+use mathlib.Core.Path.{_≡_, refl, sym, ap, _∙_}
+use Prim.Native.Nat.{ℕ, _-_, _≤_}
 use native.Mathlib.Omega.{arith}
 use borrow.Author.Needs.{needs}
-use mathlib.Core.List.{_++_}
-use lib.ListN.{length, drop, replicate, length-set}
 use Rattle.meter.proofs.Gather.{zeros-turn}
 use Rattle.meter.proofs.fill.Statement.{statement}
 use Rattle.meter.proofs.fill.Tie as tie
-use Rattle.meter.proofs.fill.Reads as reads
-use Rattle.meter.proofs.fill.Lts as lts
 
 abbrev Inv-loop : tie.InvT-loop
 Inv-loop memory₀ i₀ i-end memory i = (i ≤ i-end) × (i-end ≡ length memory₀) × (length memory ≡ length memory₀) × (take i memory ≡ replicate i 0)
@@ -18,32 +14,25 @@ Inv-loop memory₀ i₀ i-end memory i = (i ≤ i-end) × (i-end ≡ length memo
 abbrev μ-loop : tie.MeasureT-loop
 μ-loop memory₀ i₀ i-end memory i = i-end - i
 
--- src/lib.rt:22:5
 loop-holds : tie.Need-loop-holds Inv-loop μ-loop
 loop-holds c = (omega arith, refl, refl, refl)
 
--- src/lib.rt:23:9
 slice-write-memory : tie.Need-slice-write-memory Inv-loop μ-loop
 slice-write-memory c = search needs
 
--- src/lib.rt:22:9
 add-i : tie.Need-add-i Inv-loop μ-loop
 add-i c = search needs
 
--- src/lib.rt:22:5
 loop-less : tie.Need-loop-less Inv-loop μ-loop
 loop-less c = search needs
 
--- src/lib.rt:22:5
 loop-again : tie.Need-loop-again Inv-loop μ-loop
 loop-again c = let l = c .before .loop in
     (omega arith, l .inv .1, length-set (l .memory) (l .i) 0 ∙ l .inv .2, zeros-turn (l .memory) (l .i) (omega arith) (l .inv .3))
 
--- src/lib.rt:19:1
 same-length : tie.Need-same-length Inv-loop μ-loop
 same-length c = search needs
 
--- src/lib.rt:19:1
 returns : tie.Need-returns Inv-loop μ-loop
 returns c = let l = c .before .loop in
     let e : l .i ≡ length (c .before .before .args .memory .now) = omega arith in

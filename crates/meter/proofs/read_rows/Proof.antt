@@ -1,27 +1,19 @@
-use mathlib.Core.Path.{_≡_, refl, sym, ap, ap₂, _∙_}
-use Prim.Native.Nat.{ℕ, _+_, _-_, _*_, _/_, _≤_, _<_, min, max}
+use mathlib.Core.Path.{_≡_, sym, ap, ap₂, _∙_}
+use Prim.Native.Nat.{ℕ, _-_, _*_, _≤_}
 use native.Mathlib.Omega.{arith}
 use borrow.Author.Needs.{needs}
 use mathlib.Core.List.{List}
-use Rattle.row.specs.Geometry.{RowsIn}
 use Rattle.row.specs.Geometry.{stride}
-use Rattle.meter.specs.Meter.{rowOf, readStatus, readValue, rowStatus, rowLevel, sourceStatus, sourceAdded}
-use lib.ListN.{length, drop}
+use Rattle.meter.specs.Meter.{rowOf, readStatus, readValue}
+use lib.ListN.{drop}
 use Rattle.row.specs.Order.{earlier, earliest}
-use Rattle.row.specs.Rows.{ofRows, mapRows, least, leastOr, largest}
-use Rattle.row.specs.Row.{updateStatus, updateRow, readRow, widestStatus, widestRow, uniteStatus, uniteRow}
+use Rattle.row.specs.Rows.{ofRows, least, leastOr}
+use Rattle.row.specs.Row.{readRow}
 use Rattle.group.specs.Hash.{basis}
-use Rattle.meter.proofs.Gather.{one-row, status-turn, status-end, level-turn, level-end, least-start, least-turn, least-end, statuses-start, rows-start, levels-start}
+use Rattle.meter.proofs.Gather.{one-row, status-turn, status-end, least-start, least-turn, least-end, statuses-start}
 use Rattle.group.specs.declared.Reading.{Reading}
 use Rattle.meter.proofs.read_rows.Statement.{statement}
 use Rattle.meter.proofs.read_rows.Tie as tie
-use Rattle.meter.proofs.read_rows.Reads as reads
-use Rattle.meter.proofs.read_rows.Lts as lts
-use Rattle.group.proofs.hash.Hash.start.Reads as start-reads
-use Rattle.meter.proofs.row_at.Reads as row-at-reads
-use Rattle.meter.proofs.smaller.Reads as smaller-reads
-use Rattle.row.proofs.earlier.Reads as earlier-reads
-use Rattle.row.proofs.read_row.Reads as read-row-reads
 
 abbrev Inv-loop : tie.InvT-loop
 Inv-loop d w memory key status₀ value₀ r₀ status value r = (1 ≤ r) × (r ≤ d)
@@ -36,75 +28,67 @@ first c =
     let a = c .before .before .before .before .before .args in
     c .read-row .ensures ∙ ap₂ (λ (h : ℕ) (row : List ℕ). readRow h (a .w) (a .key .now) 0 row) (c .before .start .ensures) (c .before .before .row-at .ensures .0)
 
--- src/lib.rt:116:31
 row-at-requires : tie.Need-row-at-requires Inv-loop μ-loop
 row-at-requires c κs = one-row (c .before .before .args .d) (c .before .before .args .w) 0 (c .before .before .pre .1) (c .before .before .pre .0)
 
--- src/lib.rt:116:53
 start-requires : tie.Need-start-requires Inv-loop μ-loop
 start-requires c κs = search needs
 
--- src/lib.rt:116:9
 read-row-requires : tie.Need-read-row-requires Inv-loop μ-loop
 read-row-requires c κs = (c .before .before .before .before .pre .1 .0, (c .before .row-at .ensures .1, omega arith))
 
--- src/lib.rt:119:5
 loop-holds : tie.Need-loop-holds Inv-loop μ-loop
 unfolding readStatus readValue
 loop-holds c = let s = c .before .before .before .before .before in
-    let a = s .args in
-    (omega arith, omega arith,
-    ap (λ (x : ℕ). earlier x (earliest (ofRows (readStatus (a .w) (a .key .now)) (stride (a .w)) (a .d - 1) 1 (drop (1 * stride (a .w)) (a .memory .now))))) (ap (λ (x : Reading). x .status) (first c))
-    ∙ statuses-start (readStatus (a .w) (a .key .now)) (a .w) (a .d) (a .memory .now) (s .pre .0),
-    ap (λ (x : ℕ). leastOr x (ofRows (readValue (a .w) (a .key .now)) (stride (a .w)) (a .d - 1) 1 (drop (1 * stride (a .w)) (a .memory .now)))) (ap (λ (x : Reading). x .value) (first c))
-    ∙ least-start (readValue (a .w) (a .key .now)) (a .w) (a .d) (a .memory .now) (s .pre .0))
+    let a = s .args in (
+      omega arith,
+      omega arith,
+      ap (λ (x : ℕ). earlier x (earliest (ofRows (readStatus (a .w) (a .key .now)) (stride (a .w)) (a .d - 1) 1 (drop (1 * stride (a .w)) (a .memory .now))))) (ap (λ (x : Reading). x .status) (first c))
+          ∙ statuses-start (readStatus (a .w) (a .key .now)) (a .w) (a .d) (a .memory .now) (s .pre .0),
+      ap (λ (x : ℕ). leastOr x (ofRows (readValue (a .w) (a .key .now)) (stride (a .w)) (a .d - 1) 1 (drop (1 * stride (a .w)) (a .memory .now)))) (ap (λ (x : Reading). x .value) (first c))
+          ∙ least-start (readValue (a .w) (a .key .now)) (a .w) (a .d) (a .memory .now) (s .pre .0),
+    )
 
--- src/lib.rt:120:31
 row-at-requires-2 : tie.Need-row-at-requires-2 Inv-loop μ-loop
 row-at-requires-2 c κs = one-row _ _ _ (c .before .before .before .before .before .before .before .pre .1) (c .loop-test .taken)
 
--- src/lib.rt:120:53
 start-requires-2 : tie.Need-start-requires-2 Inv-loop μ-loop
 start-requires-2 c κs = search needs
 
--- src/lib.rt:120:13
 read-row-requires-2 : tie.Need-read-row-requires-2 Inv-loop μ-loop
 read-row-requires-2 c κs = (c .before .before .before .before .before .before .before .before .before .pre .1 .0, (c .before .row-at2 .ensures .1, omega arith))
 
--- src/lib.rt:121:9
 earlier-requires : tie.Need-earlier-requires Inv-loop μ-loop
 earlier-requires c κs = search needs
 
--- src/lib.rt:122:9
 smaller-requires : tie.Need-smaller-requires Inv-loop μ-loop
 smaller-requires c κs = search needs
 
--- src/lib.rt:119:9
 add-r : tie.Need-add-r Inv-loop μ-loop
 add-r c = search needs
 
--- src/lib.rt:119:5
 loop-less : tie.Need-loop-less Inv-loop μ-loop
 loop-less c = search needs
 
--- src/lib.rt:119:5
 loop-again : tie.Need-loop-again Inv-loop μ-loop
 unfolding readStatus readValue
 loop-again c = let a = c .before .before .before .before .before .before .before .before .before .before .before .before .args in
     let l = c .before .before .before .before .before .before .loop in
-    let e = c .before .before .read-row2 .ensures ∙ ap₂ (λ (h : ℕ) (row : List ℕ). readRow h (a .w) (a .key .now) (l .r) row) (c .before .before .before .start2 .ensures) (c .before .before .before .before .row-at2 .ensures .0) in
-    (omega arith, omega arith,
-    rw (c .before .earlier .ensures)
-    (status-turn (readStatus (a .w) (a .key .now)) (a .w) (a .d) (l .r) (a .memory .now) (l .status) (c .before .before .read-row2 .result .status) (omega arith) (ap (λ (x : Reading). x .status) e) ∙ l .inv .2),
-    rw (c .smaller .ensures)
-    (least-turn (readValue (a .w) (a .key .now)) (a .w) (a .d) (a .memory .now) (l .r) (l .value) (c .before .before .read-row2 .result .value) (omega arith) (ap (λ (x : Reading). x .value) e) ∙ l .inv .3))
+    let e = c .before .before .read-row2 .ensures ∙ ap₂ (λ (h : ℕ) (row : List ℕ). readRow h (a .w) (a .key .now) (l .r) row) (c .before .before .before .start2 .ensures) (c .before .before .before .before .row-at2 .ensures .0) in (
+      omega arith,
+      omega arith,
+      rw (c .before .earlier .ensures)
+          (status-turn (readStatus (a .w) (a .key .now)) (a .w) (a .d) (l .r) (a .memory .now) (l .status) (c .before .before .read-row2 .result .status) (omega arith) (ap (λ (x : Reading). x .status) e) ∙ l .inv .2),
+      rw (c .smaller .ensures)
+          (least-turn (readValue (a .w) (a .key .now)) (a .w) (a .d) (a .memory .now) (l .r) (l .value) (c .before .before .read-row2 .result .value) (omega arith) (ap (λ (x : Reading). x .value) e) ∙ l .inv .3),
+    )
 
--- src/lib.rt:111:1
 returns : tie.Need-returns Inv-loop μ-loop
 returns c = let a = c .before .before .before .before .before .before .before .args in
-    let l = c .before .loop in
-    (sym (status-end (readStatus (a .w) (a .key .now)) (a .w) (a .d) (l .r) (a .memory .now) (l .status) (omega arith)) ∙ l .inv .2,
-    sym (least-end (readValue (a .w) (a .key .now)) (a .w) (a .d) (a .memory .now) (l .r) (l .value) (omega arith)) ∙ l .inv .3)
+    let l = c .before .loop in (
+      sym (status-end (readStatus (a .w) (a .key .now)) (a .w) (a .d) (l .r) (a .memory .now) (l .status) (omega arith)) ∙ l .inv .2,
+      sym (least-end (readValue (a .w) (a .key .now)) (a .w) (a .d) (a .memory .now) (l .r) (l .value) (omega arith)) ∙ l .inv .3,
+    )
 
 pub read-rows-spec : {M : Type 1} → statement M
 read-rows-spec =

@@ -1,73 +1,54 @@
-use mathlib.Core.Path.{_≡_, refl, sym, ap, ap₂, _∙_}
+use mathlib.Core.Path.{sym, _∙_}
 use Rattle.meter.proofs.Gather.{shape-good}
 use Rattle.meter.proofs.Calls.{united-bad, united-length, united-full, united-good}
 use borrow.Author.Needs.{needs}
 use Rattle.meter.proofs.unite.Statement.{statement}
 use Rattle.meter.proofs.unite.Tie as tie
-use Rattle.meter.proofs.unite.Reads as reads
-use Rattle.meter.proofs.unite.Lts as lts
-use Rattle.meter.proofs.unite_rows.Reads as unite-rows-reads
-use Rattle.meter.proofs.unite_status.Reads as unite-status-reads
-use Rattle.row.proofs.answer.Reads as answer-reads
-use Rattle.row.proofs.bad_shape.Reads as bad-shape-reads
 
--- src/lib.rt:214:9
 bad-shape-requires : tie.Need-bad-shape-requires
 bad-shape-requires c κs = search needs
 
--- src/lib.rt:216:9
 answer-requires : tie.Need-answer-requires
 answer-requires c κs = search needs
 
--- src/lib.rt:216:9
 returns : tie.Need-returns
 returns c = let a = c .before .before .before .before .before .args in
     let p = united-bad (a .d) (a .w) (a .memory .now) (a .source .now) (c .before .before .bad-shape .result) (c .before .before .bad-shape .ensures) (c .before .if1 .taken) in
     (c .answer .ensures ∙ p .0, p .1)
 
--- src/lib.rt:219:9
 answer-requires-2 : tie.Need-answer-requires-2
 answer-requires-2 c κs = search needs
 
--- src/lib.rt:219:9
 returns-2 : tie.Need-returns-2
 returns-2 c = let a = c .before .before .before .before .before .before .args in
     let p = united-length (a .d) (a .w) (a .memory .now) (a .source .now) (sym (c .before .before .before .bad-shape .ensures) ∙ c .before .before .if1 .left) (c .before .if2 .taken) in
     (c .answer2 .ensures ∙ p .0, p .1)
 
--- src/lib.rt:221:9
 unite-status-requires : tie.Need-unite-status-requires
 unite-status-requires c κs = let a = c .before .before .before .before .before .before .args in
     (shape-good (a .d) (a .w) _ (sym (c .before .before .before .bad-shape .ensures) ∙ c .before .before .if1 .left) .1, c .before .if2 .left)
 
--- src/lib.rt:223:9
 answer-requires-3 : tie.Need-answer-requires-3
 answer-requires-3 c κs = search needs
 
--- src/lib.rt:223:9
 same-length : tie.Need-same-length
 same-length c = search needs
 
--- src/lib.rt:223:9
 returns-3 : tie.Need-returns-3
 returns-3 c = let a = c .before .before .before .before .before .before .before .before .before .args in
     let p = united-full (a .d) (a .w) (a .memory .now) (a .source .now) (sym (c .before .before .before .before .before .before .bad-shape .ensures) ∙ c .before .before .before .before .before .if1 .left) (c .before .before .before .before .if2 .left) (c .before .before .unite-status .result) (c .before .before .unite-status .ensures) (c .before .if3 .taken) in
     (c .answer3 .ensures ∙ p .0, p .1)
 
--- src/lib.rt:225:5
 unite-rows-requires : tie.Need-unite-rows-requires
 unite-rows-requires c κs = let a = c .before .before .before .before .before .before .before .before .before .args in
     (shape-good (a .d) (a .w) _ (sym (c .before .before .before .before .before .before .bad-shape .ensures) ∙ c .before .before .before .before .before .if1 .left) .1, c .before .before .before .before .if2 .left)
 
--- src/lib.rt:226:5
 answer-requires-4 : tie.Need-answer-requires-4
 answer-requires-4 c κs = search needs
 
--- src/lib.rt:210:1
 same-length-2 : tie.Need-same-length-2
 same-length-2 c = search needs
 
--- src/lib.rt:210:1
 returns-4 : tie.Need-returns-4
 returns-4 c = let a = c .before .before .before .before .before .before .before .before .before .before .before .before .before .args in
     let p = united-good (a .d) (a .w) (a .memory .now) (a .source .now) (sym (c .before .before .before .before .before .before .before .before .before .before .bad-shape .ensures) ∙ c .before .before .before .before .before .before .before .before .before .if1 .left) (c .before .before .before .before .before .before .before .before .if2 .left) (sym (c .before .before .before .before .before .before .unite-status .ensures) ∙ c .before .before .before .before .before .if3 .left) in

@@ -1,22 +1,16 @@
 use mathlib.Core.Path.{_≡_, refl, sym, ap, ap₂, _∙_}
-use Prim.Native.Nat.{ℕ, _+_, _-_, _*_, _/_, _≤_, _<_, min, max}
+use Prim.Native.Nat.{ℕ, _+_, _-_, _*_, _≤_}
 use native.Mathlib.Omega.{arith}
 use borrow.Author.Needs.{needs}
 use mathlib.Core.List.{List}
-use lib.ListN.{length, take, drop}
+use lib.ListN.{length}
 use Rattle.row.specs.Rows.{mapRows}
-use Rattle.row.specs.Row.{updateRow, uniteRow}
-use Rattle.meter.specs.Meter.{rowOf, sourceAdded}
-use Rattle.row.proofs.Lists.{row-in, lent, rowsFrom, rows-start, rows-turn, rows-end}
-use Rattle.row.specs.Geometry as geometry
+use Rattle.row.specs.Row.{uniteRow}
+use Rattle.meter.specs.Meter.{sourceAdded}
+use Rattle.row.proofs.Lists.{lent, rowsFrom, rows-start, rows-turn, rows-end}
 use Rattle.meter.proofs.Gather.{one-row}
 use Rattle.meter.proofs.unite_rows.Statement.{statement}
 use Rattle.meter.proofs.unite_rows.Tie as tie
-use Rattle.meter.proofs.unite_rows.Reads as reads
-use Rattle.meter.proofs.unite_rows.Lts as lts
-use Rattle.meter.proofs.row_at.Reads as row-at-reads
-use Rattle.row.proofs.stride.Reads as stride-reads
-use Rattle.row.proofs.unite_row.Reads as unite-row-reads
 
 abbrev Inv-loop : tie.InvT-loop
 Inv-loop d w memory₀ source stride r₀ memory r = (r ≤ d) × (rowsFrom (sourceAdded w source) stride d r memory ≡ mapRows (sourceAdded w source) stride d 0 memory₀) × (length memory ≡ length memory₀)
@@ -31,55 +25,43 @@ row-end c =
     let i = one-row (s .args .d) (s .args .w) (c .before .loop .r) (s .pre .0) (c .loop-test .taken) in
     rw (c .before .before .stride .ensures) (omega (arith, i .2))
 
--- src/lib.rt:199:9
 stride-requires : tie.Need-stride-requires Inv-loop μ-loop
 stride-requires c κs = c .before .before .pre .0 .0
 
--- src/lib.rt:200:5
 loop-holds : tie.Need-loop-holds Inv-loop μ-loop
 loop-holds c = let a = c .before .before .before .args in
     (omega arith, rows-start (sourceAdded (a .w) (a .source .now)) (c .stride .result) (a .d) (a .memory .now), refl)
 
--- src/lib.rt:201:17
-mul-a : tie.Need-mul-a Inv-loop μ-loop
-mul-a c = omega (arith, row-end c)
+mul-start : tie.Need-mul-start Inv-loop μ-loop
+mul-start c = omega (arith, row-end c)
 
--- src/lib.rt:202:17
-add-e : tie.Need-add-e Inv-loop μ-loop
-add-e c = omega (arith, row-end c)
+add-end : tie.Need-add-end Inv-loop μ-loop
+add-end c = omega (arith, row-end c)
 
--- src/lib.rt:203:24
 sub-unite-row : tie.Need-sub-unite-row Inv-loop μ-loop
 sub-unite-row c = search needs
 
--- src/lib.rt:203:24
 part-unite-row-start : tie.Need-part-unite-row-start Inv-loop μ-loop
 part-unite-row-start c = search needs
 
--- src/lib.rt:203:24
 part-unite-row-end : tie.Need-part-unite-row-end Inv-loop μ-loop
 part-unite-row-end c = omega (arith, row-end c)
 
--- src/lib.rt:203:43
 row-at-requires : tie.Need-row-at-requires Inv-loop μ-loop
 row-at-requires c κs = let s = c .before .before .before .before .before .before in
     let i = one-row (s .args .d) (s .args .w) (c .before .before .loop .r) (s .pre .0) (c .before .loop-test .taken) in
     (i .0, i .1, omega (arith, i .2))
 
--- src/lib.rt:203:9
 unite-row-requires : tie.Need-unite-row-requires Inv-loop μ-loop
 unite-row-requires c κs = let s = c .before .before .before .before .before .before .before in
     (s .pre .0 .0, (omega (arith, row-end (c .before .before), c .before .before .before .before .stride .ensures), c .row-at .ensures .1))
 
--- src/lib.rt:200:9
 add-r : tie.Need-add-r Inv-loop μ-loop
 add-r c = search needs
 
--- src/lib.rt:200:5
 loop-less : tie.Need-loop-less Inv-loop μ-loop
 loop-less c = search needs
 
--- src/lib.rt:200:5
 loop-again : tie.Need-loop-again Inv-loop μ-loop
 unfolding sourceAdded
 loop-again c = let a = c .before .before .before .before .before .before .before .before .before .before .args in
@@ -90,11 +72,9 @@ loop-again c = let a = c .before .before .before .before .before .before .before
     let e = back .ensures ∙ ap₂ (λ (source row : List ℕ). uniteRow (a .w) source row) (c .before .before .before .row-at .ensures .0) (lent (l .r * stride) stride (l .memory)) in
     (omega arith, rows-turn (sourceAdded (a .w) (a .source .now)) stride (a .d) (l .r) (l .memory) (back .last .0) (omega arith) fit (omega (arith, fit)) e ∙ l .inv .1, omega arith)
 
--- src/lib.rt:195:1
 same-length : tie.Need-same-length Inv-loop μ-loop
 same-length c = search needs
 
--- src/lib.rt:195:1
 returns : tie.Need-returns Inv-loop μ-loop
 returns c = let a = c .before .before .before .before .before .args in
     let l = c .before .loop in
@@ -110,8 +90,8 @@ unite-rows-spec =
     μ-loop
     stride-requires
     loop-holds
-    mul-a
-    add-e
+    mul-start
+    add-end
     sub-unite-row
     part-unite-row-start
     part-unite-row-end

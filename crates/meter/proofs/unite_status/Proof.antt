@@ -1,23 +1,17 @@
-use mathlib.Core.Path.{_≡_, refl, sym, ap, ap₂, _∙_}
-use Prim.Native.Nat.{ℕ, _+_, _-_, _*_, _/_, _≤_, _<_, min, max}
+use mathlib.Core.Path.{_≡_, sym, ap₂, _∙_}
+use Prim.Native.Nat.{ℕ, _-_, _*_, _≤_}
 use native.Mathlib.Omega.{arith}
 use borrow.Author.Needs.{needs}
 use mathlib.Core.List.{List}
-use Rattle.row.specs.Geometry.{RowsIn}
 use Rattle.row.specs.Geometry.{stride}
-use Rattle.meter.specs.Meter.{rowOf, readStatus, readValue, rowStatus, rowLevel, sourceStatus, sourceAdded}
-use lib.ListN.{length, drop}
+use Rattle.meter.specs.Meter.{sourceStatus}
+use lib.ListN.{drop}
 use Rattle.row.specs.Order.{earlier, earliest}
-use Rattle.row.specs.Rows.{ofRows, mapRows, least, leastOr, largest}
-use Rattle.row.specs.Row.{updateStatus, updateRow, readRow, widestStatus, widestRow, uniteStatus, uniteRow}
-use Rattle.meter.proofs.Gather.{one-row, status-turn, status-end, level-turn, level-end, least-start, least-turn, least-end, statuses-start, rows-start, levels-start}
+use Rattle.row.specs.Rows.{ofRows}
+use Rattle.row.specs.Row.{uniteStatus}
+use Rattle.meter.proofs.Gather.{one-row, status-turn, status-end, rows-start}
 use Rattle.meter.proofs.unite_status.Statement.{statement}
 use Rattle.meter.proofs.unite_status.Tie as tie
-use Rattle.meter.proofs.unite_status.Reads as reads
-use Rattle.meter.proofs.unite_status.Lts as lts
-use Rattle.meter.proofs.row_at.Reads as row-at-reads
-use Rattle.row.proofs.earlier.Reads as earlier-reads
-use Rattle.row.proofs.unite_status.Reads as unite-status-reads
 
 abbrev Inv-loop : tie.InvT-loop
 Inv-loop d w memory source status₀ r₀ status r = (r ≤ d) × (earlier status (earliest (ofRows (sourceStatus w source) (stride w) (d - r) r (drop (r * stride w) memory))) ≡ earliest (ofRows (sourceStatus w source) (stride w) d 0 memory))
@@ -25,47 +19,39 @@ Inv-loop d w memory source status₀ r₀ status r = (r ≤ d) × (earlier statu
 abbrev μ-loop : tie.MeasureT-loop
 μ-loop d w memory source status₀ r₀ status r = d - r
 
--- src/lib.rt:187:5
 loop-holds : tie.Need-loop-holds Inv-loop μ-loop
 loop-holds c = let a = c .before .before .args in
     (omega arith, rows-start (sourceStatus (a .w) (a .source .now)) (a .w) (a .d) (a .memory .now))
 
--- src/lib.rt:188:38
 row-at-requires : tie.Need-row-at-requires Inv-loop μ-loop
 row-at-requires c κs = one-row _ _ _ (c .before .before .before .before .pre .0) (c .loop-test .taken)
 
--- src/lib.rt:188:60
 row-at-requires-2 : tie.Need-row-at-requires-2 Inv-loop μ-loop
 row-at-requires-2 c κs = let i = one-row (c .before .before .before .before .before .args .d) (c .before .before .before .before .before .args .w) _ (c .before .before .before .before .before .pre .0) (c .before .loop-test .taken) in
     (i .0, i .1, omega (arith, i .2))
 
--- src/lib.rt:188:13
 unite-status-requires : tie.Need-unite-status-requires Inv-loop μ-loop
 unite-status-requires c κs = (c .before .before .before .before .before .before .pre .0 .0, (c .before .row-at .ensures .1, c .row-at2 .ensures .1))
 
--- src/lib.rt:189:9
 earlier-requires : tie.Need-earlier-requires Inv-loop μ-loop
 earlier-requires c κs = search needs
 
--- src/lib.rt:187:9
 add-r : tie.Need-add-r Inv-loop μ-loop
 add-r c = search needs
 
--- src/lib.rt:187:5
 loop-less : tie.Need-loop-less Inv-loop μ-loop
 loop-less c = search needs
 
--- src/lib.rt:187:5
 loop-again : tie.Need-loop-again Inv-loop μ-loop
 unfolding sourceStatus
 loop-again c = let a = c .before .before .before .before .before .before .before .before .args in
     let l = c .before .before .before .before .before .loop in
-    let e = c .before .unite-status .ensures ∙ ap₂ (λ (source row : List ℕ). uniteStatus (a .w) source row) (c .before .before .row-at2 .ensures .0) (c .before .before .before .row-at .ensures .0) in
-    (omega arith,
-    rw (c .earlier .ensures)
-    (status-turn (sourceStatus (a .w) (a .source .now)) (a .w) (a .d) (l .r) (a .memory .now) (l .status) (c .before .unite-status .result) (omega arith) e ∙ l .inv .1))
+    let e = c .before .unite-status .ensures ∙ ap₂ (λ (source row : List ℕ). uniteStatus (a .w) source row) (c .before .before .row-at2 .ensures .0) (c .before .before .before .row-at .ensures .0) in (
+      omega arith,
+      rw (c .earlier .ensures)
+          (status-turn (sourceStatus (a .w) (a .source .now)) (a .w) (a .d) (l .r) (a .memory .now) (l .status) (c .before .unite-status .result) (omega arith) e ∙ l .inv .1),
+    )
 
--- src/lib.rt:182:1
 returns : tie.Need-returns Inv-loop μ-loop
 returns c = let a = c .before .before .before .before .args in
     let l = c .before .loop in

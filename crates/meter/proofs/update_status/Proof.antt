@@ -1,25 +1,17 @@
-use mathlib.Core.Path.{_≡_, refl, sym, ap, ap₂, _∙_}
-use Prim.Native.Nat.{ℕ, _+_, _-_, _*_, _/_, _≤_, _<_, min, max}
+use mathlib.Core.Path.{_≡_, sym, ap₂, _∙_}
+use Prim.Native.Nat.{ℕ, _-_, _*_, _≤_}
 use native.Mathlib.Omega.{arith}
 use borrow.Author.Needs.{needs}
 use mathlib.Core.List.{List}
-use Rattle.row.specs.Geometry.{RowsIn}
 use Rattle.row.specs.Geometry.{stride}
-use Rattle.meter.specs.Meter.{rowOf, readStatus, readValue, rowStatus, rowLevel, sourceStatus, sourceAdded}
-use lib.ListN.{length, drop}
+use lib.ListN.{drop}
 use Rattle.row.specs.Order.{earlier, earliest}
-use Rattle.row.specs.Rows.{ofRows, mapRows, least, leastOr, largest}
-use Rattle.row.specs.Row.{updateStatus, updateRow, readRow, widestStatus, widestRow, uniteStatus, uniteRow}
+use Rattle.row.specs.Rows.{ofRows}
+use Rattle.row.specs.Row.{updateStatus}
 use Rattle.group.specs.Hash.{basis}
-use Rattle.meter.proofs.Gather.{one-row, status-turn, status-end, level-turn, level-end, least-start, least-turn, least-end, statuses-start, rows-start, levels-start}
+use Rattle.meter.proofs.Gather.{one-row, status-turn, status-end, rows-start}
 use Rattle.meter.proofs.update_status.Statement.{statement}
 use Rattle.meter.proofs.update_status.Tie as tie
-use Rattle.meter.proofs.update_status.Reads as reads
-use Rattle.meter.proofs.update_status.Lts as lts
-use Rattle.group.proofs.hash.Hash.start.Reads as start-reads
-use Rattle.meter.proofs.row_at.Reads as row-at-reads
-use Rattle.row.proofs.earlier.Reads as earlier-reads
-use Rattle.row.proofs.update_status.Reads as update-status-reads
 
 abbrev Inv-loop : tie.InvT-loop
 Inv-loop d w memory key amount status₀ r₀ status r = (r ≤ d) × (earlier status (earliest (ofRows (updateStatus basis w key amount) (stride w) (d - r) r (drop (r * stride w) memory))) ≡ earliest (ofRows (updateStatus basis w key amount) (stride w) d 0 memory))
@@ -27,46 +19,38 @@ Inv-loop d w memory key amount status₀ r₀ status r = (r ≤ d) × (earlier s
 abbrev μ-loop : tie.MeasureT-loop
 μ-loop d w memory key amount status₀ r₀ status r = d - r
 
--- src/lib.rt:68:5
 loop-holds : tie.Need-loop-holds Inv-loop μ-loop
 loop-holds c = let a = c .before .before .args in
     (omega arith, rows-start (updateStatus basis (a .w) (a .key .now) (a .amount)) (a .w) (a .d) (a .memory .now))
 
--- src/lib.rt:69:39
 row-at-requires : tie.Need-row-at-requires Inv-loop μ-loop
 row-at-requires c κs = one-row _ _ _ (c .before .before .before .before .pre) (c .loop-test .taken)
 
--- src/lib.rt:69:61
 start-requires : tie.Need-start-requires Inv-loop μ-loop
 start-requires c κs = search needs
 
--- src/lib.rt:69:13
 update-status-requires : tie.Need-update-status-requires Inv-loop μ-loop
 update-status-requires c κs = let s = c .before .before .before .before .before .before in
     (s .pre .0, (c .before .row-at .ensures .1, omega arith))
 
--- src/lib.rt:70:9
 earlier-requires : tie.Need-earlier-requires Inv-loop μ-loop
 earlier-requires c κs = search needs
 
--- src/lib.rt:68:9
 add-r : tie.Need-add-r Inv-loop μ-loop
 add-r c = search needs
 
--- src/lib.rt:68:5
 loop-less : tie.Need-loop-less Inv-loop μ-loop
 loop-less c = search needs
 
--- src/lib.rt:68:5
 loop-again : tie.Need-loop-again Inv-loop μ-loop
 loop-again c = let a = c .before .before .before .before .before .before .before .before .args in
     let l = c .before .before .before .before .before .loop in
-    let e = c .before .update-status .ensures ∙ ap₂ (λ (h : ℕ) (row : List ℕ). updateStatus h (a .w) (a .key .now) (a .amount) (l .r) row) (c .before .before .start .ensures) (c .before .before .before .row-at .ensures .0) in
-    (omega arith,
-    rw (c .earlier .ensures)
-    (status-turn (updateStatus basis (a .w) (a .key .now) (a .amount)) (a .w) (a .d) (l .r) (a .memory .now) (l .status) (c .before .update-status .result) (omega arith) e ∙ l .inv .1))
+    let e = c .before .update-status .ensures ∙ ap₂ (λ (h : ℕ) (row : List ℕ). updateStatus h (a .w) (a .key .now) (a .amount) (l .r) row) (c .before .before .start .ensures) (c .before .before .before .row-at .ensures .0) in (
+      omega arith,
+      rw (c .earlier .ensures)
+          (status-turn (updateStatus basis (a .w) (a .key .now) (a .amount)) (a .w) (a .d) (l .r) (a .memory .now) (l .status) (c .before .update-status .result) (omega arith) e ∙ l .inv .1),
+    )
 
--- src/lib.rt:63:1
 returns : tie.Need-returns Inv-loop μ-loop
 returns c = let a = c .before .before .before .before .args in
     let l = c .before .loop in

@@ -1,39 +1,28 @@
-use mathlib.Core.Path.{_≡_, refl, sym, ap, ap₂, _∙_}
+use mathlib.Core.Path.{sym, ap₂, _∙_}
 use Rattle.meter.proofs.Gather.{shape-good}
 use Rattle.row.specs.Order.{answerOf}
 use Rattle.meter.proofs.Calls.{widest-bad, widest-good}
 use borrow.Author.Needs.{needs}
 use Rattle.meter.proofs.widest.Statement.{statement}
 use Rattle.meter.proofs.widest.Tie as tie
-use Rattle.meter.proofs.widest.Reads as reads
-use Rattle.meter.proofs.widest.Lts as lts
-use Rattle.meter.proofs.widest_rows.Reads as widest-rows-reads
-use Rattle.row.proofs.answer.Reads as answer-reads
-use Rattle.row.proofs.bad_shape.Reads as bad-shape-reads
 
--- src/lib.rt:173:9
 bad-shape-requires : tie.Need-bad-shape-requires
 bad-shape-requires c κs = search needs
 
--- src/lib.rt:175:9
 answer-requires : tie.Need-answer-requires
 answer-requires c κs = search needs
 
--- src/lib.rt:175:9
 returns : tie.Need-returns
 returns c = let a = c .before .before .before .before .args in
     c .answer .ensures ∙ widest-bad (a .d) (a .w) (a .memory .now) (c .before .before .bad-shape .result) (c .before .before .bad-shape .ensures) (c .before .if1 .taken)
 
--- src/lib.rt:177:9
 widest-rows-requires : tie.Need-widest-rows-requires
 widest-rows-requires c κs = let a = c .before .before .before .args in
     shape-good (a .d) (a .w) _ (sym (c .before .bad-shape .ensures) ∙ c .if1 .left) .1
 
--- src/lib.rt:178:5
 answer-requires-2 : tie.Need-answer-requires-2
 answer-requires-2 c κs = search needs
 
--- src/lib.rt:170:1
 returns-2 : tie.Need-returns-2
 returns-2 c = let a = c .before .before .before .before .before .args in
     let found = c .before .widest-rows .ensures in

@@ -1,24 +1,16 @@
-use mathlib.Core.Path.{_≡_, refl, sym, ap, ap₂, _∙_}
-use Prim.Native.Nat.{ℕ, _+_, _-_, _*_, _/_, _≤_, _<_, min, max}
+use mathlib.Core.Path.{_≡_, sym, ap, _∙_}
+use Prim.Native.Nat.{_-_, _*_, _≤_, max}
 use native.Mathlib.Omega.{arith}
 use borrow.Author.Needs.{needs}
-use mathlib.Core.List.{List}
-use Rattle.row.specs.Geometry.{RowsIn}
 use Rattle.row.specs.Geometry.{stride}
-use Rattle.meter.specs.Meter.{rowOf, readStatus, readValue, rowStatus, rowLevel, sourceStatus, sourceAdded}
-use lib.ListN.{length, drop}
+use Rattle.meter.specs.Meter.{rowStatus, rowLevel}
+use lib.ListN.{drop}
 use Rattle.row.specs.Order.{earlier, earliest}
-use Rattle.row.specs.Rows.{ofRows, mapRows, least, leastOr, largest}
-use Rattle.row.specs.Row.{updateStatus, updateRow, readRow, widestStatus, widestRow, uniteStatus, uniteRow}
-use Rattle.meter.proofs.Gather.{one-row, status-turn, status-end, level-turn, level-end, least-start, least-turn, least-end, statuses-start, rows-start, levels-start}
+use Rattle.row.specs.Rows.{ofRows, largest}
+use Rattle.row.specs.Row.{widestStatus, widestRow}
+use Rattle.meter.proofs.Gather.{one-row, status-turn, status-end, level-turn, level-end, rows-start, levels-start}
 use Rattle.meter.proofs.widest_rows.Statement.{statement}
 use Rattle.meter.proofs.widest_rows.Tie as tie
-use Rattle.meter.proofs.widest_rows.Reads as reads
-use Rattle.meter.proofs.widest_rows.Lts as lts
-use Rattle.meter.proofs.larger.Reads as larger-reads
-use Rattle.meter.proofs.row_at.Reads as row-at-reads
-use Rattle.row.proofs.earlier.Reads as earlier-reads
-use Rattle.row.proofs.widest_row.Reads as widest-row-reads
 
 abbrev Inv-loop : tie.InvT-loop
 Inv-loop d w memory status₀ value₀ r₀ status value r = (r ≤ d) × (earlier status (earliest (ofRows (rowStatus w) (stride w) (d - r) r (drop (r * stride w) memory))) ≡ earliest (ofRows (rowStatus w) (stride w) d 0 memory))
@@ -27,53 +19,46 @@ Inv-loop d w memory status₀ value₀ r₀ status value r = (r ≤ d) × (earli
 abbrev μ-loop : tie.MeasureT-loop
 μ-loop d w memory status₀ value₀ r₀ status value r = d - r
 
--- src/lib.rt:157:5
 loop-holds : tie.Need-loop-holds Inv-loop μ-loop
 loop-holds c = let a = c .before .args in
     (omega arith, rows-start (rowStatus (a .w)) (a .w) (a .d) (a .memory .now), levels-start (rowLevel (a .w)) (a .w) (a .d) (a .memory .now))
 
--- src/lib.rt:158:33
 row-at-requires : tie.Need-row-at-requires Inv-loop μ-loop
 row-at-requires c κs = one-row _ _ _ (c .before .before .before .pre) (c .loop-test .taken)
 
--- src/lib.rt:158:13
 widest-row-requires : tie.Need-widest-row-requires Inv-loop μ-loop
 widest-row-requires c κs = (c .before .before .before .before .pre .0, c .row-at .ensures .1)
 
--- src/lib.rt:159:9
 earlier-requires : tie.Need-earlier-requires Inv-loop μ-loop
 earlier-requires c κs = search needs
 
--- src/lib.rt:160:9
 larger-requires : tie.Need-larger-requires Inv-loop μ-loop
 larger-requires c κs = search needs
 
--- src/lib.rt:157:9
 add-r : tie.Need-add-r Inv-loop μ-loop
 add-r c = search needs
 
--- src/lib.rt:157:5
 loop-less : tie.Need-loop-less Inv-loop μ-loop
 loop-less c = search needs
 
--- src/lib.rt:157:5
 loop-again : tie.Need-loop-again Inv-loop μ-loop
 loop-again c = let a = c .before .before .before .before .before .before .before .args in
     let l = c .before .before .before .before .before .loop in
     let row = c .before .before .before .row-at .ensures .0 in
-    let found = c .before .before .widest-row in
-    (omega arith,
-    rw (c .before .earlier .ensures)
-    (status-turn (rowStatus (a .w)) (a .w) (a .d) (l .r) (a .memory .now) (l .status) (found .result .status) (omega arith) (found .ensures .0 ∙ ap (widestStatus (a .w)) row) ∙ l .inv .1),
-    rw (c .larger .ensures)
-    (level-turn (rowLevel (a .w)) (a .w) (a .d) (l .r) (a .memory .now) (l .value) (found .result .value) (omega arith) (found .ensures .1 ∙ ap (widestRow (a .w)) row) ∙ l .inv .2))
+    let found = c .before .before .widest-row in (
+      omega arith,
+      rw (c .before .earlier .ensures)
+          (status-turn (rowStatus (a .w)) (a .w) (a .d) (l .r) (a .memory .now) (l .status) (found .result .status) (omega arith) (found .ensures .0 ∙ ap (widestStatus (a .w)) row) ∙ l .inv .1),
+      rw (c .larger .ensures)
+          (level-turn (rowLevel (a .w)) (a .w) (a .d) (l .r) (a .memory .now) (l .value) (found .result .value) (omega arith) (found .ensures .1 ∙ ap (widestRow (a .w)) row) ∙ l .inv .2),
+    )
 
--- src/lib.rt:150:1
 returns : tie.Need-returns Inv-loop μ-loop
 returns c = let a = c .before .before .before .args in
-    let l = c .before .loop in
-    (sym (status-end (rowStatus (a .w)) (a .w) (a .d) (l .r) (a .memory .now) (l .status) (omega arith)) ∙ l .inv .1,
-    sym (level-end (rowLevel (a .w)) (a .w) (a .d) (l .r) (a .memory .now) (l .value) (omega arith)) ∙ l .inv .2)
+    let l = c .before .loop in (
+      sym (status-end (rowStatus (a .w)) (a .w) (a .d) (l .r) (a .memory .now) (l .status) (omega arith)) ∙ l .inv .1,
+      sym (level-end (rowLevel (a .w)) (a .w) (a .d) (l .r) (a .memory .now) (l .value) (omega arith)) ∙ l .inv .2,
+    )
 
 pub widest-rows-spec : {M : Type 1} → statement M
 widest-rows-spec =
