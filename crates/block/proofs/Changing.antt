@@ -1,11 +1,10 @@
 -- Another value in one counter: the layout stays, and the code's halves make the block.
-use mathlib.Core.Path.{_≡_, refl, ap, ap₂, _∙_}
+use mathlib.Core.Path.{_≡_, refl, ap, _∙_}
 use mathlib.Core.Bool.{Bool, true, false, cond}
-use Prim.Native.Nat.{ℕ, suc, _+_, _-_, _*_, _%_, _^_, _<_}
+use Prim.Native.Nat.{ℕ, suc, _+_, _-_, _*_, _^_, _<_}
 use native.Mathlib.Nat.{mod-lt}
-use native.Mathlib.Omega.{arith}
 use lib.Dec.{ltb}
-use Rattle.layout.specs.Layout.{merged, halves}
+use Rattle.layout.specs.Layout.{halves}
 use Rattle.block.specs.declared.Summed.{Summed}
 use Rattle.block.specs.Block.{Block, counter, split, cap, Fits, shape, word, block}
 use Rattle.block.specs.Change.{change}

@@ -16,7 +16,7 @@ pub fn is_width(w: usize) -> bool
     ensures { λ r. ⌜ r ≡ validWidth w ⌝ }
 {
     let mut power: usize = 32;
-    let mut left = 12;
+    let mut left: usize = 12;
     while left > 0 {
         if w == power {
             return true;
@@ -34,7 +34,7 @@ pub fn log_width(w: usize) -> u32
 {
     let mut k = 5;
     let mut power: usize = 32;
-    let mut left = 11;
+    let mut left: usize = 11;
     while left > 0 {
         if w <= power {
             return k;

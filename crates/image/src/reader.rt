@@ -20,7 +20,10 @@ pub struct Step {
 fn go(position: usize) -> Step
     ensures { λ r. ⌜ r ≡ spec.go position ⌝ }
 {
-    Step { status: 0, position }
+    Step {
+        status: 0,
+        position,
+    }
 }
 
 fn stop(status: u8, position: usize) -> Step
@@ -295,7 +298,14 @@ pub fn store(row: &mut [u8], w: usize, g: usize, x: Group)
 }
 
 // Four groups of a row, from group g on. Gives the position after their words.
-pub fn read_groups(row: &mut [u8], w: usize, g: usize, merges: [u8; 4], words: &[u32], p: usize) -> usize
+pub fn read_groups(
+    row: &mut [u8],
+    w: usize,
+    g: usize,
+    merges: [u8; 4],
+    words: &[u32],
+    p: usize,
+) -> usize
     requires { ⌜ 8 * g + 32 ≤ w ⌝ ∗ ⌜ w + g + 4 ≤ length (now row) ⌝ ∗ ⌜ p < 2 ^ 30 ⌝ }
     ensures { λ r. ⌜ r ≡ afterGroups merges p ⌝ }
     ensures { λ r. ⌜ r ≤ p + 96 ⌝ }

@@ -1,7 +1,7 @@
 // Writing an image. Each function that writes takes the position of its first word and gives the position after its last.
 use crate::format;
-use crate::format::word;
 use crate::format::group_size;
+use crate::format::word;
 use crate::geometry::log_width;
 use group::Group;
 ghost use mathlib.Core.Path.{_≡_};
@@ -120,10 +120,7 @@ pub fn put_parts(words: &mut [u32], p: usize, n: u32, value: u64) -> usize
     let mut left = n;
     while left > 0 {
         left -= 1;
-        words[at] = word(
-            format::COUNT,
-            ((value >> (24 * left)) % 16777216) as u32,
-        );
+        words[at] = word(format::COUNT, ((value >> (24 * left)) % 16777216) as u32);
         at += 1;
     }
     at

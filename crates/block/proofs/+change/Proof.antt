@@ -8,9 +8,8 @@ use mathlib.Core.Path.{_≡_, sym, ap, _∙_}
 use mathlib.Core.Bool.{false}
 use Rattle.layout.specs.Layout.{isMerged, layout}
 use Rattle.layout.proofs.Laws.{above-slot}
-use Prim.Native.Nat.{_-_, _^_, _+_, _*_}
+use Prim.Native.Nat.{_-_, _^_, _+_, _*_, ℕ, _<_}
 use native.Mathlib.Omega.{arith}
-use Prim.Native.Nat.{ℕ, _<_}
 use borrow.Fn.Kinds.{In, Out}
 use borrow.Fn.PlainCycle.{Measures, is, falls, and}
 use Rattle.block.proofs.change.Reads as change
@@ -78,51 +77,40 @@ right-call : {t : ℕ} (c : change-lts.After-change2 (K t) (change-at t) change.
     c .change2 .result ≡ word (change-of (block (s .args .level - 1) (r .word) (r .merge)) (s .args .slot - 2 ^ (s .args .level - 1)) (s .args .value))
 right-call c = rw (c .before .before .slots .ensures .0) at (c .change2 .ensures)
 
--- src/lib.rt:253:8
 change-is-merged-requires : (t : ℕ) → change-lts.Need-is-merged-requires (K t) (change-at t) change.Post
 change-is-merged-requires t c κs = omega arith
 
--- src/lib.rt:254:9
 change-kept-requires : (t : ℕ) → change-lts.Need-kept-requires (K t) (change-at t) change.Post
 change-kept-requires t c κs = omega arith
 
--- src/lib.rt:254:9
 change-returns : (t : ℕ) → change-lts.Need-returns (K t) (change-at t) change.Post
 unfolding change-of word
 change-returns t c = let a = c .before .before .before .args in
     c .kept .ensures ∙ rw (block-merged (a .level) (a .word) (a .merge) (sym (c .before .before .is-merged .ensures) ∙ c .before .if1 .taken))
 
--- src/lib.rt:256:16
 change-sub-half : (t : ℕ) → change-lts.Need-sub-half (K t) (change-at t) change.Post
 change-sub-half t c = omega (arith, above c)
 
--- src/lib.rt:257:9
 change-left-half-requires : (t : ℕ) → change-lts.Need-left-half-requires (K t) (change-at t) change.Post
 change-left-half-requires t c κs = omega arith
 
--- src/lib.rt:258:9
 change-right-half-requires : (t : ℕ) → change-lts.Need-right-half-requires (K t) (change-at t) change.Post
 change-right-half-requires t c κs = omega arith
 
--- src/lib.rt:259:16
 change-slots-requires : (t : ℕ) → change-lts.Need-slots-requires (K t) (change-at t) change.Post
 change-slots-requires t c κs = omega arith
 
--- src/lib.rt:259:16
 change-cast-size : (t : ℕ) → change-lts.Need-cast-size (K t) (change-at t) change.Post
 change-cast-size t c = omega arith
 
--- src/lib.rt:263:13
 change-change-requires : (t : ℕ) → change-lts.Need-change-requires (K t) (change-at t) change.Post
 change-change-requires t c κs = let s = c .before .before .before .before .before .before in
     (omega (arith, above (c .before .before .before .before)), (omega arith, words-in (here (c .before .before)) (s .pre .1 .1) .0))
 
--- src/lib.rt:261:9
 change-beside-word-requires : (t : ℕ) → change-lts.Need-beside-word-requires (K t) (change-at t) change.Post
 change-beside-word-requires t c κs = let s = c .before .before .before .before .before .before .before in
     (omega arith, (rw (c .change .ensures) (left-lt (here (c .before .before .before)) (s .pre .1 .1) (s .args .slot) (s .args .value)), words-in (here (c .before .before .before)) (s .pre .1 .1) .1))
 
--- src/lib.rt:261:9
 change-returns-2 : (t : ℕ) → change-lts.Need-returns-2 (K t) (change-at t) change.Post
 change-returns-2 t c = let s = c .before .before .before .before .before .before .before .before in
     let r = c .before .before .before .before .right-half .result in
@@ -131,17 +119,14 @@ change-returns-2 t c = let s = c .before .before .before .before .before .before
     ∙ sym (left-change (here (c .before .before .before .before)) (s .pre .1 .1) (s .args .slot) (s .args .value)
     (lt-ltb (s .args .slot) (2 ^ (s .args .level - 1)) (rw (c .before .before .before .slots .ensures .0) at (c .before .before .if2 .taken))))
 
--- src/lib.rt:270:9
 change-change-requires-2 : (t : ℕ) → change-lts.Need-change-requires-2 (K t) (change-at t) change.Post
 change-change-requires-2 t c κs = let s = c .before .before .before .before .before .before in
     (omega (arith, above (c .before .before .before .before)), (omega arith, words-in (here (c .before .before)) (s .pre .1 .1) .1))
 
--- src/lib.rt:267:5
 change-beside-word-requires-2 : (t : ℕ) → change-lts.Need-beside-word-requires-2 (K t) (change-at t) change.Post
 change-beside-word-requires-2 t c κs = let s = c .before .before .before .before .before .before .before in
     (omega arith, (words-in (here (c .before .before .before)) (s .pre .1 .1) .0, rw (right-call c) (right-lt (here (c .before .before .before)) (s .pre .1 .1) (s .args .slot - 2 ^ (s .args .level - 1)) (s .args .value))))
 
--- src/lib.rt:249:1
 change-returns-3 : (t : ℕ) → change-lts.Need-returns-3 (K t) (change-at t) change.Post
 change-returns-3 t c = let s = c .before .before .before .before .before .before .before .before in
     let l = c .before .before .before .before .before .left-half .result in
