@@ -3,3 +3,4 @@ pub mod Adding
 pub mod Halves
 pub mod Steps
 pub mod Least
+pub mod Changing

@@ -1,3 +1,4 @@
 pub mod Block
 pub mod Sum
 pub mod Least
+pub mod Change

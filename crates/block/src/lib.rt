@@ -11,6 +11,7 @@ ghost use Prim.Native.Nat.{_+_, _-_, _*_, _/_, _%_, _^_, _<_, _≤_};
 ghost use lib.Dec.{ltb};
 ghost use Rattle.block.specs.Block.{cap, block, counterAt};
 ghost use Rattle.block.specs.Block as spec;
+ghost use Rattle.block.specs.Change as change_spec;
 ghost use Rattle.block.specs.Sum as sum_spec;
 ghost use Rattle.block.specs.Sum.{summed, sumOf, sumTotal, leftHalf, rightHalf, Sane, Apt};
 
@@ -230,5 +231,42 @@ pub fn unite(level: u32, word: u64, merge: u8, other_word: u64, other_merge: u8)
             other_right.word,
             other_right.merge,
         ),
+    )
+}
+
+// Of a value the bits that a counter of a level holds.
+pub fn kept(level: u32, value: u64) -> u64
+    requires { ⌜ level ≤ 3 ⌝ }
+    ensures { λ r. ⌜ r ≡ value % cap level ⌝ }
+{
+    if level == 3 {
+        return value;
+    }
+    low_word(level, value)
+}
+
+// The count bytes of a block with another value in the counter of a slot.
+pub fn change(level: u32, word: u64, merge: u8, slot: usize, value: u64) -> u64
+    requires { ⌜ level ≤ 3 ⌝ ∗ ⌜ word < cap level ⌝ }
+    ensures { λ r. ⌜ r ≡ spec.word (change_spec.change (block level word merge) slot value) ⌝ }
+{
+    if is_merged(level, merge) {
+        return kept(level, value);
+    }
+    let half = level - 1;
+    let left = left_half(half, word, merge);
+    let right = right_half(half, word, merge);
+    let size = slots(half) as usize;
+    if slot < size {
+        return beside_word(
+            half,
+            change(half, left.word, left.merge, slot, value),
+            right.word,
+        );
+    }
+    beside_word(
+        half,
+        left.word,
+        change(half, right.word, right.merge, slot - size, value),
     )
 }

@@ -7,6 +7,7 @@ use Rattle.layout.specs.Layout as layout-spec
 use Rattle.block.specs.declared.Counter.{Counter}
 use Rattle.block.specs.declared.Summed.{Summed}
 use Rattle.block.specs.Block.{Block, shape, word, block, counterAt}
+use Rattle.block.specs.Change.{change}
 use Rattle.block.specs.Sum.{Sum, fits, over}
 use Rattle.block.specs.Sum as sum
 use Rattle.group.specs.declared.Answer.{Answer}
@@ -63,3 +64,10 @@ united target source =
 -- the largest level of a group's counters
 unfoldable pub widestOf : ℕ → Answer
 widestOf m = cond (valid 3 m) (accepted (layout-spec.widest (layout 3 m))) (rejected invalidMerge)
+
+-- another value in the counter of a slot; the layout stays
+unfoldable pub changed : Group → ℕ → ℕ → Outcome
+changed g slot value =
+    cond (valid 3 (g .merge))
+    (record { status = 0; group = record { counts = bytes 8 (word (change (decode g) (slot % 8) value)); merge = g .merge } })
+    (unchanged invalidMerge g)

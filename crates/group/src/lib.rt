@@ -5,7 +5,7 @@ use block::Summed;
 ghost use mathlib.Core.Path.{_≡_};
 ghost use mathlib.Core.Bool.{_&&_};
 ghost use Rattle.layout.specs.Layout.{valid};
-ghost use Rattle.group.specs.Group.{number, bytes, read, stored, added, united, widestOf};
+ghost use Rattle.group.specs.Group.{number, bytes, read, stored, added, united, widestOf, changed};
 ghost use Rattle.group.specs.Group as spec;
 ghost use Rattle.group.specs.Status as status_spec;
 ghost use Rattle.group.specs.Pack.{groupCode, packed, unpacked};
@@ -239,5 +239,23 @@ pub fn unpack(code: u32) -> Unpacked
     Unpacked {
         answer: accepted(0),
         merges: [a, b, c, d],
+    }
+}
+
+// Another value in the counter that a slot is in: of the value the bits that the counter holds. The layout stays.
+pub fn change(g: Group, slot: usize, value: u64) -> Outcome
+    ensures { λ r. ⌜ r ≡ changed g slot value ⌝ }
+{
+    let counts = g.counts;
+    if !is_valid(g.merge) {
+        return unchanged(INVALID_MERGE, g);
+    }
+    let word = block::change(3, number_of(counts), g.merge, slot % 8, value);
+    Outcome {
+        status: 0,
+        group: Group {
+            counts: bytes_of(word),
+            merge: g.merge,
+        },
     }
 }

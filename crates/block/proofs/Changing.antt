@@ -1,0 +1,54 @@
+-- Another value in one counter: the layout stays, and the code's halves make the block.
+use mathlib.Core.Path.{_≡_, refl, ap, _∙_}
+use mathlib.Core.Bool.{Bool, true, false, cond}
+use Prim.Native.Nat.{ℕ, suc, _+_, _-_, _*_, _^_, _<_}
+use native.Mathlib.Nat.{mod-lt}
+use lib.Dec.{ltb}
+use Rattle.layout.specs.Layout.{halves}
+use Rattle.block.specs.declared.Summed.{Summed}
+use Rattle.block.specs.Block.{Block, counter, split, cap, Fits, shape, word, block}
+use Rattle.block.specs.Change.{change}
+use Rattle.block.proofs.Laws.{cap-pos, word-lt, word-block}
+use Rattle.block.proofs.Halves.{Apart, apart-is, words-in, left-fits, right-fits}
+
+pub change-halves : {n : ℕ} (l r : Block n) (k x : ℕ) (P : Block (suc n) → Type 0)
+    → (ltb k (2 ^ n) ≡ true → P (split (change l k x) r))
+    → (ltb k (2 ^ n) ≡ false → P (split l (change r (k - 2 ^ n) x)))
+    → P (change (split l r) k x)
+unfolding change
+change-halves {n} l r k x P f g = go (ltb k (2 ^ n)) refl
+  where
+    go : (b : Bool) → ltb k (2 ^ n) ≡ b → P (cond (ltb k (2 ^ n)) (split (change l k x) r) (split l (change r (k - 2 ^ n) x)))
+    go true e = rw e (f e)
+    go false e = rw e (g e)
+
+pub change-fits : {n : ℕ} (b : Block n) (k x : ℕ) → Fits b → Fits (change b k x)
+unfolding change Fits
+change-fits {n} (counter v) k x f = mod-lt x (cap-pos n)
+change-fits (split {n} l r) k x f =
+    change-halves l r k x Fits (λ e. (change-fits l k x (f .0), f .1)) (λ e. (f .0, change-fits r (k - 2 ^ n) x (f .1)))
+
+pub change-shape : {n : ℕ} (b : Block n) (k x : ℕ) → shape (change b k x) ≡ shape b
+unfolding change shape
+change-shape (counter v) k x = refl
+change-shape (split {n} l r) k x =
+    change-halves l r k x (λ c. shape c ≡ halves (shape l) (shape r))
+    (λ e. ap (λ L. halves L (shape r)) (change-shape l k x))
+    (λ e. ap (halves (shape l)) (change-shape r (k - 2 ^ n) x))
+
+module _ {n w m : ℕ} {l r : Summed} (p : Apart n w m l r) (h : w < cap n) (k x : ℕ) where
+  pub left-lt : word (change (block (n - 1) (l .word) (l .merge)) k x) < cap (n - 1)
+  left-lt = word-lt _ (change-fits _ k x (left-fits p h))
+
+  pub right-lt : word (change (block (n - 1) (r .word) (r .merge)) k x) < cap (n - 1)
+  right-lt = word-lt _ (change-fits _ k x (right-fits p h))
+
+  pub left-change : ltb k (2 ^ (n - 1)) ≡ true
+      → word (change (block n w m) k x) ≡ r .word * cap (n - 1) + word (change (block (n - 1) (l .word) (l .merge)) k x)
+  unfolding change word
+  left-change e = apart-is p (λ n b. word (change b k x)) ∙ rw (e, word-block (n - 1) (r .word) (r .merge) (words-in p h .1))
+
+  pub right-change : ltb k (2 ^ (n - 1)) ≡ false
+      → word (change (block n w m) k x) ≡ word (change (block (n - 1) (r .word) (r .merge)) (k - 2 ^ (n - 1)) x) * cap (n - 1) + l .word
+  unfolding change word
+  right-change e = apart-is p (λ n b. word (change b k x)) ∙ rw (e, word-block (n - 1) (l .word) (l .merge) (words-in p h .0))

@@ -1,0 +1,53 @@
+use mathlib.Core.Path.{_≡_, sym, ap, _∙_}
+use mathlib.Core.Bool.{true, false}
+use mathlib.Core.List.{List}
+use Prim.Native.Nat.{ℕ}
+use native.Mathlib.Omega.{arith}
+use borrow.Author.Tests.{not-true, not-false}
+use Rattle.layout.specs.Layout.{valid}
+use Rattle.block.specs.Block.{cap}
+use Rattle.group.specs.Group.{bytes, decode, changed}
+use borrow.Author.Needs.{needs}
+use Rattle.group.proofs.change.Statement.{statement}
+use Rattle.group.proofs.change.Tie as tie
+
+is-valid-requires : tie.Need-is-valid-requires
+is-valid-requires c κs = search needs
+
+unchanged-requires : tie.Need-unchanged-requires
+unchanged-requires c κs = search needs
+
+returns : tie.Need-returns
+unfolding changed
+returns c = let g = c .before .before .before .before .args .g in
+    let v : valid 3 (g .merge) ≡ false = sym (c .before .before .is-valid .ensures) ∙ not-true _ (c .before .if1 .taken) in
+    c .unchanged .ensures ∙ rw v
+
+number-of-requires : tie.Need-number-of-requires
+number-of-requires c κs = search needs
+
+change-requires : tie.Need-change-requires
+unfolding cap
+change-requires c κs = (omega arith, omega arith)
+
+bytes-of-requires : tie.Need-bytes-of-requires
+bytes-of-requires c κs = search needs
+
+returns-2 : tie.Need-returns-2
+unfolding changed decode
+returns-2 c = let a = c .before .before .before .before .before .before .args in
+    let v : valid 3 (a .g .merge) ≡ true = sym (c .before .before .before .before .is-valid .ensures) ∙ not-false _ (c .before .before .before .if1 .left) in
+    rw (v, ← c .before .before .number-of .ensures)
+    (ap (λ (l : List ℕ). record { status = 0; group = record { counts = l; merge = a .g .merge } }) (c .bytes-of .ensures ∙ ap (bytes 8) (c .before .change .ensures)))
+
+pub change-spec : {M : Type 1} → statement M
+change-spec =
+    tie.close
+    (tie.spec
+    is-valid-requires
+    unchanged-requires
+    returns
+    number-of-requires
+    change-requires
+    bytes-of-requires
+    returns-2)

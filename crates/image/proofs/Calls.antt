@@ -1,0 +1,104 @@
+-- What the calls answer, by their tests.
+use mathlib.Core.Path.{_≡_, refl, sym, ap, _∙_}
+use mathlib.Core.Bool.{Bool, true, false, _&&_, true≢false}
+use mathlib.Core.List.{List, [], _∷_, _++_}
+use Prim.Native.Nat.{ℕ, zero, suc, _+_, _*_, _≤_, _<_}
+use native.Mathlib.Nat.{zero-add}
+use native.Mathlib.Omega.{arith}
+use borrow.Author.Tests.{eqb-true, leb-true, eq-eqb, ne-eqb, le-leb, lt-leb}
+use lib.Dec.{eqb, leb}
+use lib.ListN.{length, drop, set, length-append}
+use lib.Seq.{sets, sets-eq}
+use Rattle.group.specs.Status.{invalidMerge, accepted, rejected}
+use Rattle.row.specs.Geometry.{validDepth, validWidth, stride, size}
+use Rattle.row.specs.Order.{unless, firstOf}
+use Rattle.image.specs.declared.reader.Step.{Step}
+use Rattle.image.specs.Image.{word, headKind, headPayload, rowsWords, body, endWord, image}
+use Rattle.image.specs.Write.{tooFewWords, callStatus, validRows, writeStatus, finishWrite, written}
+use Rattle.image.specs.Read.{checked, readRows, finishRead, readAfter, taken}
+use Rattle.image.proofs.Laws.{Width, width-is, sets-append}
+
+-- a call whose depth, width and memory have passed
+pub record Sound (d w n : ℕ) : Type 0 where
+  pub deep : 1 ≤ d
+  pub depth : d ≤ 8
+  pub width : Width w
+  pub long : n ≡ d * stride w
+
+three : (a b c : Bool) → firstOf (unless a 1 ∷ unless b 2 ∷ unless c 3 ∷ []) ≡ 0 → (a ≡ true) × (b ≡ true) × (c ≡ true)
+unfolding firstOf
+three true true true e = (refl, refl, refl)
+three true true false e = absurd (omega arith)
+three true false c e = absurd (omega arith)
+three false b c e = absurd (omega arith)
+
+both : (a b : Bool) → (a && b) ≡ true → (a ≡ true) × (b ≡ true)
+both true b e = (refl, e)
+both false b e = absurd (true≢false (sym e))
+
+pub sound-call : (d w n : ℕ) → callStatus d w n ≡ 0 → Sound d w n
+unfolding callStatus validDepth size
+sound-call d w n e =
+    let t = three (validDepth d) (validWidth w) (eqb n (size d w)) e in
+    let b = both (leb 1 d) (leb d 8) (t .0) in
+    record { deep = leb-true 1 d (b .0); depth = leb-true d 8 (b .1); width = width-is w (t .1); long = eqb-true n (d * stride w) (t .2) }
+
+-- an image's length, and an image as the code puts it
+pub image-length : (d w : ℕ) (memory : List ℕ) → length (image d w memory) ≡ length (rowsWords d w memory) + 2
+unfolding image body
+image-length d w memory = rw (length-append (rowsWords d w memory) (endWord (suc (length (rowsWords d w memory))) ∷ [])) (omega arith)
+
+pub image-put : (d w : ℕ) (memory words : List ℕ) (h e n : ℕ) → length (image d w memory) ≤ length words → h ≡ word headKind (headPayload d w)
+    → n ≡ 1 + length (rowsWords d w memory) → e ≡ endWord n
+    → set (sets (set words 0 h) 1 (rowsWords d w memory)) n e ≡ image d w memory ++ drop (length (image d w memory)) words
+unfolding image body
+image-put d w memory words h e n k eh en ee =
+    let r = rowsWords d w memory in
+    let q : n ≡ suc (length r) = en ∙ omega arith in
+    let x : e ≡ endWord (suc (length r)) = ee ∙ ap endWord q in
+    let v = word headKind (headPayload d w) ∷ (r ++ endWord (suc (length r)) ∷ []) in
+    rw (en, x, eh)
+    (sym (sets-append (set words 0 (word headKind (headPayload d w))) 1 r (endWord (suc (length r)) ∷ []))
+    ∙ sets-eq v words 0 (omega (arith, k))
+    ∙ ap (λ (i : ℕ). v ++ drop i words) (zero-add (length v)))
+
+module _ (d w : ℕ) (memory words : List ℕ) where
+  pub write-call : (s : ℕ) → s ≡ callStatus d w (length memory) → (s ≡ 0 → ⊥) → written d w memory words ≡ record { answer = rejected s; words = words }
+  unfolding written writeStatus firstOf finishWrite
+  write-call s e h = rw (← e) (go s h)
+    where
+      go : (s : ℕ) → (s ≡ 0 → ⊥)
+          → finishWrite (firstOf (s ∷ unless (validRows d w memory) invalidMerge ∷ unless (leb (length (image d w memory)) (length words)) tooFewWords ∷ [])) (image d w memory) words ≡ record { answer = rejected s; words = words }
+      go zero h = absurd (h refl)
+      go (suc s) h = refl
+
+  module _ (s : ℕ) (e : s ≡ callStatus d w (length memory)) (z : s ≡ 0) where
+    pub write-invalid : validRows d w memory ≡ false → written d w memory words ≡ record { answer = rejected invalidMerge; words = words }
+    unfolding written writeStatus firstOf finishWrite
+    write-invalid v = rw (← e, z, v)
+
+    pub write-short : validRows d w memory ≡ true → length words < length (image d w memory) → written d w memory words ≡ record { answer = rejected tooFewWords; words = words }
+    unfolding written writeStatus firstOf finishWrite
+    write-short v l = rw (← e, z, v, lt-leb (length (image d w memory)) (length words) l)
+
+    pub write-done : validRows d w memory ≡ true → length (image d w memory) ≤ length words
+        → written d w memory words ≡ record { answer = accepted (length (image d w memory)); words = image d w memory ++ drop (length (image d w memory)) words }
+    unfolding written writeStatus firstOf finishWrite
+    write-done v l = rw (← e, z, v, le-leb (length (image d w memory)) (length words) l)
+
+  pub read-call : (s : ℕ) → s ≡ callStatus d w (length memory) → (s ≡ 0 → ⊥) → taken d w memory words ≡ record { answer = rejected s; memory = memory }
+  unfolding taken readAfter
+  read-call s e h = rw (← e) (go s h)
+    where
+      go : (s : ℕ) → (s ≡ 0 → ⊥) → readAfter s d w memory words ≡ record { answer = rejected s; memory = memory }
+      go zero h = absurd (h refl)
+      go (suc s) h = refl
+
+  module _ (s : ℕ) (e : s ≡ callStatus d w (length memory)) (z : s ≡ 0) (t : Step) (f : t ≡ checked d w words) where
+    pub read-faulty : (t .status ≡ 0 → ⊥) → taken d w memory words ≡ record { answer = record { status = t .status; position = t .position; value = 0 }; memory = memory }
+    unfolding taken readAfter finishRead
+    read-faulty h = rw (← e, z, ← f, ne-eqb (t .status) 0 h)
+
+    pub read-done : t .status ≡ 0 → taken d w memory words ≡ record { answer = accepted (t .position); memory = readRows d w memory words 1 }
+    unfolding taken readAfter finishRead
+    read-done h = rw (← e, z, ← f, eq-eqb (t .status) 0 h)

@@ -1,0 +1,104 @@
+use mathlib.Core.Path.{_≡_, sym, ap, _∙_}
+use Prim.Native.Nat.{_+_}
+use native.Mathlib.Omega.{arith}
+use borrow.Author.Tests.{not-true, not-false}
+use lib.ListN.{length}
+use Rattle.image.proofs.Calls.{sound-call, image-length, write-call, write-invalid, write-short, write-done}
+use Rattle.group.specs.Status.{accepted}
+use Rattle.image.specs.Image.{image}
+use Rattle.image.specs.Write.{Written}
+use borrow.Author.Needs.{needs}
+use Rattle.image.proofs.write.Statement.{statement}
+use Rattle.image.proofs.write.Tie as tie
+
+status-of-requires : tie.Need-status-of-requires
+status-of-requires c κs = search needs
+
+rejected-requires : tie.Need-rejected-requires
+rejected-requires c κs = search needs
+
+returns : tie.Need-returns
+returns c = let a = c .before .before .before .before .before .args in
+    let s = c .before .before .status-of in
+    let e = write-call (a .d) (a .w) (a .memory .now) (a .words .now) (s .result) (s .ensures) (c .before .if1 .taken) in
+    (c .rejected .ensures ∙ ap (λ (x : Written). x .answer) (sym e), ap (λ (x : Written). x .words) (sym e))
+
+rows-valid-requires : tie.Need-rows-valid-requires
+rows-valid-requires c κs = let a = c .before .before .before .before .args in
+    let s = c .before .status-of in
+    let z = c .if1 .left in
+    let k = sound-call (a .d) (a .w) (length (a .memory .now)) (sym (s .ensures) ∙ z) in
+    (omega arith, omega arith)
+
+rejected-requires-2 : tie.Need-rejected-requires-2
+rejected-requires-2 c κs = search needs
+
+returns-2 : tie.Need-returns-2
+returns-2 c = let a = c .before .before .before .before .before .before .before .args in
+    let s = c .before .before .before .before .status-of in
+    let z = c .before .before .before .if1 .left in
+    let v = sym (c .before .before .rows-valid .ensures) ∙ not-true _ (c .before .if2 .taken) in
+    let e = write-invalid (a .d) (a .w) (a .memory .now) (a .words .now) (s .result) (s .ensures) z v in
+    (c .rejected2 .ensures ∙ ap (λ (x : Written). x .answer) (sym e), ap (λ (x : Written). x .words) (sym e))
+
+rows-size-requires : tie.Need-rows-size-requires
+rows-size-requires c κs = let a = c .before .before .before .before .before .before .args in
+    let s = c .before .before .before .status-of in
+    let z = c .before .before .if1 .left in
+    let k = sound-call (a .d) (a .w) (length (a .memory .now)) (sym (s .ensures) ∙ z) in
+    (omega arith, (omega arith, omega arith))
+
+add-count : tie.Need-add-count
+add-count c = search needs
+
+rejected-requires-3 : tie.Need-rejected-requires-3
+rejected-requires-3 c κs = search needs
+
+returns-3 : tie.Need-returns-3
+returns-3 c = let a = c .before .before .before .before .before .before .before .before .before .args in
+    let s = c .before .before .before .before .before .before .status-of in
+    let z = c .before .before .before .before .before .if1 .left in
+    let v = sym (c .before .before .before .before .rows-valid .ensures) ∙ not-false _ (c .before .before .before .if2 .left) in
+    let e = write-short (a .d) (a .w) (a .memory .now) (a .words .now) (s .result) (s .ensures) z v (omega (arith, image-length (a .d) (a .w) (a .memory .now), c .before .before .rows-size .ensures .0)) in
+    (c .rejected3 .ensures ∙ ap (λ (x : Written). x .answer) (sym e), ap (λ (x : Written). x .words) (sym e))
+
+put-image-requires : tie.Need-put-image-requires
+put-image-requires c κs = let a = c .before .before .before .before .before .before .before .before .before .args in
+    let s = c .before .before .before .before .before .before .status-of in
+    let z = c .before .before .before .before .before .if1 .left in
+    let k = sound-call (a .d) (a .w) (length (a .memory .now)) (sym (s .ensures) ∙ z) in
+    (omega arith, (omega arith, (omega arith, omega (arith, image-length (a .d) (a .w) (a .memory .now), c .before .before .rows-size .ensures .0))))
+
+accepted-requires : tie.Need-accepted-requires
+accepted-requires c κs = search needs
+
+same-length : tie.Need-same-length
+same-length c = search needs
+
+returns-4 : tie.Need-returns-4
+returns-4 c = let a = c .before .before .before .before .before .before .before .before .before .before .before .before .before .args in
+    let s = c .before .before .before .before .before .before .before .before .before .before .status-of in
+    let z = c .before .before .before .before .before .before .before .before .before .if1 .left in
+    let v = sym (c .before .before .before .before .before .before .before .before .rows-valid .ensures) ∙ not-false _ (c .before .before .before .before .before .before .before .if2 .left) in
+    let n : c .before .before .before .before .before .before .rows-size .result + 2 ≡ length (image (a .d) (a .w) (a .memory .now)) = omega (arith, image-length (a .d) (a .w) (a .memory .now), c .before .before .before .before .before .before .rows-size .ensures .0) in
+    let e = write-done (a .d) (a .w) (a .memory .now) (a .words .now) (s .result) (s .ensures) z v (omega (arith, n)) in
+    (c .accepted .ensures ∙ ap accepted n ∙ ap (λ (x : Written). x .answer) (sym e), c .before .before .before .put-image .ensures ∙ ap (λ (x : Written). x .words) (sym e))
+
+pub write-spec : {M : Type 1} → statement M
+write-spec =
+    tie.close
+    (tie.spec
+    status-of-requires
+    rejected-requires
+    returns
+    rows-valid-requires
+    rejected-requires-2
+    returns-2
+    rows-size-requires
+    add-count
+    rejected-requires-3
+    returns-3
+    put-image-requires
+    accepted-requires
+    same-length
+    returns-4)

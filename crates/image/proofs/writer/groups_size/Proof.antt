@@ -1,0 +1,68 @@
+use native.Mathlib.Nat.{zero-add, add-zero}
+use mathlib.Core.Path.{_≡_, ap, _∙_}
+use Prim.Native.Nat.{ℕ, _+_, _-_, _*_, _≤_}
+use native.Mathlib.Omega.{arith}
+use borrow.Author.Needs.{needs}
+use lib.ListN.{length}
+use Rattle.image.specs.Image.{groupsWords}
+use Rattle.image.proofs.Laws.{groups-size-step, groups-none}
+use Rattle.image.proofs.writer.groups_size.Statement.{statement}
+use Rattle.image.proofs.writer.groups_size.Tie as tie
+
+abbrev Inv-loop : tie.InvT-loop
+Inv-loop row w g n₀ i₀ n i = (i ≤ 4) × (n ≤ 24 * i) × (n + length (groupsWords (4 - i) (g + i) w row) ≡ length (groupsWords 4 g w row))
+
+abbrev μ-loop : tie.MeasureT-loop
+μ-loop row w g n₀ i₀ n i = 4 - i
+
+loop-holds : tie.Need-loop-holds Inv-loop μ-loop
+loop-holds c = let a = c .before .args in
+    (omega arith, omega arith, zero-add _ ∙ ap (λ (x : ℕ). length (groupsWords 4 x (a .w) (a .row .now))) (add-zero (a .g)))
+
+add-group-size : tie.Need-add-group-size Inv-loop μ-loop
+add-group-size c = search needs
+
+add-group-size-2 : tie.Need-add-group-size-2 Inv-loop μ-loop
+add-group-size-2 c = search needs
+
+shared-slice-read-group-size : tie.Need-shared-slice-read-group-size Inv-loop μ-loop
+shared-slice-read-group-size c = search needs
+
+group-size-requires : tie.Need-group-size-requires Inv-loop μ-loop
+group-size-requires c κs = search needs
+
+add-n : tie.Need-add-n Inv-loop μ-loop
+add-n c = search needs
+
+add-i : tie.Need-add-i Inv-loop μ-loop
+add-i c = search needs
+
+loop-less : tie.Need-loop-less Inv-loop μ-loop
+loop-less c = search needs
+
+loop-again : tie.Need-loop-again Inv-loop μ-loop
+loop-again c = let l = c .before .before .before .loop in
+    let a = c .before .before .before .before .before .args in
+    (omega arith, omega arith, omega (arith, groups-size-step 4 (l .i) (a .g) (a .w) (a .row .now) (omega arith), c .group-size .ensures .0))
+
+returns : tie.Need-returns Inv-loop μ-loop
+returns c = let l = c .before .loop in
+    let a = c .before .before .before .args in
+    (omega (arith, ap length (groups-none (4 - l .i) (a .g + l .i) (a .w) (a .row .now) (omega arith))), omega arith)
+
+pub groups-size-spec : {M : Type 1} → statement M
+groups-size-spec =
+    tie.close
+    (tie.spec
+    Inv-loop
+    μ-loop
+    loop-holds
+    add-group-size
+    add-group-size-2
+    shared-slice-read-group-size
+    group-size-requires
+    add-n
+    add-i
+    loop-less
+    loop-again
+    returns)

@@ -1,0 +1,97 @@
+// Words, and the counters that they hold.
+use group::Group;
+ghost use mathlib.Core.Path.{_≡_};
+ghost use Prim.Native.Nat.{_+_, _*_, _%_, _^_, _<_, _≤_};
+ghost use lib.Dec.{eqb};
+ghost use Rattle.image.specs.Image as spec;
+ghost use Rattle.image.specs.Image.{wordsOf, levelAt};
+ghost use Rattle.image.specs.Write.{slotSize, groupSize};
+ghost use Rattle.image.specs.Read.{firstBits};
+
+// The kinds of words.
+pub const HEAD: u32 = 1;
+
+pub const LAYOUT: u32 = 2;
+
+pub const COUNT: u32 = 3;
+
+pub const END: u32 = 4;
+
+pub const TOO_FEW_WORDS: u8 = 7;
+
+pub const BAD_WORD: u8 = 8;
+
+pub const OTHER_METER: u8 = 10;
+
+// A word has its kind in the top four bits.
+pub fn word(kind: u32, payload: u32) -> u32
+    requires { ⌜ kind < 2 ^ 4 ⌝ ∗ ⌜ payload < 2 ^ 28 ⌝ }
+    ensures { λ r. ⌜ r ≡ spec.word kind payload ⌝ }
+{
+    (kind << 28) | payload
+}
+
+// The level of the counter that a slot is in, in a group with this merge byte.
+pub fn level_at(merge: u8, k: usize) -> u32
+    ensures { λ r. ⌜ r ≡ levelAt merge k ⌝ }
+    ensures { λ r. ⌜ r ≤ 3 ⌝ }
+{
+    let r = group::counter(
+        Group {
+            counts: [0; 8],
+            merge,
+        },
+        k,
+    );
+    r.level
+}
+
+// Whether a counter of this level that has slot k starts there.
+pub fn starts(level: u32, k: usize) -> bool
+    requires { ⌜ level ≤ 3 ⌝ }
+    ensures { λ r. ⌜ r ≡ eqb (k % 2 ^ level) 0 ⌝ }
+{
+    k % (1 << level) == 0
+}
+
+// The number of words of a counter.
+pub fn words_of(level: u32) -> u32
+    requires { ⌜ level ≤ 3 ⌝ }
+    ensures { λ r. ⌜ r ≡ wordsOf level ⌝ }
+    ensures { λ r. ⌜ (1 ≤ r) × (r ≤ 3) ⌝ }
+{
+    ((8 << level) + 23) / 24
+}
+
+// The bits that a counter has in its first word.
+pub fn first_bits(level: u32) -> u32
+    requires { ⌜ level ≤ 3 ⌝ }
+    ensures { λ r. ⌜ r ≡ firstBits level ⌝ }
+    ensures { λ r. ⌜ r ≤ 24 ⌝ }
+{
+    (8 << level) - 24 * (words_of(level) - 1)
+}
+
+// The number of words of the counter that starts at a slot, or 0.
+pub fn slot_size(merge: u8, k: usize) -> usize
+    ensures { λ r. ⌜ r ≡ slotSize merge k ⌝ }
+    ensures { λ r. ⌜ r ≤ 3 ⌝ }
+{
+    let level = level_at(merge, k);
+    if starts(level, k) {
+        return words_of(level) as usize;
+    }
+    0
+}
+
+// The number of words of a group's counters.
+pub fn group_size(merge: u8) -> usize
+    ensures { λ r. ⌜ r ≡ groupSize merge ⌝ }
+    ensures { λ r. ⌜ r ≤ 24 ⌝ }
+{
+    let mut n = 0;
+    for k in 0..8 {
+        n += slot_size(merge, k);
+    }
+    n
+}

@@ -1,0 +1,67 @@
+// The image of a meter: 32-bit words that hold its depth, its width, and every counter at its layout.
+pub mod format;
+pub mod geometry;
+pub mod reader;
+pub mod writer;
+
+use group::Answer;
+ghost use mathlib.Core.Path.{_≡_};
+ghost use Rattle.image.specs.Write.{written};
+ghost use Rattle.image.specs.Read.{taken};
+
+// Fills `words` with the image of a meter.
+pub fn write(d: usize, w: usize, memory: &[u8], words: &mut [u32]) -> Answer
+    ensures { λ r. ⌜ r ≡ written d w (now (memory .entry)) (now (words .entry)) .answer ⌝ }
+    ensures { λ _. ⌜ now (words .exit) ≡ written d w (now (memory .entry)) (now (words .entry)) .words ⌝ }
+{
+    let status = geometry::status_of(d, w, memory.len());
+    if status != 0 {
+        return rejected(status, 0);
+    }
+    if !writer::rows_valid(memory, d, w) {
+        return rejected(group::INVALID_MERGE, 0);
+    }
+    let count = writer::rows_size(memory, d, w) + 2;
+    if words.len() < count {
+        return rejected(format::TOO_FEW_WORDS, 0);
+    }
+    writer::put_image(words, memory, d, w);
+    accepted(count)
+}
+
+// Restores a meter from the words of its image.
+pub fn read(d: usize, w: usize, memory: &mut [u8], words: &[u32]) -> Answer
+    ensures { λ r. ⌜ r ≡ taken d w (now (memory .entry)) (now (words .entry)) .answer ⌝ }
+    ensures { λ _. ⌜ now (memory .exit) ≡ taken d w (now (memory .entry)) (now (words .entry)) .memory ⌝ }
+{
+    let status = geometry::status_of(d, w, memory.len());
+    if status != 0 {
+        return rejected(status, 0);
+    }
+    let s = reader::check(words, d, w);
+    if s.status != 0 {
+        return rejected(s.status, s.position);
+    }
+    reader::read_rows(memory, d, w, words);
+    accepted(s.position)
+}
+
+fn accepted(count: usize) -> Answer
+    ensures { λ r. ⌜ r ≡ record { status = 0; position = 0; value = count } ⌝ }
+{
+    Answer {
+        status: 0,
+        position: 0,
+        value: count as u64,
+    }
+}
+
+fn rejected(status: u8, position: usize) -> Answer
+    ensures { λ r. ⌜ r ≡ record { status = status; position = position; value = 0 } ⌝ }
+{
+    Answer {
+        status,
+        position: position as u64,
+        value: 0,
+    }
+}

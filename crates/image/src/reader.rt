@@ -1,0 +1,349 @@
+// Reading an image: the words are checked first, and the memory is written only when every word has passed.
+use crate::format;
+use crate::geometry::log_width;
+use group::Group;
+ghost use mathlib.Core.Path.{_≡_};
+ghost use mathlib.Core.List.{_++_};
+ghost use Prim.Native.Nat.{_+_, _*_, _/_, _%_, _^_, _<_, _≤_};
+ghost use lib.ListN.{length, take, drop};
+ghost use Rattle.row.specs.Geometry.{stride};
+ghost use Rattle.row.specs.Rows.{withGroup};
+ghost use Rattle.image.specs.Read as spec;
+ghost use Rattle.image.specs.Read.{checkHead, checkParts, checkSlot, checkSlots, checkGroups, checkFour, checkFours, checkEnd, checked, valueFrom, mergesAt, readSlot, readGroup, readGroups, afterGroups, readFours, afterFours, readRows};
+
+// A fault and its position; or status 0 and the position to read on from.
+pub struct Step {
+    pub status: u8,
+    pub position: usize,
+}
+
+fn go(position: usize) -> Step
+    ensures { λ r. ⌜ r ≡ spec.go position ⌝ }
+{
+    Step {
+        status: 0,
+        position,
+    }
+}
+
+fn stop(status: u8, position: usize) -> Step
+    ensures { λ r. ⌜ r ≡ spec.stop status position ⌝ }
+{
+    Step { status, position }
+}
+
+// The payload of the word at a position, or 0.
+pub fn payload(words: &[u32], p: usize) -> u32
+    ensures { λ r. ⌜ r ≡ spec.payload (now (words .entry)) p ⌝ }
+    ensures { λ r. ⌜ r < 2 ^ 28 ⌝ }
+{
+    if p < words.len() {
+        return words[p] & 0x0fff_ffff;
+    }
+    0
+}
+
+// Whether a word is there and has the kind that is due.
+pub fn is_due(words: &[u32], p: usize, kind: u32) -> bool
+    ensures { λ r. ⌜ r ≡ spec.isDue (now (words .entry)) p kind ⌝ }
+{
+    if p < words.len() {
+        return words[p] >> 28 == kind;
+    }
+    false
+}
+
+// A word of a kind whose payload passes a test, or the status of the failed test.
+pub fn tested(words: &[u32], p: usize, kind: u32, holds: bool, status: u8) -> Step
+    ensures { λ r. ⌜ r ≡ spec.tested (now (words .entry)) p kind holds status ⌝ }
+{
+    if !is_due(words, p, kind) {
+        return stop(format::BAD_WORD, p);
+    }
+    if !holds {
+        return stop(status, p);
+    }
+    go(p + 1)
+}
+
+// A word of a kind with a payload below a limit.
+pub fn below(words: &[u32], p: usize, kind: u32, limit: u32) -> Step
+    ensures { λ r. ⌜ r ≡ spec.below (now (words .entry)) p kind limit ⌝ }
+{
+    tested(
+        words,
+        p,
+        kind,
+        payload(words, p) < limit,
+        group::BAD_PAYLOAD,
+    )
+}
+
+pub fn check_head(words: &[u32], d: usize, w: usize) -> Step
+    requires { ⌜ d ≤ 8 ⌝ }
+    ensures { λ r. ⌜ r ≡ checkHead d w (now (words .entry)) ⌝ }
+{
+    let s = below(words, 0, format::HEAD, 512);
+    if s.status != 0 {
+        return s;
+    }
+    tested(
+        words,
+        0,
+        format::HEAD,
+        payload(words, 0) == log_width(w) * 16 + d as u32,
+        format::OTHER_METER,
+    )
+}
+
+// The n words of a counter, the first of which has a limit of its own.
+pub fn check_parts(words: &[u32], p: usize, n: u32, limit: u32) -> Step
+    ensures { λ r. ⌜ r ≡ checkParts n (now (words .entry)) p limit ⌝ }
+{
+    let mut at = p;
+    let mut left = n;
+    let mut most = limit;
+    while left > 0 {
+        let s = below(words, at, format::COUNT, most);
+        if s.status != 0 {
+            return s;
+        }
+        at = s.position;
+        left -= 1;
+        most = 16777216;
+    }
+    go(at)
+}
+
+// The words of the counter that starts at a slot, if one does.
+pub fn check_slot(words: &[u32], p: usize, merge: u8, k: usize) -> Step
+    ensures { λ r. ⌜ r ≡ checkSlot merge k (now (words .entry)) p ⌝ }
+{
+    let level = format::level_at(merge, k);
+    if !format::starts(level, k) {
+        return go(p);
+    }
+    check_parts(
+        words,
+        p,
+        format::words_of(level),
+        1 << format::first_bits(level),
+    )
+}
+
+// The words of a group's counters.
+pub fn check_group(words: &[u32], p: usize, merge: u8) -> Step
+    ensures { λ r. ⌜ r ≡ checkSlots 8 0 merge (now (words .entry)) p ⌝ }
+{
+    let mut at = p;
+    for k in 0..8 {
+        let s = check_slot(words, at, merge, k);
+        if s.status != 0 {
+            return s;
+        }
+        at = s.position;
+    }
+    go(at)
+}
+
+// The words of the counters of four groups.
+pub fn check_groups(words: &[u32], p: usize, merges: [u8; 4]) -> Step
+    ensures { λ r. ⌜ r ≡ checkGroups merges (now (words .entry)) p ⌝ }
+{
+    let mut at = p;
+    for i in 0..4 {
+        let s = check_group(words, at, merges[i]);
+        if s.status != 0 {
+            return s;
+        }
+        at = s.position;
+    }
+    go(at)
+}
+
+// The merge bytes of the layout word at a position.
+pub fn merges_at(words: &[u32], p: usize) -> [u8; 4]
+    ensures { λ r. ⌜ r ≡ mergesAt (now (words .entry)) p ⌝ }
+{
+    let u = group::unpack(payload(words, p));
+    u.merges
+}
+
+// The words of 32 slots.
+pub fn check_four(words: &[u32], p: usize) -> Step
+    ensures { λ r. ⌜ r ≡ checkFour (now (words .entry)) p ⌝ }
+{
+    let s = below(words, p, format::LAYOUT, 456976);
+    if s.status != 0 {
+        return s;
+    }
+    check_groups(words, s.position, merges_at(words, p))
+}
+
+// The words of n times 32 slots.
+pub fn check_fours(words: &[u32], p: usize, n: usize) -> Step
+    ensures { λ r. ⌜ r ≡ checkFours n (now (words .entry)) p ⌝ }
+{
+    let mut at = p;
+    for i in 0..n {
+        let s = check_four(words, at);
+        if s.status != 0 {
+            return s;
+        }
+        at = s.position;
+    }
+    go(at)
+}
+
+// The end, with the number of words before it and no word after it.
+pub fn check_end(words: &[u32], p: usize) -> Step
+    ensures { λ r. ⌜ r ≡ checkEnd (now (words .entry)) p ⌝ }
+{
+    let s = tested(
+        words,
+        p,
+        format::END,
+        payload(words, p) == (p % 268435456) as u32,
+        group::BAD_PAYLOAD,
+    );
+    if s.status != 0 {
+        return s;
+    }
+    if words.len() != s.position {
+        return stop(format::BAD_WORD, s.position);
+    }
+    s
+}
+
+// All words, for a meter of d rows of w slots.
+pub fn check(words: &[u32], d: usize, w: usize) -> Step
+    requires { ⌜ d ≤ 8 ⌝ ∗ ⌜ w ≤ 65536 ⌝ }
+    ensures { λ r. ⌜ r ≡ checked d w (now (words .entry)) ⌝ }
+{
+    let h = check_head(words, d, w);
+    if h.status != 0 {
+        return h;
+    }
+    let s = check_fours(words, h.position, d * (w / 32));
+    if s.status != 0 {
+        return s;
+    }
+    check_end(words, s.position)
+}
+
+// The value of the n words at a position.
+pub fn value_at(words: &[u32], p: usize, n: u32) -> u64
+    requires { ⌜ p + n < 2 ^ 64 ⌝ }
+    ensures { λ r. ⌜ r ≡ valueFrom n 0 (now (words .entry)) p ⌝ }
+{
+    let mut v: u64 = 0;
+    let mut at = p;
+    let mut left = n;
+    while left > 0 {
+        v = v % 1099511627776 * 16777216 + (payload(words, at) % 16777216) as u64;
+        at += 1;
+        left -= 1;
+    }
+    v
+}
+
+// A group with the counter that starts at a slot, if one does.
+pub fn read_slot(g: Group, k: usize, words: &[u32], p: usize) -> Group
+    requires { ⌜ p < 2 ^ 32 ⌝ }
+    ensures { λ r. ⌜ r ≡ readSlot k g (now (words .entry)) p ⌝ }
+{
+    let level = format::level_at(g.merge, k);
+    if !format::starts(level, k) {
+        return g;
+    }
+    let o = group::change(g, k, value_at(words, p, format::words_of(level)));
+    o.group
+}
+
+// A group with the counters at a position.
+pub fn read_group(merge: u8, words: &[u32], p: usize) -> Group
+    requires { ⌜ p < 2 ^ 31 ⌝ }
+    ensures { λ r. ⌜ r ≡ readGroup merge (now (words .entry)) p ⌝ }
+{
+    let mut g = Group {
+        counts: [0; 8],
+        merge,
+    };
+    let mut at = p;
+    for k in 0..8 {
+        g = read_slot(g, k, words, at);
+        at += format::slot_size(merge, k);
+    }
+    g
+}
+
+// Eight bytes put at `at`.
+pub fn put_eight(row: &mut [u8], at: usize, x: [u8; 8])
+    requires { ⌜ at + 8 ≤ length (now row) ⌝ }
+    ensures { λ _. ⌜ now (row .exit) ≡ take at (now (row .entry)) ++ x ++ drop (at + 8) (now (row .entry)) ⌝ }
+{
+    for i in 0..8 {
+        row[at + i] = x[i];
+    }
+}
+
+// Group g of a row of w slots.
+pub fn store(row: &mut [u8], w: usize, g: usize, x: Group)
+    requires { ⌜ 8 * g + 8 ≤ w ⌝ ∗ ⌜ w + g < length (now row) ⌝ }
+    ensures { λ _. ⌜ now (row .exit) ≡ withGroup w (now (row .entry)) g x ⌝ }
+{
+    let counts = x.counts;
+    put_eight(row, 8 * g, counts);
+    row[w + g] = x.merge;
+}
+
+// Four groups of a row, from group g on. Gives the position after their words.
+pub fn read_groups(
+    row: &mut [u8],
+    w: usize,
+    g: usize,
+    merges: [u8; 4],
+    words: &[u32],
+    p: usize,
+) -> usize
+    requires { ⌜ 8 * g + 32 ≤ w ⌝ ∗ ⌜ w + g + 4 ≤ length (now row) ⌝ ∗ ⌜ p < 2 ^ 30 ⌝ }
+    ensures { λ r. ⌜ r ≡ afterGroups merges p ⌝ }
+    ensures { λ r. ⌜ r ≤ p + 96 ⌝ }
+    ensures { λ _. ⌜ now (row .exit) ≡ readGroups merges g w (now (row .entry)) (now (words .entry)) p ⌝ }
+{
+    let mut at = p;
+    for i in 0..4 {
+        let m = merges[i];
+        store(row, w, g + i, read_group(m, words, at));
+        at += format::group_size(m);
+    }
+    at
+}
+
+// A row of w slots. Gives the position after its words.
+pub fn read_row(row: &mut [u8], w: usize, words: &[u32], p: usize) -> usize
+    requires { ⌜ w + w / 8 ≤ length (now row) ⌝ ∗ ⌜ w ≤ 65536 ⌝ ∗ ⌜ p < 2 ^ 29 ⌝ }
+    ensures { λ r. ⌜ r ≡ afterFours (w / 32) (now (words .entry)) p ⌝ }
+    ensures { λ r. ⌜ r ≤ p + 97 * 2048 ⌝ }
+    ensures { λ _. ⌜ now (row .exit) ≡ readFours (w / 32) 0 w (now (row .entry)) (now (words .entry)) p ⌝ }
+{
+    let mut at = p;
+    for i in 0..w / 32 {
+        at = read_groups(row, w, 4 * i, merges_at(words, at), words, at + 1);
+    }
+    at
+}
+
+// d rows of a memory, from the words after the head.
+pub fn read_rows(memory: &mut [u8], d: usize, w: usize, words: &[u32])
+    requires { ⌜ d * stride w ≤ length (now memory) ⌝ ∗ ⌜ w ≤ 65536 ⌝ ∗ ⌜ d ≤ 8 ⌝ }
+    ensures { λ _. ⌜ now (memory .exit) ≡ readRows d w (now (memory .entry)) (now (words .entry)) 1 ⌝ }
+{
+    let size = w * 9 / 8;
+    let mut at = 1;
+    for r in 0..d {
+        let a = r * size;
+        let e = a + size;
+        at = read_row(&mut memory[a..e], w, words, at);
+    }
+}

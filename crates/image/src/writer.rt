@@ -1,0 +1,227 @@
+// Writing an image. Each function that writes takes the position of its first word and gives the position after its last.
+use crate::format;
+use crate::format::group_size;
+use crate::format::word;
+use crate::geometry::log_width;
+use group::Group;
+ghost use mathlib.Core.Path.{_≡_};
+ghost use mathlib.Core.Bool.{true};
+ghost use mathlib.Core.List.{_∷_, [], _++_};
+ghost use Prim.Native.Nat.{_+_, _*_, _/_, _%_, _^_, _<_, _≤_};
+ghost use lib.ListN.{length, take, drop};
+ghost use lib.Seq.{sets};
+ghost use Rattle.row.specs.Geometry.{stride};
+ghost use Rattle.row.specs.Rows.{groupAt};
+ghost use Rattle.image.specs.Image.{parts, slotWords, groupWords, groupsWords, layoutAt, fourWords, rowWords, rowsWords, image};
+ghost use Rattle.image.specs.Write.{allValid, validRows, slotSize, groupSize};
+
+// Eight bytes from `at` on.
+pub fn eight(row: &[u8], at: usize) -> [u8; 8]
+    requires { ⌜ at + 8 ≤ length (now row) ⌝ }
+    ensures { λ r. ⌜ r ≡ take 8 (drop at (now (row .entry))) ⌝ }
+{
+    let mut x = [0u8; 8];
+    for i in 0..8 {
+        x[i] = row[at + i];
+    }
+    x
+}
+
+// Group g of a row of w slots.
+pub fn load(row: &[u8], w: usize, g: usize) -> Group
+    requires { ⌜ 8 * g + 8 ≤ w ⌝ ∗ ⌜ w + g < length (now row) ⌝ }
+    ensures { λ r. ⌜ r ≡ groupAt w (now (row .entry)) g ⌝ }
+{
+    Group {
+        counts: eight(row, 8 * g),
+        merge: row[w + g],
+    }
+}
+
+// Whether the merge bytes of a row of w slots are valid.
+pub fn row_valid(row: &[u8], w: usize) -> bool
+    ensures { λ r. ⌜ r ≡ allValid (drop w (now (row .entry))) ⌝ }
+{
+    let mut i = w;
+    while i < row.len() {
+        if !group::is_valid(row[i]) {
+            return false;
+        }
+        i += 1;
+    }
+    true
+}
+
+// Whether all merge bytes of d rows are valid.
+pub fn rows_valid(memory: &[u8], d: usize, w: usize) -> bool
+    requires { ⌜ d * stride w ≤ length (now memory) ⌝ ∗ ⌜ w ≤ 65536 ⌝ }
+    ensures { λ r. ⌜ r ≡ validRows d w (now (memory .entry)) ⌝ }
+{
+    let size = w * 9 / 8;
+    for r in 0..d {
+        let a = r * size;
+        let e = a + size;
+        if !row_valid(&memory[a..e], w) {
+            return false;
+        }
+    }
+    true
+}
+
+// The number of words of the counters of four groups, from group g on.
+pub fn groups_size(row: &[u8], w: usize, g: usize) -> usize
+    requires { ⌜ w + g + 4 ≤ length (now row) ⌝ }
+    ensures { λ r. ⌜ r ≡ length (groupsWords 4 g w (now (row .entry))) ⌝ }
+    ensures { λ r. ⌜ r ≤ 96 ⌝ }
+{
+    let mut n = 0;
+    for i in 0..4 {
+        n += group_size(row[w + g + i]);
+    }
+    n
+}
+
+// The number of words of a row.
+pub fn row_size(row: &[u8], w: usize) -> usize
+    requires { ⌜ w + w / 8 ≤ length (now row) ⌝ ∗ ⌜ w ≤ 65536 ⌝ }
+    ensures { λ r. ⌜ r ≡ length (rowWords (w / 32) 0 w (now (row .entry))) ⌝ }
+    ensures { λ r. ⌜ r ≤ 97 * 2048 ⌝ }
+{
+    let mut n = 0;
+    for i in 0..w / 32 {
+        n += 1 + groups_size(row, w, 4 * i);
+    }
+    n
+}
+
+// The number of words of d rows.
+pub fn rows_size(memory: &[u8], d: usize, w: usize) -> usize
+    requires { ⌜ d * stride w ≤ length (now memory) ⌝ ∗ ⌜ w ≤ 65536 ⌝ ∗ ⌜ d ≤ 8 ⌝ }
+    ensures { λ r. ⌜ r ≡ length (rowsWords d w (now (memory .entry))) ⌝ }
+    ensures { λ r. ⌜ r ≤ 97 * 16384 ⌝ }
+{
+    let size = w * 9 / 8;
+    let mut n = 0;
+    for r in 0..d {
+        let a = r * size;
+        let e = a + size;
+        n += row_size(&memory[a..e], w);
+    }
+    n
+}
+
+// The n words of a value, high part first.
+pub fn put_parts(words: &mut [u32], p: usize, n: u32, value: u64) -> usize
+    requires { ⌜ p + n ≤ length (now words) ⌝ ∗ ⌜ n ≤ 3 ⌝ }
+    ensures { λ r. ⌜ r ≡ p + n ⌝ }
+    ensures { λ _. ⌜ now (words .exit) ≡ sets (now (words .entry)) p (parts n value) ⌝ }
+{
+    let mut at = p;
+    let mut left = n;
+    while left > 0 {
+        left -= 1;
+        words[at] = word(format::COUNT, ((value >> (24 * left)) % 16777216) as u32);
+        at += 1;
+    }
+    at
+}
+
+// The words of the counter that starts at a slot, if one does.
+pub fn put_slot(words: &mut [u32], p: usize, g: Group, k: usize) -> usize
+    requires { ⌜ p + slotSize (g .merge) k ≤ length (now words) ⌝ }
+    ensures { λ r. ⌜ r ≡ p + slotSize (g .merge) k ⌝ }
+    ensures { λ _. ⌜ now (words .exit) ≡ sets (now (words .entry)) p (slotWords g k) ⌝ }
+{
+    let level = format::level_at(g.merge, k);
+    if !format::starts(level, k) {
+        return p;
+    }
+    let c = group::counter(g, k);
+    put_parts(words, p, format::words_of(level), c.value)
+}
+
+// The words of a group's counters.
+pub fn put_group(words: &mut [u32], p: usize, g: Group) -> usize
+    requires { ⌜ p + groupSize (g .merge) ≤ length (now words) ⌝ }
+    ensures { λ r. ⌜ r ≡ p + groupSize (g .merge) ⌝ }
+    ensures { λ _. ⌜ now (words .exit) ≡ sets (now (words .entry)) p (groupWords g) ⌝ }
+{
+    let mut at = p;
+    for k in 0..8 {
+        at = put_slot(words, at, g, k);
+    }
+    at
+}
+
+// The words of the counters of four groups, from group g on.
+pub fn put_groups(words: &mut [u32], p: usize, row: &[u8], w: usize, g: usize) -> usize
+    requires { ⌜ 8 * g + 32 ≤ w ⌝ ∗ ⌜ w + g + 4 ≤ length (now row) ⌝ ∗ ⌜ p + length (groupsWords 4 g w (now row)) ≤ length (now words) ⌝ }
+    ensures { λ r. ⌜ r ≡ p + length (groupsWords 4 g w (now (row .entry))) ⌝ }
+    ensures { λ _. ⌜ now (words .exit) ≡ sets (now (words .entry)) p (groupsWords 4 g w (now (row .entry))) ⌝ }
+{
+    let mut at = p;
+    for i in 0..4 {
+        at = put_group(words, at, load(row, w, g + i));
+    }
+    at
+}
+
+// The code of the layout of four groups, from group g on.
+pub fn layout_at(row: &[u8], w: usize, g: usize) -> u32
+    requires { ⌜ w + g + 4 ≤ length (now row) ⌝ }
+    ensures { λ r. ⌜ r ≡ layoutAt w (now (row .entry)) g ⌝ }
+    ensures { λ r. ⌜ r < 456976 ⌝ }
+{
+    let at = w + g;
+    let a = group::pack(row[at], row[at + 1], row[at + 2], row[at + 3]);
+    a.value as u32
+}
+
+// The words of 32 slots, from group g on.
+pub fn put_four(words: &mut [u32], p: usize, row: &[u8], w: usize, g: usize) -> usize
+    requires { ⌜ 8 * g + 32 ≤ w ⌝ ∗ ⌜ w + g + 4 ≤ length (now row) ⌝ ∗ ⌜ p + length (fourWords w (now row) g) ≤ length (now words) ⌝ }
+    ensures { λ r. ⌜ r ≡ p + length (fourWords w (now (row .entry)) g) ⌝ }
+    ensures { λ _. ⌜ now (words .exit) ≡ sets (now (words .entry)) p (fourWords w (now (row .entry)) g) ⌝ }
+{
+    words[p] = word(format::LAYOUT, layout_at(row, w, g));
+    put_groups(words, p + 1, row, w, g)
+}
+
+// The words of a row.
+pub fn put_row(words: &mut [u32], p: usize, row: &[u8], w: usize) -> usize
+    requires { ⌜ w + w / 8 ≤ length (now row) ⌝ ∗ ⌜ w ≤ 65536 ⌝ ∗ ⌜ p + length (rowWords (w / 32) 0 w (now row)) ≤ length (now words) ⌝ }
+    ensures { λ r. ⌜ r ≡ p + length (rowWords (w / 32) 0 w (now (row .entry))) ⌝ }
+    ensures { λ _. ⌜ now (words .exit) ≡ sets (now (words .entry)) p (rowWords (w / 32) 0 w (now (row .entry))) ⌝ }
+{
+    let mut at = p;
+    for i in 0..w / 32 {
+        at = put_four(words, at, row, w, 4 * i);
+    }
+    at
+}
+
+// The words of d rows.
+pub fn put_rows(words: &mut [u32], p: usize, memory: &[u8], d: usize, w: usize) -> usize
+    requires { ⌜ d * stride w ≤ length (now memory) ⌝ ∗ ⌜ w ≤ 65536 ⌝ ∗ ⌜ p + length (rowsWords d w (now memory)) ≤ length (now words) ⌝ }
+    ensures { λ r. ⌜ r ≡ p + length (rowsWords d w (now (memory .entry))) ⌝ }
+    ensures { λ _. ⌜ now (words .exit) ≡ sets (now (words .entry)) p (rowsWords d w (now (memory .entry))) ⌝ }
+{
+    let size = w * 9 / 8;
+    let mut at = p;
+    for r in 0..d {
+        let a = r * size;
+        let e = a + size;
+        at = put_row(words, at, &memory[a..e], w);
+    }
+    at
+}
+
+// The whole image.
+pub fn put_image(words: &mut [u32], memory: &[u8], d: usize, w: usize)
+    requires { ⌜ d * stride w ≤ length (now memory) ⌝ ∗ ⌜ w ≤ 65536 ⌝ ∗ ⌜ d ≤ 8 ⌝ ∗ ⌜ length (image d w (now memory)) ≤ length (now words) ⌝ }
+    ensures { λ _. ⌜ now (words .exit) ≡ image d w (now (memory .entry)) ++ drop (length (image d w (now (memory .entry)))) (now (words .entry)) ⌝ }
+{
+    words[0] = word(format::HEAD, log_width(w) * 16 + d as u32);
+    let end = put_rows(words, 1, memory, d, w);
+    words[end] = word(format::END, (end % 268435456) as u32);
+}
