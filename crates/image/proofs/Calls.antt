@@ -11,10 +11,10 @@ use lib.ListN.{length, drop, set, length-append}
 use lib.Seq.{sets, sets-eq}
 use Rattle.group.specs.Status.{invalidMerge, accepted, rejected}
 use Rattle.row.specs.Geometry.{validDepth, validWidth, stride, size}
-use Rattle.row.specs.Order.{unless, firstOf}
+use Rattle.row.specs.Order.{unless, firstOf, badShape}
 use Rattle.image.specs.declared.reader.Step.{Step}
 use Rattle.image.specs.Image.{word, headKind, headPayload, rowsWords, body, endWord, image}
-use Rattle.image.specs.Write.{tooFewWords, callStatus, validRows, writeStatus, finishWrite, written}
+use Rattle.image.specs.Write.{tooFewWords, validRows, writeStatus, finishWrite, written}
 use Rattle.image.specs.Read.{checked, readRows, finishRead, readAfter, taken}
 use Rattle.image.proofs.Laws.{Width, width-is, sets-append}
 
@@ -36,8 +36,8 @@ both : (a b : Bool) → (a && b) ≡ true → (a ≡ true) × (b ≡ true)
 both true b e = (refl, e)
 both false b e = absurd (true≢false (sym e))
 
-pub sound-call : (d w n : ℕ) → callStatus d w n ≡ 0 → Sound d w n
-unfolding callStatus validDepth size
+pub sound-call : (d w n : ℕ) → badShape d w n ≡ 0 → Sound d w n
+unfolding validDepth size
 sound-call d w n e =
     let t = three (validDepth d) (validWidth w) (eqb n (size d w)) e in
     let b = both (leb 1 d) (leb d 8) (t .0) in
@@ -63,7 +63,7 @@ image-put d w memory words h e n k eh en ee =
     ∙ ap (λ (i : ℕ). v ++ drop i words) (zero-add (length v)))
 
 module _ (d w : ℕ) (memory words : List ℕ) where
-  pub write-call : (s : ℕ) → s ≡ callStatus d w (length memory) → (s ≡ 0 → ⊥) → written d w memory words ≡ record { answer = rejected s; words = words }
+  pub write-call : (s : ℕ) → s ≡ badShape d w (length memory) → (s ≡ 0 → ⊥) → written d w memory words ≡ record { answer = rejected s; words = words }
   unfolding written writeStatus firstOf finishWrite
   write-call s e h = rw (← e) (go s h)
     where
@@ -72,7 +72,7 @@ module _ (d w : ℕ) (memory words : List ℕ) where
       go zero h = absurd (h refl)
       go (suc s) h = refl
 
-  module _ (s : ℕ) (e : s ≡ callStatus d w (length memory)) (z : s ≡ 0) where
+  module _ (s : ℕ) (e : s ≡ badShape d w (length memory)) (z : s ≡ 0) where
     pub write-invalid : validRows d w memory ≡ false → written d w memory words ≡ record { answer = rejected invalidMerge; words = words }
     unfolding written writeStatus firstOf finishWrite
     write-invalid v = rw (← e, z, v)
@@ -86,7 +86,7 @@ module _ (d w : ℕ) (memory words : List ℕ) where
     unfolding written writeStatus firstOf finishWrite
     write-done v l = rw (← e, z, v, le-leb (length (image d w memory)) (length words) l)
 
-  pub read-call : (s : ℕ) → s ≡ callStatus d w (length memory) → (s ≡ 0 → ⊥) → taken d w memory words ≡ record { answer = rejected s; memory = memory }
+  pub read-call : (s : ℕ) → s ≡ badShape d w (length memory) → (s ≡ 0 → ⊥) → taken d w memory words ≡ record { answer = rejected s; memory = memory }
   unfolding taken readAfter
   read-call s e h = rw (← e) (go s h)
     where
@@ -94,7 +94,7 @@ module _ (d w : ℕ) (memory words : List ℕ) where
       go zero h = absurd (h refl)
       go (suc s) h = refl
 
-  module _ (s : ℕ) (e : s ≡ callStatus d w (length memory)) (z : s ≡ 0) (t : Step) (f : t ≡ checked d w words) where
+  module _ (s : ℕ) (e : s ≡ badShape d w (length memory)) (z : s ≡ 0) (t : Step) (f : t ≡ checked d w words) where
     pub read-faulty : (t .status ≡ 0 → ⊥) → taken d w memory words ≡ record { answer = record { status = t .status; position = t .position; value = 0 }; memory = memory }
     unfolding taken readAfter finishRead
     read-faulty h = rw (← e, z, ← f, ne-eqb (t .status) 0 h)

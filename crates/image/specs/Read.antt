@@ -9,10 +9,10 @@ use Rattle.group.specs.Status.{badPayload, accepted, rejected}
 use Rattle.group.specs.Group.{changed}
 use Rattle.group.specs.Pack.{unpacked}
 use Rattle.row.specs.Geometry.{stride}
-use Rattle.row.specs.Order.{Done}
+use Rattle.row.specs.Order.{badShape, Done}
 use Rattle.row.specs.Rows.{withGroup}
 use Rattle.image.specs.Image.{headKind, layoutKind, countKind, endKind, headPayload, wordsOf, levelAt, isFirst}
-use Rattle.image.specs.Write.{callStatus, slotSize, groupSize}
+use Rattle.image.specs.Write.{slotSize, groupSize}
 use Rattle.image.specs.declared.reader.Step.{Step}
 
 -- lines 8 and 10
@@ -151,4 +151,4 @@ readAfter zero d w memory words = finishRead (checked d w words) (readRows d w m
 readAfter (suc s) d w memory words = record { answer = rejected (suc s); memory = memory }
 
 unfoldable pub taken : ℕ → ℕ → List ℕ → List ℕ → Done
-taken d w memory words = readAfter (callStatus d w (length memory)) d w memory words
+taken d w memory words = readAfter (badShape d w (length memory)) d w memory words

@@ -2,18 +2,14 @@
 use Prim.Native.Nat.{ℕ, zero, suc, _+_}
 use mathlib.Core.Bool.{Bool, true, cond, _&&_}
 use mathlib.Core.List.{List, [], _∷_, _++_}
-use lib.Dec.{leb, eqb}
+use lib.Dec.{leb}
 use lib.ListN.{length, take, drop}
 use Rattle.layout.specs.Layout.{valid}
 use Rattle.group.specs.declared.Answer.{Answer}
 use Rattle.group.specs.Status.{invalidMerge, accepted, rejected}
-use Rattle.row.specs.Geometry.{stride, size}
-use Rattle.row.specs.Order.{unless, firstOf, badDepth, badWidth}
+use Rattle.row.specs.Geometry.{stride}
+use Rattle.row.specs.Order.{unless, firstOf, badShape}
 use Rattle.image.specs.Image.{wordsOf, levelAt, isFirst, image}
-
--- lines 1 to 3, for a memory of n bytes
-unfoldable pub callStatus : ℕ → ℕ → ℕ → ℕ
-callStatus d w n = firstOf (badDepth d ∷ badWidth w ∷ unless (eqb n (size d w)) 3 ∷ [])
 
 -- line 7
 abbrev pub tooFewWords : ℕ
@@ -48,7 +44,7 @@ pub record Written : Type 0 where
 unfoldable pub writeStatus : ℕ → ℕ → List ℕ → List ℕ → ℕ
 writeStatus d w memory words =
     firstOf
-    (callStatus d w (length memory) ∷ unless (validRows d w memory) invalidMerge
+    (badShape d w (length memory) ∷ unless (validRows d w memory) invalidMerge
     ∷ unless (leb (length (image d w memory)) (length words)) tooFewWords ∷ [])
 
 -- Lent words past the image stay.

@@ -14,7 +14,7 @@ pub fn write(d: usize, w: usize, memory: &[u8], words: &mut [u32]) -> Answer
     ensures { λ r. ⌜ r ≡ written d w (now (memory .entry)) (now (words .entry)) .answer ⌝ }
     ensures { λ _. ⌜ now (words .exit) ≡ written d w (now (memory .entry)) (now (words .entry)) .words ⌝ }
 {
-    let status = geometry::status_of(d, w, memory.len());
+    let status = row::bad_shape(d, w, memory.len());
     if status != 0 {
         return rejected(status, 0);
     }
@@ -34,7 +34,7 @@ pub fn read(d: usize, w: usize, memory: &mut [u8], words: &[u32]) -> Answer
     ensures { λ r. ⌜ r ≡ taken d w (now (memory .entry)) (now (words .entry)) .answer ⌝ }
     ensures { λ _. ⌜ now (memory .exit) ≡ taken d w (now (memory .entry)) (now (words .entry)) .memory ⌝ }
 {
-    let status = geometry::status_of(d, w, memory.len());
+    let status = row::bad_shape(d, w, memory.len());
     if status != 0 {
         return rejected(status, 0);
     }

@@ -2,6 +2,7 @@
 use crate::format;
 use crate::geometry::log_width;
 use group::Group;
+use row::store;
 ghost use mathlib.Core.Path.{_≡_};
 ghost use mathlib.Core.List.{_++_};
 ghost use Prim.Native.Nat.{_+_, _*_, _/_, _%_, _^_, _<_, _≤_};
@@ -275,26 +276,6 @@ pub fn read_group(merge: u8, words: &[u32], p: usize) -> Group
         at += format::slot_size(merge, k);
     }
     g
-}
-
-// Eight bytes put at `at`.
-pub fn put_eight(row: &mut [u8], at: usize, x: [u8; 8])
-    requires { ⌜ at + 8 ≤ length (now row) ⌝ }
-    ensures { λ _. ⌜ now (row .exit) ≡ take at (now (row .entry)) ++ x ++ drop (at + 8) (now (row .entry)) ⌝ }
-{
-    for i in 0..8 {
-        row[at + i] = x[i];
-    }
-}
-
-// Group g of a row of w slots.
-pub fn store(row: &mut [u8], w: usize, g: usize, x: Group)
-    requires { ⌜ 8 * g + 8 ≤ w ⌝ ∗ ⌜ w + g < length (now row) ⌝ }
-    ensures { λ _. ⌜ now (row .exit) ≡ withGroup w (now (row .entry)) g x ⌝ }
-{
-    let counts = x.counts;
-    put_eight(row, 8 * g, counts);
-    row[w + g] = x.merge;
 }
 
 // Four groups of a row, from group g on. Gives the position after their words.

@@ -4,6 +4,7 @@ use crate::format::group_size;
 use crate::format::word;
 use crate::geometry::log_width;
 use group::Group;
+use row::load;
 ghost use mathlib.Core.Path.{_≡_};
 ghost use mathlib.Core.Bool.{true};
 ghost use mathlib.Core.List.{_∷_, [], _++_};
@@ -14,29 +15,6 @@ ghost use Rattle.row.specs.Geometry.{stride};
 ghost use Rattle.row.specs.Rows.{groupAt};
 ghost use Rattle.image.specs.Image.{parts, slotWords, groupWords, groupsWords, layoutAt, fourWords, rowWords, rowsWords, image};
 ghost use Rattle.image.specs.Write.{allValid, validRows, slotSize, groupSize};
-
-// Eight bytes from `at` on.
-pub fn eight(row: &[u8], at: usize) -> [u8; 8]
-    requires { ⌜ at + 8 ≤ length (now row) ⌝ }
-    ensures { λ r. ⌜ r ≡ take 8 (drop at (now (row .entry))) ⌝ }
-{
-    let mut x = [0u8; 8];
-    for i in 0..8 {
-        x[i] = row[at + i];
-    }
-    x
-}
-
-// Group g of a row of w slots.
-pub fn load(row: &[u8], w: usize, g: usize) -> Group
-    requires { ⌜ 8 * g + 8 ≤ w ⌝ ∗ ⌜ w + g < length (now row) ⌝ }
-    ensures { λ r. ⌜ r ≡ groupAt w (now (row .entry)) g ⌝ }
-{
-    Group {
-        counts: eight(row, 8 * g),
-        merge: row[w + g],
-    }
-}
 
 // Whether the merge bytes of a row of w slots are valid.
 pub fn row_valid(row: &[u8], w: usize) -> bool

@@ -7,21 +7,21 @@ use borrow.Author.Needs.{needs}
 use Rattle.image.proofs.read.Statement.{statement}
 use Rattle.image.proofs.read.Tie as tie
 
-status-of-requires : tie.Need-status-of-requires
-status-of-requires c κs = search needs
+bad-shape-requires : tie.Need-bad-shape-requires
+bad-shape-requires c κs = search needs
 
 rejected-requires : tie.Need-rejected-requires
 rejected-requires c κs = search needs
 
 returns : tie.Need-returns
 returns c = let a = c .before .before .before .before .before .args in
-    let s = c .before .before .status-of in
+    let s = c .before .before .bad-shape in
     let e = read-call (a .d) (a .w) (a .memory .now) (a .words .now) (s .result) (s .ensures) (c .before .if1 .taken) in
     (c .rejected .ensures ∙ ap (λ (x : Done). x .answer) (sym e), ap (λ (x : Done). x .memory) (sym e))
 
 check-requires : tie.Need-check-requires
 check-requires c κs = let a = c .before .before .before .before .args in
-    let s = c .before .status-of in
+    let s = c .before .bad-shape in
     let z = c .if1 .left in
     let k = sound-call (a .d) (a .w) (length (a .memory .now)) (sym (s .ensures) ∙ z) in
     (omega arith, omega arith)
@@ -31,7 +31,7 @@ rejected-requires-2 c κs = search needs
 
 returns-2 : tie.Need-returns-2
 returns-2 c = let a = c .before .before .before .before .before .before .before .before .args in
-    let s = c .before .before .before .before .before .status-of in
+    let s = c .before .before .before .before .before .bad-shape in
     let z = c .before .before .before .before .if1 .left in
     let t = c .before .before .before .check in
     let e = read-faulty (a .d) (a .w) (a .memory .now) (a .words .now) (s .result) (s .ensures) z (t .result) (t .ensures) (c .before .if2 .taken) in
@@ -39,7 +39,7 @@ returns-2 c = let a = c .before .before .before .before .before .before .before 
 
 read-rows-requires : tie.Need-read-rows-requires
 read-rows-requires c κs = let a = c .before .before .before .before .before .before .before .before .args in
-    let s = c .before .before .before .before .before .status-of in
+    let s = c .before .before .before .before .before .bad-shape in
     let z = c .before .before .before .before .if1 .left in
     let k = sound-call (a .d) (a .w) (length (a .memory .now)) (sym (s .ensures) ∙ z) in
     (omega arith, (omega arith, omega arith))
@@ -52,7 +52,7 @@ same-length c = search needs
 
 returns-3 : tie.Need-returns-3
 returns-3 c = let a = c .before .before .before .before .before .before .before .before .before .before .before .before .args in
-    let s = c .before .before .before .before .before .before .before .before .before .status-of in
+    let s = c .before .before .before .before .before .before .before .before .before .bad-shape in
     let z = c .before .before .before .before .before .before .before .before .if1 .left in
     let t = c .before .before .before .before .before .before .before .check in
     let e = read-done (a .d) (a .w) (a .memory .now) (a .words .now) (s .result) (s .ensures) z (t .result) (t .ensures) (c .before .before .before .before .before .if2 .left) in
@@ -62,7 +62,7 @@ pub read-spec : {M : Type 1} → statement M
 read-spec =
     tie.close
     (tie.spec
-    status-of-requires
+    bad-shape-requires
     rejected-requires
     returns
     check-requires

@@ -11,21 +11,21 @@ use borrow.Author.Needs.{needs}
 use Rattle.image.proofs.write.Statement.{statement}
 use Rattle.image.proofs.write.Tie as tie
 
-status-of-requires : tie.Need-status-of-requires
-status-of-requires c κs = search needs
+bad-shape-requires : tie.Need-bad-shape-requires
+bad-shape-requires c κs = search needs
 
 rejected-requires : tie.Need-rejected-requires
 rejected-requires c κs = search needs
 
 returns : tie.Need-returns
 returns c = let a = c .before .before .before .before .before .args in
-    let s = c .before .before .status-of in
+    let s = c .before .before .bad-shape in
     let e = write-call (a .d) (a .w) (a .memory .now) (a .words .now) (s .result) (s .ensures) (c .before .if1 .taken) in
     (c .rejected .ensures ∙ ap (λ (x : Written). x .answer) (sym e), ap (λ (x : Written). x .words) (sym e))
 
 rows-valid-requires : tie.Need-rows-valid-requires
 rows-valid-requires c κs = let a = c .before .before .before .before .args in
-    let s = c .before .status-of in
+    let s = c .before .bad-shape in
     let z = c .if1 .left in
     let k = sound-call (a .d) (a .w) (length (a .memory .now)) (sym (s .ensures) ∙ z) in
     (omega arith, omega arith)
@@ -35,7 +35,7 @@ rejected-requires-2 c κs = search needs
 
 returns-2 : tie.Need-returns-2
 returns-2 c = let a = c .before .before .before .before .before .before .before .args in
-    let s = c .before .before .before .before .status-of in
+    let s = c .before .before .before .before .bad-shape in
     let z = c .before .before .before .if1 .left in
     let v = sym (c .before .before .rows-valid .ensures) ∙ not-true _ (c .before .if2 .taken) in
     let e = write-invalid (a .d) (a .w) (a .memory .now) (a .words .now) (s .result) (s .ensures) z v in
@@ -43,7 +43,7 @@ returns-2 c = let a = c .before .before .before .before .before .before .before 
 
 rows-size-requires : tie.Need-rows-size-requires
 rows-size-requires c κs = let a = c .before .before .before .before .before .before .args in
-    let s = c .before .before .before .status-of in
+    let s = c .before .before .before .bad-shape in
     let z = c .before .before .if1 .left in
     let k = sound-call (a .d) (a .w) (length (a .memory .now)) (sym (s .ensures) ∙ z) in
     (omega arith, (omega arith, omega arith))
@@ -56,7 +56,7 @@ rejected-requires-3 c κs = search needs
 
 returns-3 : tie.Need-returns-3
 returns-3 c = let a = c .before .before .before .before .before .before .before .before .before .args in
-    let s = c .before .before .before .before .before .before .status-of in
+    let s = c .before .before .before .before .before .before .bad-shape in
     let z = c .before .before .before .before .before .if1 .left in
     let v = sym (c .before .before .before .before .rows-valid .ensures) ∙ not-false _ (c .before .before .before .if2 .left) in
     let e = write-short (a .d) (a .w) (a .memory .now) (a .words .now) (s .result) (s .ensures) z v (omega (arith, image-length (a .d) (a .w) (a .memory .now), c .before .before .rows-size .ensures .0)) in
@@ -64,7 +64,7 @@ returns-3 c = let a = c .before .before .before .before .before .before .before 
 
 put-image-requires : tie.Need-put-image-requires
 put-image-requires c κs = let a = c .before .before .before .before .before .before .before .before .before .args in
-    let s = c .before .before .before .before .before .before .status-of in
+    let s = c .before .before .before .before .before .before .bad-shape in
     let z = c .before .before .before .before .before .if1 .left in
     let k = sound-call (a .d) (a .w) (length (a .memory .now)) (sym (s .ensures) ∙ z) in
     (omega arith, (omega arith, (omega arith, omega (arith, image-length (a .d) (a .w) (a .memory .now), c .before .before .rows-size .ensures .0))))
@@ -77,7 +77,7 @@ same-length c = search needs
 
 returns-4 : tie.Need-returns-4
 returns-4 c = let a = c .before .before .before .before .before .before .before .before .before .before .before .before .before .args in
-    let s = c .before .before .before .before .before .before .before .before .before .before .status-of in
+    let s = c .before .before .before .before .before .before .before .before .before .before .bad-shape in
     let z = c .before .before .before .before .before .before .before .before .before .if1 .left in
     let v = sym (c .before .before .before .before .before .before .before .before .rows-valid .ensures) ∙ not-false _ (c .before .before .before .before .before .before .before .if2 .left) in
     let n : c .before .before .before .before .before .before .rows-size .result + 2 ≡ length (image (a .d) (a .w) (a .memory .now)) = omega (arith, image-length (a .d) (a .w) (a .memory .now), c .before .before .before .before .before .before .rows-size .ensures .0) in
@@ -88,7 +88,7 @@ pub write-spec : {M : Type 1} → statement M
 write-spec =
     tie.close
     (tie.spec
-    status-of-requires
+    bad-shape-requires
     rejected-requires
     returns
     rows-valid-requires
