@@ -1,17 +1,15 @@
 -- The words of a counter are its value's digits: they pass the tests, and make the value again.
-use mathlib.Core.Path.{_≡_, refl, sym, ap, ap₂, _∙_}
+use mathlib.Core.Path.{_≡_, sym, ap, ap₂, _∙_}
 use mathlib.Core.Bool.{true}
-use mathlib.Core.List.{List, [], _∷_, _++_}
+use mathlib.Core.List.{List, _∷_, _++_}
 use Prim.Native.Nat.{ℕ, zero, suc, _+_, _-_, _*_, _/_, _%_, _^_, _≤_, _<_}
 use native.Mathlib.Nat.{add-zero, zero-add, mod-lt, mod-le, mod-one, mod-eq-of-lt, mul-one, mul-assoc, mul-le-mul-left, add-mul, zero-mul}
-use native.Mathlib.Numerals.{add-one, sub-one}
 use native.Mathlib.Omega.{arith}
 use borrow.Author.Tests.{lt-ltb, eq-eqb}
 use lib.ListN.{length, getD, drop, length-drop}
 use lib.Pow.{pow-add, pow-mono, pow-pos, shr-lt, mod-pow-add}
 use lib.Seq.{getD-drop, drop-drop, drop-at}
 use Rattle.block.specs.Block.{cap}
-use Rattle.image.specs.declared.reader.Step.{Step}
 use Rattle.image.specs.Image.{word, countKind, parts, wordsOf}
 use Rattle.image.specs.Read.{go, next, payload, isDue, tested, below, checkParts, firstBits, valueFrom}
 use Rattle.image.proofs.Laws.{parts-length}
@@ -28,7 +26,7 @@ here words p x rest e =
     record {
       inside = omega (arith, ap length e, length-drop p words);
       is = sym (rw z at (getD-drop p words 0 0)) ∙ ap (λ (l : List ℕ). getD l 0 0) e;
-      after = sym (drop-drop 1 p words) ∙ ap (drop 1) e
+      after = sym (drop-drop 1 p words) ∙ ap (drop 1) e;
     }
 
 -- a word that was written passes its tests

@@ -1,18 +1,15 @@
 -- What the writer wrote of a group, read back, is that group.
 use mathlib.Core.Path.{_≡_, refl, sym, ap, ap₂, _∙_}
-use mathlib.Core.Bool.{Bool, true, false, cond}
-use mathlib.Core.List.{List, [], _∷_, _++_, append-assoc}
-use Prim.Native.Nat.{ℕ, zero, suc, _+_, _-_, _*_, _/_, _%_, _^_, _≤_, _<_}
+use mathlib.Core.Bool.{Bool, true, false}
+use mathlib.Core.List.{List, _++_, append-assoc}
+use Prim.Native.Nat.{ℕ, zero, suc, _+_, _-_, _/_, _%_, _^_, _≤_, _<_}
 use native.Mathlib.Nat.{add-zero, add-assoc, mod-eq-of-lt, mod-lt}
-use native.Mathlib.Numerals.{add-one}
 use native.Mathlib.Decide.{decLt}
 use native.Mathlib.Omega.{arith}
 use borrow.Author.Tests.{eqb-true, eqb-false}
-use lib.Dec.{eqb}
-use lib.ListN.{length, getD, take, drop, replicate, length-append}
+use lib.ListN.{getD, drop, replicate}
 use Rattle.layout.specs.Layout.{Layout, layout, valid}
-use Rattle.block.specs.declared.Counter.{Counter}
-use Rattle.block.specs.Block.{Block, cap, Fits, shape, word, fill, block, counterAt}
+use Rattle.block.specs.Block.{Block, cap, Fits, shape, word, block, counterAt}
 use Rattle.block.specs.Change.{change}
 use Rattle.block.proofs.Laws.{word-lt, shape-fill, fill-word, block-fits}
 use Rattle.block.proofs.Changing.{change-fits, change-shape}
@@ -20,11 +17,11 @@ use Rattle.group.specs.declared.Group.{Group}
 use Rattle.group.specs.declared.Reading.{Reading}
 use Rattle.group.specs.Group.{number, bytes, decode, encode, read, reading, changed}
 use Rattle.group.proofs.Bytes.{number-bytes, bytes-length}
-use Rattle.group.proofs.Laws.{Eight, number-in, encode-decode, cap-three}
+use Rattle.group.proofs.Laws.{Eight, number-in, encode-decode}
 use Rattle.image.specs.Image.{parts, wordsOf, levelAt, isFirst, slotWords, slotsWords, groupWords}
 use Rattle.image.specs.Write.{slotSize, slotsSize, groupSize}
-use Rattle.image.specs.Read.{go, next, checkSlot, checkSlots, readSlot, readSlots, readGroup, valueFrom}
-use Rattle.image.proofs.Laws.{slot-none, slot-some, slot-length, slots-length, read-slot-other, read-slot-merge, read-slot-first, check-slot-other, size-first, size-other}
+use Rattle.image.specs.Read.{go, next, checkSlot, checkSlots, readSlot, readSlots, readGroup}
+use Rattle.image.proofs.Laws.{slot-none, slot-some, read-slot-other, read-slot-merge, read-slot-first, check-slot-other, size-first, size-other}
 use Rattle.image.proofs.Trees.{level-le, levelOf, level-is, value-lt, change-at, change-before, same-before, counters-ext}
 use Rattle.image.proofs.Digits.{check-counter, value-counter, parts-after}
 
@@ -144,9 +141,9 @@ module _ (k : ℕ) (g h : Group) (words : List ℕ) (p : ℕ) (rest : List ℕ) 
       let z : n ≡ slotSize (g .merge) k = size-first (g .merge) k L n refl t refl in
       let th : isFirst (h .merge) k ≡ true = ap (λ (x : ℕ). isFirst x k) m ∙ t in
       let R : readSlot k h words p ≡ changed h k v .group
-          = sym (read-slot-first k h L n v words p (ap (λ (x : ℕ). levelAt x k) (sym m)) th refl (sym (value-counter L v words p rest three low d))) in
+      = sym (read-slot-first k h L n v words p (ap (λ (x : ℕ). levelAt x k) (sym m)) th refl (sym (value-counter L v words p rest three low d))) in
       let vh : v % cap (counterAt (decode h) k .level) ≡ v
-          = mod-eq-of-lt {n = v} {m = cap (counterAt (decode h) k .level)} (rw (same-level, ← level-at g k o i) low) in
+      = mod-eq-of-lt {n = v} {m = cap (counterAt (decode h) k .level)} (rw (same-level, ← level-at g k o i) low) in
       record {
         checks = rw t (check-counter L v words p rest low d) ∙ ap (λ (x : ℕ). go (p + x)) z;
         after = rw (← z) (parts-after n v words p rest d);
@@ -154,7 +151,7 @@ module _ (k : ℕ) (g h : Group) (words : List ℕ) (p : ℕ) (rest : List ℕ) 
         agree = λ j l. up-to l
             (λ b. ap (λ (x : Group). counterAt (decode x) j) R ∙ changed-before k h v j q i th b ∙ f j b)
             (λ b. rw b (ap (λ (x : Group). counterAt (decode x) k) R ∙ changed-at k h v q i
-            ∙ ap₂ (λ (x y : ℕ). record { value = x; level = y }) (vh ∙ read-value g k o i) same-level))
+            ∙ ap₂ (λ (x y : ℕ). record { value = x; level = y }) (vh ∙ read-value g k o i) same-level));
       }
 
   slot-other : isFirst (g .merge) k ≡ false → Slot k g h words p rest
@@ -170,7 +167,7 @@ module _ (k : ℕ) (g h : Group) (words : List ℕ) (p : ℕ) (rest : List ℕ) 
         good = rw R q;
         agree = λ j l. up-to l
             (λ b. ap (λ (x : Group). counterAt (decode x) j) R ∙ f j b)
-            (λ b. rw b (ap (λ (x : Group). counterAt (decode x) k) R ∙ sh .1 ∙ f (k - 1) (omega (arith, sh .0)) ∙ sym (sg .1)))
+            (λ b. rw b (ap (λ (x : Group). counterAt (decode x) k) R ∙ sh .1 ∙ f (k - 1) (omega (arith, sh .0)) ∙ sym (sg .1)));
       }
 
   slot-restored : Slot k g h words p rest
@@ -189,7 +186,7 @@ slots-restored zero k g h words p rest o q m i f e =
     record {
       checks = ap go (sym (add-zero p));
       after = rw (add-zero p) e;
-      is = group-ext g h o q m (λ j l. f j (omega arith))
+      is = group-ext g h o q m (λ j l. f j (omega arith));
     }
 slots-restored (suc n) k g h words p rest o q m i f e =
     let s = slot-restored k g h words p (slotsWords n (k + 1) g ++ rest) o q m (omega arith) f (e ∙ append-assoc (slotWords g k) (slotsWords n (k + 1) g) rest) in
@@ -199,7 +196,7 @@ slots-restored (suc n) k g h words p rest o q m i f e =
     record {
       checks = rw (s .checks) (r .checks ∙ ap go a);
       after = rw (← a) (r .after);
-      is = ap (λ (x : ℕ). readSlots n (k + 1) (readSlot k h words p) words (p + slotSize x k)) m ∙ r .is
+      is = ap (λ (x : ℕ). readSlots n (k + 1) (readSlot k h words p) words (p + slotSize x k)) m ∙ r .is;
     }
 
 pub zero-good : (m : ℕ) → valid 3 m ≡ true → Good (record { counts = replicate 8 0; merge = m })

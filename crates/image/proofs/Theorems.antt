@@ -1,26 +1,23 @@
 -- What the writer wrote for a meter, read back with the same depth and width, is accepted and restores that meter byte for byte.
-use mathlib.Core.Path.{_≡_, refl, sym, ap, ap₂, _∙_}
-use mathlib.Core.Bool.{Bool, true, false, cond}
+use mathlib.Core.Path.{_≡_, refl, sym, ap, _∙_}
+use mathlib.Core.Bool.{true}
 use mathlib.Core.List.{List, [], _∷_, _++_}
-use Prim.Native.Nat.{ℕ, zero, suc, _+_, _-_, _*_, _/_, _%_, _^_, _≤_, _<_}
-use native.Mathlib.Numerals.{add-one}
+use Prim.Native.Nat.{ℕ, zero, suc, _+_, _*_, _%_, _^_, _≤_, _<_}
 use native.Mathlib.Omega.{arith}
 use borrow.Author.Tests.{eq-eqb}
-use lib.Dec.{eqb, ltb}
+use lib.Dec.{ltb}
 use lib.ListN.{length, take, drop, length-drop, length-append}
 use lib.Seq.{take-append-seam}
 use Rattle.group.specs.Status.{accepted}
 use Rattle.group.proofs.Bytes.{Bytes}
-use Rattle.meter.specs.Geometry.{stride}
-use Rattle.meter.specs.Order.{Done}
-use Rattle.image.specs.declared.reader.Step.{Step}
+use Rattle.row.specs.Order.{badShape}
 use Rattle.image.specs.Image.{word, headKind, endKind, logFrom, logWidth, headPayload, rowsWords, body, endWord, image}
-use Rattle.image.specs.Write.{callStatus, validRows, Written, written}
-use Rattle.image.specs.Read.{go, next, payload, tested, below, checkHead, checkFours, checkEnd, checked, readRows, taken}
-use Rattle.image.proofs.Calls.{Sound, sound-call, image-length, write-done, read-done}
+use Rattle.image.specs.Write.{validRows, written}
+use Rattle.image.specs.Read.{go, next, tested, checkHead, checkEnd, checked, taken}
+use Rattle.image.proofs.Calls.{Sound, sound-call, write-done, read-done}
 use Rattle.image.proofs.Digits.{payload-here, due-here, below-here}
 use Rattle.image.proofs.Restoring.{by-test}
-use Rattle.image.proofs.Rows.{Meter, Rows, afterRows, rows-restored}
+use Rattle.image.proofs.Rows.{Rows, afterRows, rows-restored}
 
 log-le : (n k p w : ℕ) → logFrom n k p w ≤ k + n
 unfolding logFrom
@@ -31,7 +28,7 @@ head-lt : (d w : ℕ) → d ≤ 8 → headPayload d w < 2 ^ 9
 unfolding headPayload logWidth
 head-lt d w h = omega (arith, log-le 11 5 32 w)
 
-module _ (d w : ℕ) (memory old : List ℕ) (call : callStatus d w (length memory) ≡ 0) (bytes : Bytes memory) (merges : validRows d w memory ≡ true) (long : length old ≡ length memory) where
+module _ (d w : ℕ) (memory old : List ℕ) (call : badShape d w (length memory) ≡ 0) (bytes : Bytes memory) (merges : validRows d w memory ≡ true) (long : length old ≡ length memory) where
   sound : Sound d w (length memory)
   sound = sound-call d w (length memory) call
 
@@ -78,7 +75,7 @@ module _ (d w : ℕ) (memory old : List ℕ) (call : callStatus d w (length memo
   pub restored : taken d w old (image d w memory) ≡ record { answer = accepted (length (image d w memory)); memory = memory }
   unfolding words
   restored =
-      read-done d w old words 0 (sym call ∙ ap (callStatus d w) (sym long)) refl (go (length words)) (sym passes) refl
+      read-done d w old words 0 (sym call ∙ ap (badShape d w) (sym long)) refl (go (length words)) (sym passes) refl
       ∙ ap (λ (m : List ℕ). record { answer = accepted (length words); memory = m }) (rows .is)
 
   -- the same, from what a write left in the words that it was lent
