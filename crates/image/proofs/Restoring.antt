@@ -117,7 +117,7 @@ changed-before k h v j q i t l =
     ap (λ (b : Block 3). counterAt b j) (decode-changed h k v q ∙ ap (λ (x : ℕ). change (decode h) x v) (mod-eq-of-lt {n = k} {m = 8} i))
     ∙ change-before (decode h) k j v l i (first-level h k q i t)
 
-up-to : {k j : ℕ} {A : Type 0} → j < k + 1 → (j < k → A) → (j ≡ k → A) → A
+pub up-to : {k j : ℕ} {A : Type 0} → j < k + 1 → (j < k → A) → (j ≡ k → A) → A
 up-to {k} {j} h f g = elim (decLt j k) [ yes l ↦ f l | no l ↦ g (omega arith) ]
 
 -- a slot that was written, read back
