@@ -3,3 +3,4 @@ pub mod Bytes
 pub mod Laws
 pub mod Packing
 pub mod Cases
+pub mod Changing

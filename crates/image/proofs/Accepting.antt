@@ -1,17 +1,16 @@
 -- Words that a reader accepts are those that the writer gives for what was read.
 use mathlib.Core.Path.{_≡_, refl, sym, ap, ap₂, subst, _∙_}
-use mathlib.Core.Bool.{Bool, true, false, cond, _&&_, true≢false}
-use mathlib.Core.List.{List, [], _∷_, _++_, append-assoc}
+use mathlib.Core.Bool.{Bool, true, false}
+use mathlib.Core.List.{List, _∷_, _++_, append-assoc}
 use Prim.Native.Nat.{ℕ, zero, suc, _+_, _-_, _*_, _/_, _%_, _^_, _≤_, _<_}
-use native.Mathlib.Nat.{add-zero, zero-add, zero-mul, add-assoc, mul-assoc, add-mul, mod-lt, mod-eq-of-lt, mul-le-mul-right, suc-mul}
+use native.Mathlib.Nat.{add-zero, zero-add, zero-mul, add-assoc, mul-assoc, add-mul, mod-eq-of-lt}
 use native.Mathlib.Numerals.{add-one}
-use native.Mathlib.Decide.{decLt}
 use native.Mathlib.Omega.{arith}
 use borrow.Author.Tests.{eqb-true, eqb-false, ltb-true}
 use lib.Dec.{eqb, ltb}
 use lib.Arith.{digits-lt, digits-div, digits-mod}
-use lib.ListN.{length, getD, take, drop, replicate}
-use lib.Pow.{pow-add, pow-mono, pow-pos}
+use lib.ListN.{length, getD, drop, replicate}
+use lib.Pow.{pow-add, pow-mono}
 use lib.Seq.{drop-cons}
 use Rattle.layout.specs.Layout.{valid}
 use Rattle.block.specs.declared.Counter.{Counter}
@@ -23,10 +22,11 @@ use Rattle.image.specs.declared.reader.Step.{Step}
 use Rattle.image.specs.Image.{word, countKind, parts, wordsOf, levelAt, isFirst, slotWords, slotsWords, groupWords}
 use Rattle.image.specs.Write.{slotSize, slotsSize, groupSize}
 use Rattle.image.specs.Read.{go, next, payload, isDue, tested, below, firstBits, checkParts, checkSlot, checkSlots, valueFrom, readSlot, readSlots, readGroup}
-use Rattle.image.proofs.Laws.{due-in, slot-none, slot-some, size-first, size-other, read-slot-other, read-slot-first, read-slot-merge}
-use Rattle.image.proofs.Trees.{level-le}
-use Rattle.image.proofs.Digits.{words-bits, value-digits}
-use Rattle.image.proofs.Restoring.{Good, Agree, by-test, up-to, level-at, read-value, good-changed, changed-at, changed-before, zero-good}
+use Rattle.image.proofs.Laws.{both, slot-none, slot-some, size-first, size-other, read-slot-other, read-slot-first, read-slot-merge}
+use Rattle.block.proofs.Slots.{level-le}
+use Rattle.group.proofs.Changing.{Good, good-changed, changed-at, changed-before, zero-good}
+use Rattle.image.proofs.Digits.{words-bits, power-step, value-digits}
+use Rattle.image.proofs.Restoring.{Agree, by-test, level-at, read-value, first-level}
 
 -- a test that was passed, and the tests after it
 pub record Passed (s : Step) (f : ℕ → Step) (q : ℕ) : Type 0 where
@@ -45,10 +45,6 @@ pub record Word (words : List ℕ) (p kind : ℕ) (holds : Bool) (q : ℕ) : Typ
   pub true-of : holds ≡ true
   pub position : q ≡ p + 1
   pub is : drop p words ≡ word kind (payload words p) ∷ drop (p + 1) words
-
-both : (a b : Bool) → (a && b) ≡ true → (a ≡ true) × (b ≡ true)
-both true b e = (refl, e)
-both false b e = absurd (true≢false (sym e))
 
 due-is : (words : List ℕ) (p kind : ℕ) → isDue words p kind ≡ true → drop p words ≡ word kind (payload words p) ∷ drop (p + 1) words
 unfolding isDue payload word
@@ -81,9 +77,6 @@ record Digits (n : ℕ) (words : List ℕ) (p limit q : ℕ) : Type 0 where
   position : q ≡ p + n
   is : (h : ℕ) → drop p words ≡ parts n (h * 2 ^ (24 * n) + low n words p) ++ drop q words
 
-power-step : (n : ℕ) → 2 ^ (24 * suc n) ≡ 2 ^ 24 * 2 ^ (24 * n)
-power-step n = ap (λ (k : ℕ). 2 ^ k) (omega arith) ∙ pow-add 2 24 (24 * n)
-
 digits-are : (n : ℕ) (words : List ℕ) (p limit q : ℕ) → limit ≤ 2 ^ 24 → checkParts n words p limit ≡ go q → Digits n words p limit q
 unfolding checkParts low parts
 digits-are zero words p limit q l e =
@@ -103,9 +96,9 @@ digits-are (suc n) words p limit q l e =
       position = r .position ∙ omega arith;
       is = λ h.
           let v : h * 2 ^ (24 * suc n) + (d * m + y) ≡ (h * 2 ^ 24 + d) * m + y
-              = omega (arith, ap (λ (z : ℕ). h * z) (power-step n) ∙ sym (mul-assoc h (2 ^ 24) m), add-mul (h * 2 ^ 24) d m) in
+          = omega (arith, ap (λ (z : ℕ). h * z) (power-step n) ∙ sym (mul-assoc h (2 ^ 24) m), add-mul (h * 2 ^ 24) d m) in
           let x : ((h * 2 ^ 24 + d) * m + y) / m % 2 ^ 24 ≡ d = ap (λ (z : ℕ). z % 2 ^ 24) (digits-div (h * 2 ^ 24 + d) (r .small)) ∙ digits-mod h d< in
-          b .is ∙ rw (v, x) (ap (λ (z : List ℕ). word countKind d ∷ z) (r .is (h * 2 ^ 24 + d)))
+          b .is ∙ rw (v, x) (ap (λ (z : List ℕ). word countKind d ∷ z) (r .is (h * 2 ^ 24 + d)));
     }
 
 first-low : (n : ℕ) (words : List ℕ) (p bits q : ℕ) → bits ≤ 24 → checkParts (suc n) words p (2 ^ bits) ≡ go q → low (suc n) words p < 2 ^ (bits + 24 * n)
@@ -131,12 +124,12 @@ value-is level words p q l e =
     let d = digits-are n words p (2 ^ firstBits level) q (pow-mono {i = firstBits level} {j = 24} bits) e in
     let c = subst (λ (k : ℕ). checkParts k words p (2 ^ firstBits level) ≡ go q) s e in
     let f : low n words p < 2 ^ (8 * 2 ^ level)
-        = omega (arith, first-low (n - 1) words p (firstBits level) q bits c, ap (λ (k : ℕ). low k words p) s, ap (λ (k : ℕ). 2 ^ k) (b .1)) in
+    = omega (arith, first-low (n - 1) words p (firstBits level) q bits c, ap (λ (k : ℕ). low k words p) s, ap (λ (k : ℕ). 2 ^ k) (b .1)) in
     let g : low n words p < 2 ^ 64 = omega (arith, f, pow-mono {i = 8 * 2 ^ level} {j = 64} (omega (arith, pow-mono {i = level} {j = 3} l))) in
     let z : 0 * 2 ^ (24 * n) + low n words p ≡ low n words p = rw (zero-mul (2 ^ (24 * n))) (zero-add (low n words p)) in
     let i : drop p words ≡ parts n (low n words p) ++ drop q words = d .is 0 ∙ ap (λ (v : ℕ). parts n v ++ drop q words) z in
     let y : 0 * 2 ^ (24 * n) + low n words p % 2 ^ (24 * n) ≡ low n words p
-        = rw (zero-mul (2 ^ (24 * n)), mod-eq-of-lt {n = low n words p} {m = 2 ^ (24 * n)} (d .small)) (zero-add (low n words p)) in
+    = rw (zero-mul (2 ^ (24 * n)), mod-eq-of-lt {n = low n words p} {m = 2 ^ (24 * n)} (d .small)) (zero-add (low n words p)) in
     let v : valueFrom n 0 words p ≡ low n words p = value-digits n 0 (low n words p) words p (drop q words) (omega (arith, y, g)) i ∙ y in
     record { fits = rw v f; position = d .position; is = rw v i }
   where
@@ -164,12 +157,12 @@ module _ (k : ℕ) (h : Group) (words : List ℕ) (p q : ℕ) (o : Good h) (i : 
       record {
         position = a .position ∙ ap (λ (x : ℕ). p + x) (size-first (h .merge) k L n refl t refl);
         good = rw R (good-changed h k v o);
-        kept = λ j l. ap (λ (x : Group). counterAt (decode x) j) R ∙ changed-before k h v j o i t l;
+        kept = λ j l. ap (λ (x : Group). counterAt (decode x) j) R ∙ changed-before k h v j o i (first-level h k o i t) l;
         is = λ f d m c.
             let w : read f k .value ≡ v
-                = read-value f k d i ∙ ap (λ (x : Counter). x .value) (c ∙ ap (λ (x : Group). counterAt (decode x) k) R ∙ changed-at k h v o i) ∙ vh in
+            = read-value f k d i ∙ ap (λ (x : Counter). x .value) (c ∙ ap (λ (x : Group). counterAt (decode x) k) R ∙ changed-at k h v o i) ∙ vh in
             let s = slot-some f k L n (read f k) (ap (λ (x : ℕ). levelAt x k) (sym m)) (ap (λ (x : ℕ). isFirst x k) m ∙ t) refl refl in
-            a .is ∙ ap (λ (l : List ℕ). l ++ drop q words) (ap (parts n) (sym w) ∙ s)
+            a .is ∙ ap (λ (l : List ℕ). l ++ drop q words) (ap (parts n) (sym w) ∙ s);
       }
 
   slot-other : isFirst (h .merge) k ≡ false → Slot k h words p q
@@ -181,7 +174,7 @@ module _ (k : ℕ) (h : Group) (words : List ℕ) (p q : ℕ) (o : Good h) (i : 
         position = sym z ∙ sym (ap (λ (x : ℕ). p + x) (sym (size-other (h .merge) k t)) ∙ add-zero p);
         good = rw R o;
         kept = λ j l. ap (λ (x : Group). counterAt (decode x) j) R;
-        is = λ f d m c. ap (λ (x : ℕ). drop x words) z ∙ ap (λ (l : List ℕ). l ++ drop q words) (sym (slot-none f k (ap (λ (x : ℕ). isFirst x k) m ∙ t)))
+        is = λ f d m c. ap (λ (x : ℕ). drop x words) z ∙ ap (λ (l : List ℕ). l ++ drop q words) (sym (slot-none f k (ap (λ (x : ℕ). isFirst x k) m ∙ t)));
       }
 
   slot-is : Slot k h words p q
@@ -218,7 +211,7 @@ slots-are (suc n) k h words p q o i e =
       is =
           s .is F (y .good) (y .merge ∙ m) (y .kept k (omega arith))
           ∙ ap (λ (u : List ℕ). slotWords F k ++ u) (ap (λ (u : ℕ). drop u words) (s .position) ∙ y .is)
-          ∙ sym (append-assoc (slotWords F k) (slotsWords n (k + 1) F) (drop q words))
+          ∙ sym (append-assoc (slotWords F k) (slotsWords n (k + 1) F) (drop q words));
     }
 
 -- a group whose words have passed

@@ -1,17 +1,15 @@
 -- The words of a counter are its value's digits: they pass the tests, and make the value again.
-use mathlib.Core.Path.{_≡_, refl, sym, ap, ap₂, _∙_}
+use mathlib.Core.Path.{_≡_, sym, ap, ap₂, _∙_}
 use mathlib.Core.Bool.{true}
-use mathlib.Core.List.{List, [], _∷_, _++_}
+use mathlib.Core.List.{List, _∷_, _++_}
 use Prim.Native.Nat.{ℕ, zero, suc, _+_, _-_, _*_, _/_, _%_, _^_, _≤_, _<_}
 use native.Mathlib.Nat.{add-zero, zero-add, mod-lt, mod-le, mod-one, mod-eq-of-lt, mul-one, mul-assoc, mul-le-mul-left, add-mul, zero-mul}
-use native.Mathlib.Numerals.{add-one, sub-one}
 use native.Mathlib.Omega.{arith}
 use borrow.Author.Tests.{lt-ltb, eq-eqb}
 use lib.ListN.{length, getD, drop, length-drop}
 use lib.Pow.{pow-add, pow-mono, pow-pos, shr-lt, mod-pow-add}
 use lib.Seq.{getD-drop, drop-drop, drop-at}
 use Rattle.block.specs.Block.{cap}
-use Rattle.image.specs.declared.reader.Step.{Step}
 use Rattle.image.specs.Image.{word, countKind, parts, wordsOf}
 use Rattle.image.specs.Read.{go, next, payload, isDue, tested, below, checkParts, firstBits, valueFrom}
 use Rattle.image.proofs.Laws.{parts-length}
@@ -28,7 +26,7 @@ here words p x rest e =
     record {
       inside = omega (arith, ap length e, length-drop p words);
       is = sym (rw z at (getD-drop p words 0 0)) ∙ ap (λ (l : List ℕ). getD l 0 0) e;
-      after = sym (drop-drop 1 p words) ∙ ap (drop 1) e
+      after = sym (drop-drop 1 p words) ∙ ap (drop 1) e;
     }
 
 -- a word that was written passes its tests
@@ -81,7 +79,7 @@ check-counter level v words p rest h e =
     let l : v / 2 ^ (24 * n) < 2 ^ firstBits level = shr-lt (firstBits level) (24 * n) (rw (b .1) h) in
     rw s (check-value n v words p rest (2 ^ firstBits level) (rw s at e) (omega (arith, l, mod-le (v / 2 ^ (24 * n)) (2 ^ 24))))
 
-power-step : (n : ℕ) → 2 ^ (24 * suc n) ≡ 2 ^ 24 * 2 ^ (24 * n)
+pub power-step : (n : ℕ) → 2 ^ (24 * suc n) ≡ 2 ^ 24 * 2 ^ (24 * n)
 power-step n = ap (λ (k : ℕ). 2 ^ k) (omega arith) ∙ pow-add 2 24 (24 * n)
 
 pub value-digits : (n u v : ℕ) (words : List ℕ) (p : ℕ) (rest : List ℕ) → u * 2 ^ (24 * n) + v % 2 ^ (24 * n) < 2 ^ 64 → drop p words ≡ parts n v ++ rest

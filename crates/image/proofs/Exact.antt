@@ -1,30 +1,29 @@
 -- Words that a reader accepts are exactly the image of the memory that was read.
-use mathlib.Core.Path.{_≡_, refl, sym, ap, ap₂, subst, _∙_}
-use mathlib.Core.Bool.{Bool, true, false, cond, _&&_, true≢false}
+use mathlib.Core.Path.{_≡_, refl, sym, ap, ap₂, _∙_}
+use mathlib.Core.Bool.{true}
 use mathlib.Core.List.{List, [], _∷_, _++_, append-assoc}
-use Prim.Native.Nat.{ℕ, zero, suc, _+_, _-_, _*_, _/_, _%_, _^_, _≤_, _<_}
-use native.Mathlib.Nat.{add-zero, zero-add, suc-add, zero-mul, suc-mul, add-comm}
-use native.Mathlib.Numerals.{add-one}
+use Prim.Native.Nat.{ℕ, zero, suc, _+_, _*_, _/_, _%_, _≤_, _<_}
+use native.Mathlib.Nat.{zero-add, suc-add, zero-mul, suc-mul, add-comm}
 use native.Mathlib.Decide.{decLt}
 use native.Mathlib.Omega.{arith}
 use borrow.Author.Tests.{lt-ltb, ltb-true}
-use lib.Dec.{eqb, ltb}
-use lib.ListN.{length, getD, take, drop, length-append, length-take, length-drop, take-append-drop}
+use lib.ListN.{length, getD, take, drop, length-append, length-drop}
 use lib.Seq.{getD-take, getD-drop, ext-getD, length-take-le, take-at, drop-at}
 use Rattle.layout.specs.Layout.{valid}
 use Rattle.group.specs.declared.Answer.{Answer}
 use Rattle.group.specs.declared.Group.{Group}
-use Rattle.group.specs.Pack.{codeMerge, packed, fourMerges, unpacked}
+use Rattle.group.specs.Pack.{packed, fourMerges, unpacked}
 use Rattle.group.proofs.Laws.{Eight}
 use Rattle.group.proofs.Packing.{code-merge, pack-unpack}
+use Rattle.group.proofs.Changing.{Good}
 use Rattle.meter.specs.Geometry.{stride}
 use Rattle.meter.specs.Rows.{groupAt, withGroup}
 use Rattle.image.specs.declared.reader.Step.{Step}
 use Rattle.image.specs.Image.{word, layoutKind, layoutAt, groupWords, groupsWords, fourWords, rowWords, rowsWords}
 use Rattle.image.specs.Write.{allValid, validRows, groupSize}
 use Rattle.image.specs.Read.{go, next, payload, below, mergesAt, checkSlots, checkGroups, checkFour, checkFours, readGroup, readGroups, afterGroups, readFours, afterFours, readRows}
-use Rattle.image.proofs.Restoring.{Good, by-test, up-to}
-use Rattle.image.proofs.Rows.{with-length, with-before, with-counts, with-merge, with-after, merges-from, afterRows}
+use Rattle.image.proofs.Laws.{both}
+use Rattle.image.proofs.Rows.{with-length, with-before, with-counts, with-merge, with-after, merges-from}
 use Rattle.image.proofs.Accepting.{passed, below-is, group-is}
 
 -- a group that was stored, and the groups before it
@@ -67,10 +66,6 @@ record Groups (ms : List ℕ) (g w : ℕ) (row words : List ℕ) (p q : ℕ) (ne
   merges : merges-from (length ms) g w new ≡ ms
   is : drop p words ≡ groupsWords (length ms) g w new ++ drop q words
 
-and-parts : (a b : Bool) → (a && b) ≡ true → (a ≡ true) × (b ≡ true)
-and-parts true b e = (refl, e)
-and-parts false b e = absurd (true≢false (sym e))
-
 groups-are : (ms : List ℕ) (g w : ℕ) (row words : List ℕ) (p q : ℕ) → allValid ms ≡ true → 8 * (g + length ms) ≤ w → w + (g + length ms) ≤ length row
     → checkGroups ms words p ≡ go q → Groups ms g w row words p q (readGroups ms g w row words p)
 unfolding allValid checkGroups readGroups afterGroups groupsWords merges-from
@@ -80,7 +75,7 @@ groups-are [] g w row words p q v a b e =
 groups-are (m ∷ ms) g w row words p q v a b e =
     let t = passed (checkSlots 8 0 m words p) (λ r. checkGroups ms words r) q e in
     let r = checkSlots 8 0 m words p .position in
-    let va = and-parts (valid 3 m) (allValid ms) v in
+    let va = both (valid 3 m) (allValid ms) v in
     let d = group-is m words p r (va .0) (t .here) in
     let x = readGroup m words p in
     let one = withGroup w row g x in
@@ -98,7 +93,7 @@ groups-are (m ∷ ms) g w row words p q v a b e =
       is =
           d .is
           ∙ ap₂ (λ (u : Group) (us : List ℕ). groupWords u ++ us) (sym here) (ap (λ (i : ℕ). drop i words) (d .position) ∙ y .is)
-          ∙ sym (append-assoc (groupWords (groupAt w new g)) (groupsWords (length ms) (g + 1) w new) (drop q words))
+          ∙ sym (append-assoc (groupWords (groupAt w new g)) (groupsWords (length ms) (g + 1) w new) (drop q words));
     }
 
 -- the merge bytes of a layout code
@@ -207,7 +202,7 @@ fours-are (suc n) g w row words p q a b e =
       is =
           s .1
           ∙ ap₂ (λ (u us : List ℕ). u ++ us) (four-cong g w one new (λ j h. sym (y .kept j h))) (ap (λ (i : ℕ). drop i words) (s .0 .position) ∙ y .is)
-          ∙ sym (append-assoc (fourWords w new g) (rowWords n (g + 4) w new) (drop q words))
+          ∙ sym (append-assoc (fourWords w new g) (rowWords n (g + 4) w new) (drop q words));
     }
 
 all-valid : (ms : List ℕ) → ((i : ℕ) → i < length ms → valid 3 (getD ms i 0) ≡ true) → allValid ms ≡ true
@@ -232,7 +227,7 @@ row-is w row words p q a b e =
       position = y .position;
       long = l;
       merges = all-valid (drop w new) (λ i h. rw (getD-drop w new i 0) (y .good i (omega arith) (omega (arith, length-drop w new)) .merges));
-      is = y .is
+      is = y .is;
     }
 
 record Split (a b : ℕ) (words : List ℕ) (p q : ℕ) : Type 0 where
@@ -280,5 +275,5 @@ rows-are (suc n) w old words p q a b e =
     record {
       long = length-append row others ∙ omega (arith, r .long, y .long);
       merges = rw (u, v, r .merges, y .merges);
-      is = rw (u, v) (r .is ∙ ap (λ (x : List ℕ). rowWords (w / 32) 0 w row ++ x) (ap (λ (i : ℕ). drop i words) (r .position) ∙ y .is) ∙ sym (append-assoc (rowWords (w / 32) 0 w row) (rowsWords n w others) (drop q words)))
+      is = rw (u, v) (r .is ∙ ap (λ (x : List ℕ). rowWords (w / 32) 0 w row ++ x) (ap (λ (i : ℕ). drop i words) (r .position) ∙ y .is) ∙ sym (append-assoc (rowWords (w / 32) 0 w row) (rowsWords n w others) (drop q words)));
     }

@@ -1,5 +1,4 @@
 pub mod Laws
-pub mod Trees
 pub mod Calls
 pub mod Digits
 pub mod Restoring

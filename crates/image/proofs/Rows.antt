@@ -1,33 +1,31 @@
 -- What the writer wrote of a meter, read back, is that meter.
 use mathlib.Core.Path.{_≡_, refl, sym, ap, ap₂, subst, _∙_}
-use mathlib.Core.Bool.{Bool, true, false, cond, _&&_, true≢false}
+use mathlib.Core.Bool.{true}
 use mathlib.Core.List.{List, [], _∷_, _++_, append-assoc}
-use Prim.Native.Nat.{ℕ, zero, suc, _+_, _-_, _*_, _/_, _%_, _^_, _≤_, _<_}
+use Prim.Native.Nat.{ℕ, zero, suc, _+_, _-_, _*_, _/_, _%_, _≤_, _<_}
 use native.Mathlib.Nat.{add-zero, zero-add, suc-add, add-comm, zero-mul, suc-mul}
-use native.Mathlib.Numerals.{add-one}
 use native.Mathlib.Decide.{decLt}
 use native.Mathlib.Omega.{arith}
 use lib.Dec.{eqb}
-use borrow.Author.Tests.{eqb-true, eqb-false}
+use borrow.Author.Tests.{eqb-false}
 use lib.ListN.{length, getD, take, drop, set, length-append, length-take, length-drop, length-set, List·getD-append, List·getD-eq-default, take-append-drop}
 use lib.Seq.{getD-take, getD-drop, getD-append-add, getD-set-same, getD-set-other, ext-getD, length-take-le}
 use Rattle.layout.specs.Layout.{valid}
 use Rattle.group.specs.declared.Group.{Group}
-use Rattle.group.specs.declared.Answer.{Answer}
 use Rattle.group.specs.declared.Unpacked.{Unpacked}
-use Rattle.group.specs.Status.{accepted}
 use Rattle.group.specs.Pack.{fourCode, packed, unpacked}
 use Rattle.group.proofs.Bytes.{Bytes}
 use Rattle.group.proofs.Packing.{unpack-pack}
+use Rattle.group.proofs.Changing.{Good}
 use Rattle.meter.specs.Geometry.{stride}
 use Rattle.meter.specs.Rows.{groupAt, withGroup}
 use Rattle.image.specs.declared.reader.Step.{Step}
 use Rattle.image.specs.Image.{word, layoutKind, layoutAt, groupWords, groupsWords, fourWords, rowWords, rowsWords}
 use Rattle.image.specs.Write.{allValid, validRows, groupSize}
-use Rattle.image.specs.Read.{go, next, payload, mergesAt, checkGroups, checkFour, checkFours, readGroup, readGroups, afterGroups, readFours, afterFours, readRows}
-use Rattle.image.proofs.Laws.{layout-lt}
+use Rattle.image.specs.Read.{go, next, payload, mergesAt, checkGroups, checkFour, checkFours, readGroups, afterGroups, readFours, afterFours, readRows}
+use Rattle.image.proofs.Laws.{both, layout-lt}
 use Rattle.image.proofs.Digits.{here, payload-here, below-here}
-use Rattle.image.proofs.Restoring.{Good, by-test, group-restored}
+use Rattle.image.proofs.Restoring.{by-test, group-restored}
 
 -- a row that is another up to group g
 pub record Same (w g : ℕ) (row source : List ℕ) : Type 0 where
@@ -88,17 +86,17 @@ same-more w g row source a b s =
       counts = λ i h. elim (decLt i (8 * g)) [
         | yes l ↦ with-before w g row xs m eight a k i l ∙ s .counts i l
         | no l ↦
-          let j = i - 8 * g in
-          let e : 8 * g + j ≡ i = omega arith in
-          ap (λ (x : ℕ). getD (set (take (8 * g) row ++ xs ++ drop (8 * g + 8) row) (w + g) m) x 0) (sym e)
-          ∙ with-counts w g row xs m eight a k j (omega arith)
-          ∙ getD-take 8 (drop (8 * g) source) j 0 (omega arith) ∙ getD-drop (8 * g) source j 0
-          ∙ ap (λ (x : ℕ). getD source x 0) e
+            let j = i - 8 * g in
+            let e : 8 * g + j ≡ i = omega arith in
+            ap (λ (x : ℕ). getD (set (take (8 * g) row ++ xs ++ drop (8 * g + 8) row) (w + g) m) x 0) (sym e)
+            ∙ with-counts w g row xs m eight a k j (omega arith)
+            ∙ getD-take 8 (drop (8 * g) source) j 0 (omega arith) ∙ getD-drop (8 * g) source j 0
+            ∙ ap (λ (x : ℕ). getD source x 0) e
       ];
       merges = λ i h. elim (decLt i g) [
         | yes l ↦ with-after w g row xs m eight a k (w + i) (omega arith) (λ e. omega arith) ∙ s .merges i l
         | no l ↦ let e : i ≡ g = omega arith in rw e (with-merge w g row xs m eight a k)
-      ]
+      ];
     }
 
 pub same-none : (w : ℕ) (row source : List ℕ) → length row ≡ length source → Same w 0 row source
@@ -109,9 +107,9 @@ same-all w g row source e l s =
     ext-getD 0 row source (s .long) (λ i h. elim (decLt i (8 * g)) [
       | yes k ↦ s .counts i k
       | no k ↦
-        let f : w + (i - w) ≡ i = omega arith in
-        let c = s .long in
-        rw f at (s .merges (i - w) (omega arith))
+          let f : w + (i - w) ≡ i = omega arith in
+          let c = s .long in
+          rw f at (s .merges (i - w) (omega arith))
     ])
 
 -- groups that were written, read back into a row
@@ -146,7 +144,7 @@ groups-restored (suc n) g w source row words p rest o i s e =
       after = q .after;
       same =
           subst (λ (y : Group). Same w (g + suc n) (readGroups (merges-from n (g + 1) w source) (g + 1) w (withGroup w row g y) words (p + groupSize (x .merge))) source) (sym (r .is))
-          (subst (λ (k : ℕ). Same w k (readGroups (merges-from n (g + 1) w source) (g + 1) w (withGroup w row g x) words (p + groupSize (x .merge))) source) f (q .same))
+          (subst (λ (k : ℕ). Same w k (readGroups (merges-from n (g + 1) w source) (g + 1) w (withGroup w row g x) words (p + groupSize (x .merge))) source) f (q .same));
     }
 
 -- 32 slots
@@ -187,7 +185,7 @@ four-restored g w source row words p rest o i s e =
     record {
       checks = rw (below-here words p layoutKind x tail e (omega (arith, l)) 456976 l, m) (q .checks);
       after = rw m (q .after);
-      same = rw m (q .same)
+      same = rw m (q .same);
     }
 
 record Fours (n g w : ℕ) (source row words : List ℕ) (p : ℕ) (rest : List ℕ) : Type 0 where
@@ -227,10 +225,6 @@ pub record Meter (n w : ℕ) (memory : List ℕ) : Type 0 where
   pub bytes : Bytes memory
   pub merges : validRows n w memory ≡ true
 
-pub both : (a b : Bool) → (a && b) ≡ true → (a ≡ true) × (b ≡ true)
-both true b e = (refl, e)
-both false b e = absurd (true≢false (sym e))
-
 valid-at : (ms : List ℕ) (i : ℕ) → allValid ms ≡ true → i < length ms → valid 3 (getD ms i 0) ≡ true
 unfolding allValid
 valid-at [] i v h = absurd (omega arith)
@@ -255,8 +249,8 @@ sound-row w row a b c v =
       groups = λ g h.
           record {
             merges = rw (getD-drop w row g 0) at (valid-at (drop w row) g v (omega (arith, length-drop w row)));
-            eight = record { long = length-take-le 8 (drop (8 * g) row) (omega (arith, length-drop (8 * g) row)); small = bytes-take 8 (drop (8 * g) row) (bytes-drop (8 * g) row c) }
-          }
+            eight = record { long = length-take-le 8 (drop (8 * g) row) (omega (arith, length-drop (8 * g) row)); small = bytes-take 8 (drop (8 * g) row) (bytes-drop (8 * g) row c) };
+          };
     }
 
 -- the first row of a meter, and the others
@@ -277,7 +271,7 @@ other-rows n w memory o =
       whole = o .whole;
       size = omega (arith, length-drop (stride w) memory);
       bytes = bytes-drop (stride w) memory (o .bytes);
-      merges = both (allValid (drop w (take (stride w) memory))) (validRows n w (drop (stride w) memory)) (o .merges) .1
+      merges = both (allValid (drop w (take (stride w) memory))) (validRows n w (drop (stride w) memory)) (o .merges) .1;
     }
 
 -- the position after n rows
@@ -311,12 +305,12 @@ rows-restored (suc n) w memory old words p rest o l e =
     let m = suc-mul n s in
     let z = o .size in
     let r = row-restored w (take s memory) (take s old) words p (rowsWords n w (drop s memory) ++ rest) (first-row n w memory o)
-        (length-take-le s old (omega arith) ∙ sym (length-take-le s memory (omega arith))) (e ∙ append-assoc row (rowsWords n w (drop s memory)) rest) in
+    (length-take-le s old (omega arith) ∙ sym (length-take-le s memory (omega arith))) (e ∙ append-assoc row (rowsWords n w (drop s memory)) rest) in
     let q = rows-restored n w (drop s memory) (drop s old) words (afterFours (w / 32) words p) rest (other-rows n w memory o)
-        (omega (arith, length-drop s old, length-drop s memory)) (r .after) in
+    (omega (arith, length-drop s old, length-drop s memory)) (r .after) in
     let c : suc n * (w / 32) ≡ w / 32 + n * (w / 32) = suc-mul n (w / 32) ∙ add-comm (n * (w / 32)) (w / 32) in
     record {
       checks = ap (λ (k : ℕ). checkFours k words p) c ∙ fours-add (w / 32) (n * (w / 32)) words p (afterFours (w / 32) words p) (r .checks) ∙ q .checks;
       after = q .after;
-      is = ap₂ (λ (x y : List ℕ). x ++ y) (r .is) (q .is) ∙ take-append-drop s memory
+      is = ap₂ (λ (x y : List ℕ). x ++ y) (r .is) (q .is) ∙ take-append-drop s memory;
     }

@@ -1,29 +1,31 @@
 -- What the writer wrote for a meter, read back with the same depth and width, is accepted and restores that meter byte for byte.
 -- Every list of words that the reader accepts is what the writer gives for the memory read.
 use mathlib.Core.Path.{_≡_, refl, sym, ap, ap₂, subst, _∙_}
-use mathlib.Core.Bool.{Bool, true, false, cond}
+use mathlib.Core.Bool.{true, cond}
 use mathlib.Core.List.{List, [], _∷_, _++_}
-use Prim.Native.Nat.{ℕ, zero, suc, _+_, _-_, _*_, _/_, _%_, _^_, _≤_, _<_}
-use native.Mathlib.Numerals.{add-one}
+use Prim.Native.Nat.{ℕ, zero, suc, _+_, _*_, _/_, _%_, _^_, _≤_, _<_}
+use native.Mathlib.Nat.{add-zero, mul-one, mul-assoc, mul-le-mul-left}
 use native.Mathlib.Omega.{arith}
-use borrow.Author.Tests.{eq-eqb, eqb-true, eqb-false}
+use borrow.Author.Tests.{eq-eqb, eqb-true, eqb-false, lt-ltb, le-ltb}
 use lib.Dec.{eqb, ltb}
 use lib.ListN.{length, take, drop, length-drop, length-append, drop-of-length-le}
+use lib.Pow.{pow-add, pow-pos}
 use lib.Seq.{take-append-seam}
 use Rattle.group.specs.Status.{badPayload, accepted}
 use Rattle.group.proofs.Bytes.{Bytes}
-use Rattle.meter.specs.Geometry.{stride}
+use Rattle.meter.specs.Geometry.{validWidth}
 use Rattle.meter.specs.Order.{Done}
 use Rattle.image.specs.declared.reader.Step.{Step}
 use Rattle.image.specs.Image.{word, headKind, endKind, logFrom, logWidth, headPayload, rowsWords, body, endWord, image}
-use Rattle.image.specs.Write.{callStatus, validRows, Written, written}
+use Rattle.image.specs.Write.{callStatus, validRows, written}
 use Rattle.image.specs.Read.{go, stop, badWord, otherMeter, next, payload, tested, below, checkHead, checkFours, checkEnd, checked, readRows, taken}
-use Rattle.image.proofs.Calls.{Sound, sound-call, image-length, write-done, read-call, read-faulty, read-done}
+use Rattle.image.proofs.Calls.{Sound, sound-call, write-done, read-call, read-faulty, read-done}
 use Rattle.image.proofs.Digits.{payload-here, due-here, below-here}
+use Rattle.image.proofs.Laws.{powers-are}
 use Rattle.image.proofs.Restoring.{by-test}
 use Rattle.image.proofs.Accepting.{passed, tested-is}
 use Rattle.image.proofs.Exact.{rows-are}
-use Rattle.image.proofs.Rows.{Meter, Rows, afterRows, rows-restored}
+use Rattle.image.proofs.Rows.{Rows, afterRows, rows-restored}
 
 log-le : (n k p w : ℕ) → logFrom n k p w ≤ k + n
 unfolding logFrom
@@ -132,10 +134,10 @@ end-is words p q e =
     let t = passed test (λ r. cond (eqb (length words) r) (go r) (stop badWord r)) q e in
     let x = tested-is words p endKind (eqb (payload words p) (p % 2 ^ 28)) badPayload (test .position) (omega arith) (t .here) in
     let l : length words ≡ test .position
-        = by-test (eqb (length words) (test .position)) (λ u. eqb-true (length words) (test .position) u) (λ u. absurd (omega (arith, ap (λ (s : Step). s .status) (rw u at (t .after))))) in
+    = by-test (eqb (length words) (test .position)) (λ u. eqb-true (length words) (test .position) u) (λ u. absurd (omega (arith, ap (λ (s : Step). s .status) (rw u at (t .after))))) in
     record {
       long = l ∙ x .position;
-      is = x .is ∙ ap₂ (λ (y : ℕ) (ys : List ℕ). word endKind y ∷ ys) (eqb-true (payload words p) (p % 2 ^ 28) (x .true-of)) (drop-of-length-le words {i = p + 1} (omega (arith, l, x .position)))
+      is = x .is ∙ ap₂ (λ (y : ℕ) (ys : List ℕ). word endKind y ∷ ys) (eqb-true (payload words p) (p % 2 ^ 28) (x .true-of)) (drop-of-length-le words {i = p + 1} (omega (arith, l, x .position)));
     }
 
 -- a memory whose image the words are
@@ -173,3 +175,19 @@ module _ (d w : ℕ) (old words : List ℕ) (e : taken d w old words .answer .st
       let i = exact .is in
       write-done d w (taken d w old words .memory) lent 0 (sym (exact .call)) refl (exact .merges) (omega (arith, ap length i))
       ∙ ap (λ (x : List ℕ). record { answer = accepted (length x); words = x ++ drop (length x) lent }) (sym i)
+
+-- the logarithm in a head is the width's
+log-power : (n k p i : ℕ) → 0 < p → i ≤ n → logFrom n k p (p * 2 ^ i) ≡ k + i
+unfolding logFrom
+log-power zero k p i h l = let z : i ≡ 0 = omega arith in rw z (sym (add-zero k))
+log-power (suc n) k p zero h l = rw (mul-one p, le-ltb p p (omega arith)) (sym (add-zero k))
+log-power (suc n) k p (suc i) h l =
+    let f : suc i ≡ 1 + i = omega arith in
+    let e : p * 2 ^ suc i ≡ p * 2 * 2 ^ i = ap (λ (x : ℕ). p * 2 ^ x) f ∙ ap (λ (x : ℕ). p * x) (pow-add 2 1 i) ∙ sym (mul-assoc p 2 (2 ^ i)) in
+    let m : p * 2 * 1 ≤ p * 2 * 2 ^ i = mul-le-mul-left {m = 1} {n = 2 ^ i} (p * 2) (pow-pos i) in
+    rw (e, lt-ltb p (p * 2 * 2 ^ i) (omega arith)) (log-power n (k + 1) (p * 2) i (omega arith) (omega arith) ∙ omega arith)
+
+pub log-width-is : (w : ℕ) → validWidth w ≡ true → 2 ^ logWidth w ≡ w
+unfolding validWidth logWidth
+log-width-is w v =
+    powers-are 12 32 w (λ x. 2 ^ logFrom 11 5 32 x ≡ x) (λ i h. ap (λ (k : ℕ). 2 ^ k) (log-power 11 5 32 i (omega arith) (omega arith)) ∙ pow-add 2 5 i) v

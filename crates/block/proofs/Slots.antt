@@ -8,13 +8,10 @@ use native.Mathlib.Omega.{arith}
 use borrow.Author.Tests.{lt-ltb, le-ltb}
 use lib.Dec.{ltb}
 use lib.Pow.{pow-add, pow-pos}
-use Rattle.layout.specs.Layout.{Layout, merged, halves, isMerged, valid}
+use Rattle.layout.specs.Layout.{Layout, merged, halves, isMerged}
 use Rattle.block.specs.declared.Counter.{Counter}
 use Rattle.block.specs.Block.{Block, counter, split, cap, Fits, shape, counterAt}
 use Rattle.block.specs.Change.{change}
-use Rattle.group.specs.declared.Group.{Group}
-use Rattle.group.specs.Status.{invalidMerge}
-use Rattle.group.specs.Group.{read, reading, decode}
 
 pub counter-halves : {n : ℕ} (l r : Block n) (k : ℕ) (P : Counter → Type 0)
     → (ltb k (2 ^ n) ≡ true → P (counterAt l k))
@@ -32,14 +29,6 @@ unfolding counterAt
 level-le {n} (counter v) k = omega arith
 level-le (split {n} l r) k =
     counter-halves l r k (λ c. c .level ≤ suc n) (λ e. omega (arith, level-le l k)) (λ e. omega (arith, level-le r (k - 2 ^ n)))
-
-pub read-level-le : (g : Group) (k : ℕ) → read g k .level ≤ 3
-unfolding read reading
-read-level-le g k = go (valid 3 (g .merge))
-  where
-    go : (b : Bool) → cond b (reading (counterAt (decode g) (k % 8))) (record { status = invalidMerge; value = 0; level = 0 }) .level ≤ 3
-    go true = level-le (decode g) (k % 8)
-    go false = omega arith
 
 -- the level of the counter of a slot, by the layout
 unfoldable pub levelOf : {n : ℕ} → Layout n → ℕ → ℕ
@@ -106,14 +95,14 @@ change-before {n} (counter v) k j x h i z = absurd (omega (arith, mod-eq-of-lt {
 change-before (split {n} l r) k j x h i z = elim (decLt k (2 ^ n)) [
   | yes m ↦ rw (change-left l r k x m, in-left (change l k x) r j (omega arith), in-left l r j (omega arith)) (change-before l k j x h m (rw (in-left l r k m) at z))
   | no m′ ↦
-    let m : 2 ^ n ≤ k = omega arith in
-    elim (decLt j (2 ^ n)) [
-    | yes q ↦ rw (change-right l r k x m, in-left l (change r (k - 2 ^ n) x) j q, in-left l r j q)
-    | no q′ ↦
-      let q : 2 ^ n ≤ j = omega arith in
-      let y : (k - 2 ^ n) % 2 ^ counterAt r (k - 2 ^ n) .level ≡ 0 = sym (shifted n (counterAt r (k - 2 ^ n) .level) k (level-le r (k - 2 ^ n)) m) ∙ (rw (in-right l r k m) at z) in
-      rw (change-right l r k x m, in-right l (change r (k - 2 ^ n) x) j q, in-right l r j q) (change-before r (k - 2 ^ n) (j - 2 ^ n) x (omega arith) (omega arith) y)
-    ]
+      let m : 2 ^ n ≤ k = omega arith in
+      elim (decLt j (2 ^ n)) [
+        | yes q ↦ rw (change-right l r k x m, in-left l (change r (k - 2 ^ n) x) j q, in-left l r j q)
+        | no q′ ↦
+            let q : 2 ^ n ≤ j = omega arith in
+            let y : (k - 2 ^ n) % 2 ^ counterAt r (k - 2 ^ n) .level ≡ 0 = sym (shifted n (counterAt r (k - 2 ^ n) .level) k (level-le r (k - 2 ^ n)) m) ∙ (rw (in-right l r k m) at z) in
+            rw (change-right l r k x m, in-right l (change r (k - 2 ^ n) x) j q, in-right l r j q) (change-before r (k - 2 ^ n) (j - 2 ^ n) x (omega arith) (omega arith) y)
+      ]
 ]
 
 -- a slot that is not its counter's first is in the counter of the slot before it
@@ -125,13 +114,13 @@ same-before {n} (counter v) k h f = elim (decLt 0 k) [
 ]
 same-before (split {n} l r) k h f = elim (decLt k (2 ^ n)) [
   | yes m ↦
-    let s = same-before l k m (rw (in-left l r k m) at f) in
-    (s .0, rw (in-left l r k m, in-left l r (k - 1) (omega arith)) (s .1))
+      let s = same-before l k m (rw (in-left l r k m) at f) in
+      (s .0, rw (in-left l r k m, in-left l r (k - 1) (omega arith)) (s .1))
   | no m′ ↦
-    let m : 2 ^ n ≤ k = omega arith in
-    let s = same-before r (k - 2 ^ n) (omega arith) (λ z. (rw (in-right l r k m) at f) (shifted n (counterAt r (k - 2 ^ n) .level) k (level-le r (k - 2 ^ n)) m ∙ z)) in
-    let e : k - 1 - 2 ^ n ≡ k - 2 ^ n - 1 = omega arith in
-    (omega arith, rw (in-right l r k m, in-right l r (k - 1) (omega (arith, s .0)), e) (s .1))
+      let m : 2 ^ n ≤ k = omega arith in
+      let s = same-before r (k - 2 ^ n) (omega arith) (λ z. (rw (in-right l r k m) at f) (shifted n (counterAt r (k - 2 ^ n) .level) k (level-le r (k - 2 ^ n)) m ∙ z)) in
+      let e : k - 1 - 2 ^ n ≡ k - 2 ^ n - 1 = omega arith in
+      (omega arith, rw (in-right l r k m, in-right l r (k - 1) (omega (arith, s .0)), e) (s .1))
 ]
 
 -- blocks of one layout whose slots have the same counters are the same
