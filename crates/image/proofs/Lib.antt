@@ -5,4 +5,5 @@ pub mod Restoring
 pub mod Rows
 pub mod Accepting
 pub mod Exact
+pub mod Sharp
 pub mod Theorems
