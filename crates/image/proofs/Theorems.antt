@@ -1,5 +1,6 @@
 -- What the writer wrote for a meter, read back with the same depth and width, is accepted and restores that meter byte for byte.
--- Every list of words that the reader accepts is what the writer gives for the memory read.
+-- Every list of words that the reader accepts is what the writer gives for the memory read. A refused place is sharp.
+use mathlib.Core.Logic.{_⊎_, inl, inr, ⊎-elim}
 use mathlib.Core.Path.{_≡_, refl, sym, ap, ap₂, subst, _∙_}
 use mathlib.Core.Bool.{true, cond}
 use mathlib.Core.List.{List, [], _∷_, _++_}
@@ -25,6 +26,7 @@ use Rattle.image.proofs.Laws.{powers-are}
 use Rattle.image.proofs.Restoring.{by-test}
 use Rattle.image.proofs.Accepting.{passed, tested-is}
 use Rattle.image.proofs.Exact.{rows-are}
+use Rattle.image.proofs.Sharp.{sharp-at}
 use Rattle.image.proofs.Rows.{Rows, afterRows, rows-restored}
 
 log-le : (n k p w : ℕ) → logFrom n k p w ≤ k + n
@@ -175,6 +177,23 @@ module _ (d w : ℕ) (old words : List ℕ) (e : taken d w old words .answer .st
       let i = exact .is in
       write-done d w (taken d w old words .memory) lent 0 (sym (exact .call)) refl (exact .merges) (omega (arith, ap length i))
       ∙ ap (λ (x : List ℕ). record { answer = accepted (length x); words = x ++ drop (length x) lent }) (sym i)
+
+-- A refused place is sharp: the words before it, read alone, are refused only because a word is missing there, or are accepted and so
+-- are a whole image.
+module _ (d w : ℕ) (old words : List ℕ) (call : callStatus d w (length old) ≡ 0) (n : taken d w old words .answer .status ≡ 0 → ⊥) where
+  faulty : checked d w words .status ≡ 0 → ⊥
+  faulty z = n (ap (λ (x : Done). x .answer .status) (read-done d w old words 0 (sym call) refl (checked d w words) refl z))
+
+  at-fault : taken d w old words .answer .position ≡ checked d w words .position
+  at-fault = ap (λ (x : Done). x .answer .position) (read-faulty d w old words 0 (sym call) refl (checked d w words) refl faulty)
+
+  pub sharp : (q : ℕ) → taken d w old words .answer .position ≡ q
+      → (taken d w old (take q words) .answer ≡ record { status = badWord; position = q; value = 0 }) ⊎ (taken d w old (take q words) .answer ≡ accepted q)
+  sharp q e =
+      ⊎-elim
+      (λ x. inl (ap (λ (y : Done). y .answer) (read-faulty d w old (take q words) 0 (sym call) refl (stop badWord q) (sym x) (λ z. omega arith))))
+      (λ x. inr (ap (λ (y : Done). y .answer) (read-done d w old (take q words) 0 (sym call) refl (go q) (sym x) refl)))
+      (sharp-at d w words q faulty (sym at-fault ∙ e))
 
 -- the logarithm in a head is the width's
 log-power : (n k p i : ℕ) → 0 < p → i ≤ n → logFrom n k p (p * 2 ^ i) ≡ k + i
