@@ -4,3 +4,4 @@ pub mod Halves
 pub mod Steps
 pub mod Least
 pub mod Changing
+pub mod Slots

@@ -4,3 +4,4 @@ pub mod Laws
 pub mod Outcomes
 pub mod Packing
 pub mod Cases
+pub mod Changing

@@ -1,6 +1,6 @@
 -- What the calls answer, by their tests.
 use mathlib.Core.Path.{_≡_, refl, sym, ap, _∙_}
-use mathlib.Core.Bool.{Bool, true, false, _&&_, true≢false}
+use mathlib.Core.Bool.{Bool, true, false}
 use mathlib.Core.List.{List, [], _∷_, _++_}
 use Prim.Native.Nat.{ℕ, zero, suc, _+_, _*_, _≤_, _<_}
 use native.Mathlib.Nat.{zero-add}
@@ -16,7 +16,7 @@ use Rattle.image.specs.declared.reader.Step.{Step}
 use Rattle.image.specs.Image.{word, headKind, headPayload, rowsWords, body, endWord, image}
 use Rattle.image.specs.Write.{tooFewWords, validRows, writeStatus, finishWrite, written}
 use Rattle.image.specs.Read.{checked, readRows, finishRead, readAfter, taken}
-use Rattle.image.proofs.Laws.{Width, width-is, sets-append}
+use Rattle.image.proofs.Laws.{both, Width, width-is, sets-append}
 
 -- a call whose depth, width and memory have passed
 pub record Sound (d w n : ℕ) : Type 0 where
@@ -31,10 +31,6 @@ three true true true e = (refl, refl, refl)
 three true true false e = absurd (omega arith)
 three true false c e = absurd (omega arith)
 three false b c e = absurd (omega arith)
-
-both : (a b : Bool) → (a && b) ≡ true → (a ≡ true) × (b ≡ true)
-both true b e = (refl, e)
-both false b e = absurd (true≢false (sym e))
 
 pub sound-call : (d w n : ℕ) → badShape d w n ≡ 0 → Sound d w n
 unfolding validDepth size

@@ -79,7 +79,7 @@ check-counter level v words p rest h e =
     let l : v / 2 ^ (24 * n) < 2 ^ firstBits level = shr-lt (firstBits level) (24 * n) (rw (b .1) h) in
     rw s (check-value n v words p rest (2 ^ firstBits level) (rw s at e) (omega (arith, l, mod-le (v / 2 ^ (24 * n)) (2 ^ 24))))
 
-power-step : (n : ℕ) → 2 ^ (24 * suc n) ≡ 2 ^ 24 * 2 ^ (24 * n)
+pub power-step : (n : ℕ) → 2 ^ (24 * suc n) ≡ 2 ^ 24 * 2 ^ (24 * n)
 power-step n = ap (λ (k : ℕ). 2 ^ k) (omega arith) ∙ pow-add 2 24 (24 * n)
 
 pub value-digits : (n u v : ℕ) (words : List ℕ) (p : ℕ) (rest : List ℕ) → u * 2 ^ (24 * n) + v % 2 ^ (24 * n) < 2 ^ 64 → drop p words ≡ parts n v ++ rest

@@ -15,11 +15,12 @@ use lib.Pow.{pow-mono, pow-pos}
 use lib.Seq.{sets, drop-cons, drop-drop, paste-suc, length-take-le, take-at, drop-at}
 use Rattle.layout.specs.Layout.{valid}
 use Rattle.layout.proofs.Laws.{or-cases}
-use Rattle.block.specs.Block.{word as block-word}
+use Rattle.block.specs.Block.{word as block-word, counterAt}
 use Rattle.block.specs.Change.{change}
+use Rattle.block.proofs.Slots.{level-le}
 use Rattle.group.specs.declared.Group.{Group}
 use Rattle.group.specs.declared.Reading.{Reading}
-use Rattle.group.specs.Group.{read, bytes, decode, changed, unchanged}
+use Rattle.group.specs.Group.{read, reading, bytes, decode, changed, unchanged}
 use Rattle.row.specs.Geometry.{oneOfPowers, validWidth, stride}
 use Rattle.row.specs.Rows.{groupAt, withGroup}
 use Rattle.group.specs.Status.{invalidMerge, accepted, rejected}
@@ -131,14 +132,14 @@ pub check-parts-none : (n : ℕ) (words : List ℕ) (p limit : ℕ) → n ≡ 0 
 unfolding checkParts
 check-parts-none n words p limit e = rw e
 
+pub both : (a b : Bool) → (a && b) ≡ true → (a ≡ true) × (b ≡ true)
+both true b e = (refl, e)
+both false b e = absurd (true≢false (sym e))
+
 -- a word that is due is there
 pub due-in : (words : List ℕ) (p kind : ℕ) → isDue words p kind ≡ true → p < length words
 unfolding isDue
-due-in words p kind e = ltb-true p (length words) (and-left (ltb p (length words)) _ e)
-  where
-    and-left : (a b : Bool) → (a && b) ≡ true → a ≡ true
-    and-left true b e = refl
-    and-left false b e = e
+due-in words p kind e = ltb-true p (length words) (both (ltb p (length words)) (eqb (getD words p 0 / 2 ^ 28) kind) e .0)
 
 -- a turn of a copy from the front
 pub copy-more : (s d : List ℕ) (i : ℕ) → i < length s → i < length d → set (take i s ++ drop i d) i (getD s i 0) ≡ take (i + 1) s ++ drop (i + 1) d
@@ -468,3 +469,12 @@ module _ (d r w : ℕ) (memory ys words : List ℕ) (p size : ℕ) (e : size ≡
       let done : rowsFrom d (r + 1) w (putMid a (a + s - a) memory ys) words (afterFours (w / 32) words p) ≡ take a memory ++ (ys ++ rest) = rw (b, whole, t, u) (append-assoc (take a memory) ys rest) in
       let left : readRows (d - r) w (drop a memory) words p ≡ ys ++ rest = read-rows-step (d - r) w (drop a memory) words p (omega arith) ∙ rw (n, v, ← y) in
       ap (λ (z : ℕ). rowsFrom d (r + 1) w (putMid (r * z) (r * z + z - r * z) memory ys) words (afterFours (w / 32) words p)) e ∙ done ∙ ap (λ (z : List ℕ). take a memory ++ z) (sym left)
+
+-- a level is at most 3
+pub read-level-le : (g : Group) (k : ℕ) → read g k .level ≤ 3
+unfolding read reading
+read-level-le g k = go (valid 3 (g .merge))
+  where
+    go : (b : Bool) → cond b (reading (counterAt (decode g) (k % 8))) (record { status = invalidMerge; value = 0; level = 0 }) .level ≤ 3
+    go true = level-le (decode g) (k % 8)
+    go false = omega arith

@@ -1,7 +1,9 @@
 pub mod Laws
-pub mod Trees
 pub mod Calls
 pub mod Digits
 pub mod Restoring
 pub mod Rows
+pub mod Accepting
+pub mod Exact
+pub mod Sharp
 pub mod Theorems

@@ -2,73 +2,26 @@
 use mathlib.Core.Path.{_≡_, refl, sym, ap, ap₂, _∙_}
 use mathlib.Core.Bool.{Bool, true, false}
 use mathlib.Core.List.{List, _++_, append-assoc}
-use Prim.Native.Nat.{ℕ, zero, suc, _+_, _-_, _/_, _%_, _^_, _≤_, _<_}
-use native.Mathlib.Nat.{add-zero, add-assoc, mod-eq-of-lt, mod-lt}
+use Prim.Native.Nat.{ℕ, zero, suc, _+_, _-_, _%_, _^_, _≤_, _<_}
+use native.Mathlib.Nat.{add-zero, add-assoc, mod-eq-of-lt}
 use native.Mathlib.Decide.{decLt}
 use native.Mathlib.Omega.{arith}
 use borrow.Author.Tests.{eqb-true, eqb-false}
-use lib.ListN.{getD, drop, replicate}
-use Rattle.layout.specs.Layout.{Layout, layout, valid}
-use Rattle.block.specs.Block.{Block, cap, Fits, shape, word, block, counterAt}
-use Rattle.block.specs.Change.{change}
-use Rattle.block.proofs.Laws.{word-lt, shape-fill, fill-word, block-fits}
-use Rattle.block.proofs.Changing.{change-fits, change-shape}
+use lib.ListN.{drop, replicate}
+use Rattle.layout.specs.Layout.{Layout}
+use Rattle.block.specs.Block.{cap, counterAt}
 use Rattle.group.specs.declared.Group.{Group}
 use Rattle.group.specs.declared.Reading.{Reading}
-use Rattle.group.specs.Group.{number, bytes, decode, encode, read, reading, changed}
-use Rattle.group.proofs.Bytes.{number-bytes, bytes-length}
-use Rattle.group.proofs.Laws.{Eight, number-in, encode-decode}
+use Rattle.group.specs.Group.{decode, read, reading, changed}
+use Rattle.group.proofs.Changing.{Good, good-fits, shape-decode, read-is, group-ext, good-changed, changed-at, changed-before, zero-good}
 use Rattle.image.specs.Image.{parts, wordsOf, levelAt, isFirst, slotWords, slotsWords, groupWords}
 use Rattle.image.specs.Write.{slotSize, slotsSize, groupSize}
 use Rattle.image.specs.Read.{go, next, checkSlot, checkSlots, readSlot, readSlots, readGroup}
 use Rattle.image.proofs.Laws.{slot-none, slot-some, read-slot-other, read-slot-merge, read-slot-first, check-slot-other, size-first, size-other}
-use Rattle.image.proofs.Trees.{level-le, levelOf, level-is, value-lt, change-at, change-before, same-before, counters-ext}
+use Rattle.block.proofs.Slots.{level-le, levelOf, level-is, value-lt, same-before}
 use Rattle.image.proofs.Digits.{check-counter, value-counter, parts-after}
 
--- a valid group of eight bytes
-pub record Good (g : Group) : Type 0 where
-  pub merges : valid 3 (g .merge) ≡ true
-  pub eight : Eight (g .counts)
-
-bytes-small : (n v i : ℕ) → getD (bytes n v) i 0 < 256
-unfolding bytes
-bytes-small zero v i = omega arith
-bytes-small (suc n) v zero = mod-lt v (omega arith)
-bytes-small (suc n) v (suc i) = bytes-small n (v / 256) i
-
-eight-bytes : (v : ℕ) → Eight (bytes 8 v)
-eight-bytes v = record { long = bytes-length 8 v; small = bytes-small 8 v }
-
-pub good-fits : (g : Group) → Good g → Fits (decode g)
-unfolding decode
-good-fits g o = block-fits 3 (number (g .counts)) (g .merge) (number-in (g .counts) (o .eight))
-
-shape-decode : (g : Group) → shape (decode g) ≡ layout 3 (g .merge)
-unfolding decode block
-shape-decode g = shape-fill (layout 3 (g .merge)) (number (g .counts))
-
--- another value in a counter
-changed-is : (g : Group) (k v : ℕ) → Good g → changed g k v .group ≡ record { counts = bytes 8 (word (change (decode g) (k % 8) v)); merge = g .merge }
-unfolding changed
-changed-is g k v o = rw (o .merges)
-
-pub good-changed : (g : Group) (k v : ℕ) → Good g → Good (changed g k v .group)
-good-changed g k v o = rw (changed-is g k v o) (record { merges = o .merges; eight = eight-bytes (word (change (decode g) (k % 8) v)) })
-
-block-again : (b : Block 3) (m : ℕ) → Fits b → shape b ≡ layout 3 m → decode (record { counts = bytes 8 (word b); merge = m }) ≡ b
-unfolding decode block cap
-block-again b m f e = rw (number-bytes 8 (word b) (word-lt b f), ← e) (fill-word b f)
-
-pub decode-changed : (g : Group) (k v : ℕ) → Good g → decode (changed g k v .group) ≡ change (decode g) (k % 8) v
-decode-changed g k v o =
-    ap decode (changed-is g k v o)
-    ∙ block-again (change (decode g) (k % 8) v) (g .merge) (change-fits (decode g) (k % 8) v (good-fits g o)) (change-shape (decode g) (k % 8) v ∙ shape-decode g)
-
 -- the level of a slot depends on the merge byte alone
-read-is : (g : Group) (k : ℕ) → valid 3 (g .merge) ≡ true → k < 8 → read g k ≡ reading (counterAt (decode g) k)
-unfolding read
-read-is g k v h = rw v (ap (λ (x : ℕ). reading (counterAt (decode g) x)) (mod-eq-of-lt {n = k} {m = 8} h))
-
 pub level-at : (g : Group) (k : ℕ) → Good g → k < 8 → levelAt (g .merge) k ≡ counterAt (decode g) k .level
 unfolding levelAt reading
 level-at g k o h =
@@ -80,12 +33,6 @@ pub read-value : (g : Group) (k : ℕ) → Good g → k < 8 → read g k .value 
 unfolding reading
 read-value g k o h = ap (λ (r : Reading). r .value) (read-is g k (o .merges) h)
 
-pub group-ext : (g h : Group) → Good g → Good h → h .merge ≡ g .merge → ((j : ℕ) → j < 8 → counterAt (decode h) j ≡ counterAt (decode g) j) → h ≡ g
-group-ext g h o q m f =
-    sym (encode-decode h (q .eight) (q .merges))
-    ∙ ap encode (counters-ext (decode h) (decode g) (shape-decode h ∙ ap (layout 3) m ∙ sym (shape-decode g)) f)
-    ∙ encode-decode g (o .eight) (o .merges)
-
 pub by-test : (b : Bool) {A : Type 0} → (b ≡ true → A) → (b ≡ false → A) → A
 by-test true f g = f refl
 by-test false f g = g refl
@@ -95,7 +42,7 @@ abbrev pub Agree : ℕ → Group → Group → Type 0
 Agree k h g = (j : ℕ) → j < k → counterAt (decode h) j ≡ counterAt (decode g) j
 
 -- whether a slot is the first of its counter, by the block
-first-level : (g : Group) (k : ℕ) → Good g → k < 8 → isFirst (g .merge) k ≡ true → k % 2 ^ counterAt (decode g) k .level ≡ 0
+pub first-level : (g : Group) (k : ℕ) → Good g → k < 8 → isFirst (g .merge) k ≡ true → k % 2 ^ counterAt (decode g) k .level ≡ 0
 unfolding isFirst
 first-level g k o i t = rw (level-at g k o i) at (eqb-true (k % 2 ^ levelAt (g .merge) k) 0 t)
 
@@ -103,18 +50,7 @@ other-level : (g : Group) (k : ℕ) → Good g → k < 8 → isFirst (g .merge) 
 unfolding isFirst
 other-level g k o i t = rw (level-at g k o i) at (eqb-false (k % 2 ^ levelAt (g .merge) k) 0 t)
 
--- what a read leaves of the slots up to the one that it reads
-pub changed-at : (k : ℕ) (h : Group) (v : ℕ) → Good h → k < 8
-    → counterAt (decode (changed h k v .group)) k ≡ record { value = v % cap (counterAt (decode h) k .level); level = counterAt (decode h) k .level }
-changed-at k h v q i =
-    ap (λ (b : Block 3). counterAt b k) (decode-changed h k v q ∙ ap (λ (x : ℕ). change (decode h) x v) (mod-eq-of-lt {n = k} {m = 8} i)) ∙ change-at (decode h) k v
-
-pub changed-before : (k : ℕ) (h : Group) (v j : ℕ) → Good h → k < 8 → isFirst (h .merge) k ≡ true → j < k → counterAt (decode (changed h k v .group)) j ≡ counterAt (decode h) j
-changed-before k h v j q i t l =
-    ap (λ (b : Block 3). counterAt b j) (decode-changed h k v q ∙ ap (λ (x : ℕ). change (decode h) x v) (mod-eq-of-lt {n = k} {m = 8} i))
-    ∙ change-before (decode h) k j v l i (first-level h k q i t)
-
-up-to : {k j : ℕ} {A : Type 0} → j < k + 1 → (j < k → A) → (j ≡ k → A) → A
+pub up-to : {k j : ℕ} {A : Type 0} → j < k + 1 → (j < k → A) → (j ≡ k → A) → A
 up-to {k} {j} h f g = elim (decLt j k) [ yes l ↦ f l | no l ↦ g (omega arith) ]
 
 -- a slot that was written, read back
@@ -149,7 +85,7 @@ module _ (k : ℕ) (g h : Group) (words : List ℕ) (p : ℕ) (rest : List ℕ) 
         after = rw (← z) (parts-after n v words p rest d);
         good = rw R (good-changed h k v q);
         agree = λ j l. up-to l
-            (λ b. ap (λ (x : Group). counterAt (decode x) j) R ∙ changed-before k h v j q i th b ∙ f j b)
+            (λ b. ap (λ (x : Group). counterAt (decode x) j) R ∙ changed-before k h v j q i (first-level h k q i th) b ∙ f j b)
             (λ b. rw b (ap (λ (x : Group). counterAt (decode x) k) R ∙ changed-at k h v q i
             ∙ ap₂ (λ (x y : ℕ). record { value = x; level = y }) (vh ∙ read-value g k o i) same-level));
       }
@@ -198,10 +134,6 @@ slots-restored (suc n) k g h words p rest o q m i f e =
       after = rw (← a) (r .after);
       is = ap (λ (x : ℕ). readSlots n (k + 1) (readSlot k h words p) words (p + slotSize x k)) m ∙ r .is;
     }
-
-pub zero-good : (m : ℕ) → valid 3 m ≡ true → Good (record { counts = replicate 8 0; merge = m })
-unfolding bytes
-zero-good m v = record { merges = v; eight = record { long = refl; small = bytes-small 8 0 } }
 
 -- a group that was written, read back
 pub record Restored (g : Group) (words : List ℕ) (p : ℕ) (rest : List ℕ) : Type 0 where

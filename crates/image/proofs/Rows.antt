@@ -1,6 +1,6 @@
 -- What the writer wrote of a meter, read back, is that meter.
 use mathlib.Core.Path.{_≡_, refl, sym, ap, ap₂, subst, _∙_}
-use mathlib.Core.Bool.{Bool, true, false, _&&_, true≢false}
+use mathlib.Core.Bool.{true}
 use mathlib.Core.List.{List, [], _∷_, _++_, append-assoc}
 use Prim.Native.Nat.{ℕ, zero, suc, _+_, _-_, _*_, _/_, _%_, _≤_, _<_}
 use native.Mathlib.Nat.{add-zero, zero-add, suc-add, add-comm, zero-mul, suc-mul}
@@ -16,15 +16,16 @@ use Rattle.group.specs.declared.Unpacked.{Unpacked}
 use Rattle.group.specs.Pack.{fourCode, packed, unpacked}
 use Rattle.group.proofs.Bytes.{Bytes}
 use Rattle.group.proofs.Packing.{unpack-pack}
+use Rattle.group.proofs.Changing.{Good}
 use Rattle.row.specs.Geometry.{stride}
 use Rattle.row.specs.Rows.{groupAt, withGroup}
 use Rattle.image.specs.declared.reader.Step.{Step}
 use Rattle.image.specs.Image.{word, layoutKind, layoutAt, groupWords, groupsWords, fourWords, rowWords, rowsWords}
 use Rattle.image.specs.Write.{allValid, validRows, groupSize}
 use Rattle.image.specs.Read.{go, next, payload, mergesAt, checkGroups, checkFour, checkFours, readGroups, afterGroups, readFours, afterFours, readRows}
-use Rattle.image.proofs.Laws.{layout-lt}
+use Rattle.image.proofs.Laws.{both, layout-lt}
 use Rattle.image.proofs.Digits.{here, payload-here, below-here}
-use Rattle.image.proofs.Restoring.{Good, by-test, group-restored}
+use Rattle.image.proofs.Restoring.{by-test, group-restored}
 
 -- a row that is another up to group g
 pub record Same (w g : ℕ) (row source : List ℕ) : Type 0 where
@@ -39,30 +40,30 @@ module _ (w g : ℕ) (row : List ℕ) (xs : List ℕ) (m : ℕ) (eight : length 
   front-length : length front ≡ 8 * g + 8
   front-length = rw (length-append (take (8 * g) row) xs, length-take-le (8 * g) row (omega arith), eight)
 
-  with-length : length (set (front ++ drop (8 * g + 8) row) (w + g) m) ≡ length row
+  pub with-length : length (set (front ++ drop (8 * g + 8) row) (w + g) m) ≡ length row
   with-length =
       length-set (front ++ drop (8 * g + 8) row) (w + g) m
       ∙ length-append front (drop (8 * g + 8) row)
       ∙ omega (arith, front-length, length-drop (8 * g + 8) row)
 
-  with-before : (i : ℕ) → i < 8 * g → getD (set (front ++ drop (8 * g + 8) row) (w + g) m) i 0 ≡ getD row i 0
+  pub with-before : (i : ℕ) → i < 8 * g → getD (set (front ++ drop (8 * g + 8) row) (w + g) m) i 0 ≡ getD row i 0
   with-before i h =
       getD-set-other (front ++ drop (8 * g + 8) row) (w + g) i m 0 (λ e. omega arith)
       ∙ List·getD-append front (drop (8 * g + 8) row) 0 i (omega (arith, front-length))
       ∙ List·getD-append (take (8 * g) row) xs 0 i (omega (arith, length-take-le (8 * g) row (omega arith)))
       ∙ getD-take (8 * g) row i 0 h
 
-  with-counts : (j : ℕ) → j < 8 → getD (set (front ++ drop (8 * g + 8) row) (w + g) m) (8 * g + j) 0 ≡ getD xs j 0
+  pub with-counts : (j : ℕ) → j < 8 → getD (set (front ++ drop (8 * g + 8) row) (w + g) m) (8 * g + j) 0 ≡ getD xs j 0
   with-counts j h =
       let t = length-take-le (8 * g) row (omega arith) in
       getD-set-other (front ++ drop (8 * g + 8) row) (w + g) (8 * g + j) m 0 (λ e. omega arith)
       ∙ List·getD-append front (drop (8 * g + 8) row) 0 (8 * g + j) (omega (arith, front-length))
       ∙ (rw t at (getD-append-add (take (8 * g) row) xs j 0))
 
-  with-merge : getD (set (front ++ drop (8 * g + 8) row) (w + g) m) (w + g) 0 ≡ m
+  pub with-merge : getD (set (front ++ drop (8 * g + 8) row) (w + g) m) (w + g) 0 ≡ m
   with-merge = getD-set-same (front ++ drop (8 * g + 8) row) (w + g) m 0 (omega (arith, length-append front (drop (8 * g + 8) row), front-length, length-drop (8 * g + 8) row))
 
-  with-after : (i : ℕ) → 8 * g + 8 ≤ i → (i ≡ w + g → ⊥) → getD (set (front ++ drop (8 * g + 8) row) (w + g) m) i 0 ≡ getD row i 0
+  pub with-after : (i : ℕ) → 8 * g + 8 ≤ i → (i ≡ w + g → ⊥) → getD (set (front ++ drop (8 * g + 8) row) (w + g) m) i 0 ≡ getD row i 0
   with-after i h n =
       let j = i - (8 * g + 8) in
       let e : 8 * g + 8 + j ≡ i = omega arith in
@@ -112,7 +113,7 @@ same-all w g row source e l s =
     ])
 
 -- groups that were written, read back into a row
-merges-from : ℕ → ℕ → ℕ → List ℕ → List ℕ
+unfoldable pub merges-from : ℕ → ℕ → ℕ → List ℕ → List ℕ
 merges-from zero g w row = []
 merges-from (suc n) g w row = groupAt w row g .merge ∷ merges-from n (g + 1) w row
 
@@ -224,20 +225,16 @@ pub record Meter (n w : ℕ) (memory : List ℕ) : Type 0 where
   pub bytes : Bytes memory
   pub merges : validRows n w memory ≡ true
 
-both : (a b : Bool) → (a && b) ≡ true → (a ≡ true) × (b ≡ true)
-both true b e = (refl, e)
-both false b e = absurd (true≢false (sym e))
-
 valid-at : (ms : List ℕ) (i : ℕ) → allValid ms ≡ true → i < length ms → valid 3 (getD ms i 0) ≡ true
 unfolding allValid
 valid-at [] i v h = absurd (omega arith)
 valid-at (m ∷ ms) zero v h = both (valid 3 m) (allValid ms) v .0
 valid-at (m ∷ ms) (suc i) v h = valid-at ms i (both (valid 3 m) (allValid ms) v .1) (omega arith)
 
-bytes-drop : (n : ℕ) (xs : List ℕ) → Bytes xs → Bytes (drop n xs)
+pub bytes-drop : (n : ℕ) (xs : List ℕ) → Bytes xs → Bytes (drop n xs)
 bytes-drop n xs h = λ i. rw (getD-drop n xs i 0) (h (n + i))
 
-bytes-take : (n : ℕ) (xs : List ℕ) → Bytes xs → Bytes (take n xs)
+pub bytes-take : (n : ℕ) (xs : List ℕ) → Bytes xs → Bytes (take n xs)
 bytes-take n xs h = λ i. elim (decLt i n) [
   | yes l ↦ rw (getD-take n xs i 0 l) (h i)
   | no l ↦ rw (List·getD-eq-default (take n xs) 0 {n = i} (omega (arith, length-take n xs))) (omega arith)
@@ -278,7 +275,7 @@ other-rows n w memory o =
     }
 
 -- the position after n rows
-pub afterRows : ℕ → ℕ → List ℕ → ℕ → ℕ
+unfoldable pub afterRows : ℕ → ℕ → List ℕ → ℕ → ℕ
 afterRows zero w words p = p
 afterRows (suc n) w words p = afterRows n w words (afterFours (w / 32) words p)
 

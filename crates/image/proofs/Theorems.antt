@@ -1,22 +1,32 @@
 -- What the writer wrote for a meter, read back with the same depth and width, is accepted and restores that meter byte for byte.
-use mathlib.Core.Path.{_≡_, refl, sym, ap, _∙_}
-use mathlib.Core.Bool.{true}
+-- Every list of words that the reader accepts is what the writer gives for the memory read. A refused place is sharp.
+use mathlib.Core.Logic.{_⊎_, inl, inr, ⊎-elim}
+use mathlib.Core.Path.{_≡_, refl, sym, ap, ap₂, subst, _∙_}
+use mathlib.Core.Bool.{true, cond}
 use mathlib.Core.List.{List, [], _∷_, _++_}
-use Prim.Native.Nat.{ℕ, zero, suc, _+_, _*_, _%_, _^_, _≤_, _<_}
+use Prim.Native.Nat.{ℕ, zero, suc, _+_, _*_, _/_, _%_, _^_, _≤_, _<_}
+use native.Mathlib.Nat.{add-zero, mul-one, mul-assoc, mul-le-mul-left}
 use native.Mathlib.Omega.{arith}
-use borrow.Author.Tests.{eq-eqb}
-use lib.Dec.{ltb}
-use lib.ListN.{length, take, drop, length-drop, length-append}
+use borrow.Author.Tests.{eq-eqb, eqb-true, eqb-false, lt-ltb, le-ltb}
+use lib.Dec.{eqb, ltb}
+use lib.ListN.{length, take, drop, length-drop, length-append, drop-of-length-le}
+use lib.Pow.{pow-add, pow-pos}
 use lib.Seq.{take-append-seam}
-use Rattle.group.specs.Status.{accepted}
+use Rattle.group.specs.Status.{badPayload, accepted}
 use Rattle.group.proofs.Bytes.{Bytes}
-use Rattle.row.specs.Order.{badShape}
+use Rattle.row.specs.Geometry.{validWidth}
+use Rattle.row.specs.Order.{badShape, Done}
+use Rattle.image.specs.declared.reader.Step.{Step}
 use Rattle.image.specs.Image.{word, headKind, endKind, logFrom, logWidth, headPayload, rowsWords, body, endWord, image}
 use Rattle.image.specs.Write.{validRows, written}
-use Rattle.image.specs.Read.{go, next, tested, checkHead, checkEnd, checked, taken}
-use Rattle.image.proofs.Calls.{Sound, sound-call, write-done, read-done}
+use Rattle.image.specs.Read.{go, stop, badWord, otherMeter, next, payload, tested, below, checkHead, checkFours, checkEnd, checked, readRows, taken}
+use Rattle.image.proofs.Calls.{Sound, sound-call, write-done, read-call, read-faulty, read-done}
 use Rattle.image.proofs.Digits.{payload-here, due-here, below-here}
+use Rattle.image.proofs.Laws.{powers-are}
 use Rattle.image.proofs.Restoring.{by-test}
+use Rattle.image.proofs.Accepting.{passed, tested-is}
+use Rattle.image.proofs.Exact.{rows-are}
+use Rattle.image.proofs.Sharp.{sharp-at}
 use Rattle.image.proofs.Rows.{Rows, afterRows, rows-restored}
 
 log-le : (n k p w : ℕ) → logFrom n k p w ≤ k + n
@@ -32,54 +42,171 @@ module _ (d w : ℕ) (memory old : List ℕ) (call : badShape d w (length memory
   sound : Sound d w (length memory)
   sound = sound-call d w (length memory) call
 
-  words : List ℕ
-  words = image d w memory
+  all-words : List ℕ
+  all-words = image d w memory
 
-  rest : List ℕ
-  rest = endWord (length (body d w memory)) ∷ []
+  end-words : List ℕ
+  end-words = endWord (length (body d w memory)) ∷ []
 
-  rows : Rows d w memory old words 1 rest
-  unfolding words rest image body
-  rows = rows-restored d w memory old (image d w memory) 1 rest (record { whole = sound .width .whole; size = sound .long; bytes = bytes; merges = merges }) long refl
+  rows : Rows d w memory old all-words 1 end-words
+  unfolding all-words end-words image body
+  rows = rows-restored d w memory old (image d w memory) 1 end-words (record { whole = sound .width .whole; size = sound .long; bytes = bytes; merges = merges }) long refl
 
-  head-passes : checkHead d w words ≡ go 1
-  unfolding words rest image body checkHead tested next
+  head-passes : checkHead d w all-words ≡ go 1
+  unfolding all-words end-words image body checkHead tested next
   head-passes =
       let h = head-lt d w (sound .depth) in
       let hp = headPayload d w in
-      let tail = rowsWords d w memory ++ rest in
-      rw (below-here words 0 headKind hp tail refl (omega (arith, h)) (2 ^ 9) h, due-here words 0 headKind hp tail refl (omega (arith, h)), payload-here words 0 headKind hp tail refl (omega (arith, h)), eq-eqb hp hp refl)
+      let tail = rowsWords d w memory ++ end-words in
+      rw (below-here all-words 0 headKind hp tail refl (omega (arith, h)) (2 ^ 9) h, due-here all-words 0 headKind hp tail refl (omega (arith, h)), payload-here all-words 0 headKind hp tail refl (omega (arith, h)), eq-eqb hp hp refl)
 
   position : ℕ
-  position = afterRows d w words 1
+  position = afterRows d w all-words 1
 
-  ends : position + 1 ≡ length words
-  unfolding position rest
-  ends = omega (arith, ap length (rows .after), length-drop (afterRows d w words 1) words)
+  ends : position + 1 ≡ length all-words
+  unfolding position end-words
+  ends = omega (arith, ap length (rows .after), length-drop (afterRows d w all-words 1) all-words)
 
   body-length : length (body d w memory) ≡ position
-  unfolding words image
+  unfolding all-words image
   body-length = omega (arith, ends, length-append (body d w memory) (endWord (length (body d w memory)) ∷ []))
 
-  end-passes : checkEnd words position ≡ go (length words)
-  unfolding checkEnd tested next endWord rest position
+  end-passes : checkEnd all-words position ≡ go (length all-words)
+  unfolding checkEnd tested next endWord end-words position
   end-passes =
       let n = position % 2 ^ 28 in
-      let e : drop position words ≡ word endKind n ∷ [] = rows .after ∙ ap (λ (k : ℕ). word endKind (k % 2 ^ 28) ∷ []) body-length in
-      rw (due-here words position endKind n [] e (omega arith), payload-here words position endKind n [] e (omega arith), eq-eqb n n refl, ends, eq-eqb (length words) (length words) refl)
+      let e : drop position all-words ≡ word endKind n ∷ [] = rows .after ∙ ap (λ (k : ℕ). word endKind (k % 2 ^ 28) ∷ []) body-length in
+      rw (due-here all-words position endKind n [] e (omega arith), payload-here all-words position endKind n [] e (omega arith), eq-eqb n n refl, ends, eq-eqb (length all-words) (length all-words) refl)
 
-  passes : checked d w words ≡ go (length words)
+  passes : checked d w all-words ≡ go (length all-words)
   unfolding checked next position
   passes = rw (head-passes, rows .checks) end-passes
 
   pub restored : taken d w old (image d w memory) ≡ record { answer = accepted (length (image d w memory)); memory = memory }
-  unfolding words
+  unfolding all-words
   restored =
-      read-done d w old words 0 (sym call ∙ ap (badShape d w) (sym long)) refl (go (length words)) (sym passes) refl
-      ∙ ap (λ (m : List ℕ). record { answer = accepted (length words); memory = m }) (rows .is)
+      read-done d w old all-words 0 (sym call ∙ ap (badShape d w) (sym long)) refl (go (length all-words)) (sym passes) refl
+      ∙ ap (λ (m : List ℕ). record { answer = accepted (length all-words); memory = m }) (rows .is)
 
   -- the same, from what a write left in the words that it was lent
   pub written-restored : (lent : List ℕ) → length (image d w memory) ≤ length lent
       → taken d w old (take (written d w memory lent .answer .value) (written d w memory lent .words)) ≡ record { answer = accepted (length (image d w memory)); memory = memory }
   written-restored lent h =
       rw (write-done d w memory lent 0 (sym call) refl merges h, take-append-seam (image d w memory) (drop (length (image d w memory)) lent)) restored
+
+-- what an accepted read has tested
+record Accepted (d w : ℕ) (old words : List ℕ) : Type 0 where
+  call : badShape d w (length old) ≡ 0
+  checks : checked d w words ≡ go (checked d w words .position)
+  is : taken d w old words .memory ≡ readRows d w old words 1
+
+accepted-is : (d w : ℕ) (old words : List ℕ) → taken d w old words .answer .status ≡ 0 → Accepted d w old words
+accepted-is d w old words e =
+    by-test (eqb (badShape d w (length old)) 0)
+    (λ t.
+    let z = eqb-true (badShape d w (length old)) 0 t in
+    let c = checked d w words in
+    by-test (eqb (c .status) 0)
+    (λ u.
+    let y = eqb-true (c .status) 0 u in
+    record { call = z; checks = ap (λ (s : ℕ). record { status = s; position = c .position }) y; is = ap (λ (x : Done). x .memory) (read-done d w old words 0 (sym z) refl c refl y) })
+    (λ u. absurd (eqb-false (c .status) 0 u (sym (ap (λ (x : Done). x .answer .status) (read-faulty d w old words 0 (sym z) refl c refl (eqb-false (c .status) 0 u))) ∙ e))))
+    (λ t. absurd (eqb-false (badShape d w (length old)) 0 t
+    (sym (ap (λ (x : Done). x .answer .status) (read-call d w old words (badShape d w (length old)) refl (eqb-false (badShape d w (length old)) 0 t))) ∙ e)))
+
+record Head (d w : ℕ) (words : List ℕ) (q : ℕ) : Type 0 where
+  position : q ≡ 1
+  is : drop 0 words ≡ word headKind (headPayload d w) ∷ drop 1 words
+
+head-is : (d w : ℕ) (words : List ℕ) (q : ℕ) → checkHead d w words ≡ go q → Head d w words q
+unfolding checkHead
+head-is d w words q e =
+    let t = passed (below words 0 headKind (2 ^ 9)) (λ p. tested words 0 headKind (eqb (payload words 0) (headPayload d w)) otherMeter) q e in
+    let x = tested-is words 0 headKind (eqb (payload words 0) (headPayload d w)) otherMeter q (omega arith) (t .after) in
+    record { position = x .position; is = x .is ∙ ap (λ (y : ℕ). word headKind y ∷ drop 1 words) (eqb-true (payload words 0) (headPayload d w) (x .true-of)) }
+
+record End (words : List ℕ) (p : ℕ) : Type 0 where
+  long : length words ≡ p + 1
+  is : drop p words ≡ endWord p ∷ []
+
+end-is : (words : List ℕ) (p q : ℕ) → checkEnd words p ≡ go q → End words p
+unfolding checkEnd endWord
+end-is words p q e =
+    let test = tested words p endKind (eqb (payload words p) (p % 2 ^ 28)) badPayload in
+    let t = passed test (λ r. cond (eqb (length words) r) (go r) (stop badWord r)) q e in
+    let x = tested-is words p endKind (eqb (payload words p) (p % 2 ^ 28)) badPayload (test .position) (omega arith) (t .here) in
+    let l : length words ≡ test .position
+    = by-test (eqb (length words) (test .position)) (λ u. eqb-true (length words) (test .position) u) (λ u. absurd (omega (arith, ap (λ (s : Step). s .status) (rw u at (t .after))))) in
+    record {
+      long = l ∙ x .position;
+      is = x .is ∙ ap₂ (λ (y : ℕ) (ys : List ℕ). word endKind y ∷ ys) (eqb-true (payload words p) (p % 2 ^ 28) (x .true-of)) (drop-of-length-le words {i = p + 1} (omega (arith, l, x .position)));
+    }
+
+-- a memory whose image the words are
+record Exact (d w : ℕ) (words memory : List ℕ) : Type 0 where
+  call : badShape d w (length memory) ≡ 0
+  merges : validRows d w memory ≡ true
+  is : words ≡ image d w memory
+
+module _ (d w : ℕ) (old words : List ℕ) (e : taken d w old words .answer .status ≡ 0) where
+  exact : Exact d w words (taken d w old words .memory)
+  unfolding checked image body
+  exact =
+      let a = accepted-is d w old words e in
+      let s = sound-call d w (length old) (a .call) in
+      let c = checked d w words .position in
+      let t = passed (checkHead d w words) (λ p. next (checkFours (d * (w / 32)) words p) (λ q. checkEnd words q)) c (a .checks) in
+      let h = head-is d w words (checkHead d w words .position) (t .here) in
+      let u = passed (checkFours (d * (w / 32)) words 1) (λ q. checkEnd words q) c (ap (λ (p : ℕ). next (checkFours (d * (w / 32)) words p) (λ q. checkEnd words q)) (sym (h .position)) ∙ t .after) in
+      let q = checkFours (d * (w / 32)) words 1 .position in
+      let m = readRows d w old words 1 in
+      let r = rows-are d w old words 1 q (s .width .whole) (s .long) (u .here) in
+      let x = end-is words q c (u .after) in
+      let rows = rowsWords d w m in
+      let f : drop 1 words ≡ rows ++ endWord q ∷ [] = r .is ∙ ap (λ (z : List ℕ). rows ++ z) (x .is) in
+      let n : q ≡ suc (length rows) = omega (arith, x .long, ap length f, length-drop 1 words, length-append rows (endWord q ∷ [])) in
+      let i : words ≡ image d w m = h .is ∙ ap (λ (z : List ℕ). word headKind (headPayload d w) ∷ z) (f ∙ ap (λ (k : ℕ). rows ++ endWord k ∷ []) n) in
+      subst (λ (x : List ℕ). Exact d w words x) (sym (a .is)) (record { call = ap (badShape d w) (r .long) ∙ a .call; merges = r .merges; is = i })
+
+  pub accepted-image : words ≡ image d w (taken d w old words .memory)
+  accepted-image = exact .is
+
+  pub accepted-written : (lent : List ℕ) → length words ≤ length lent
+      → written d w (taken d w old words .memory) lent ≡ record { answer = accepted (length words); words = words ++ drop (length words) lent }
+  accepted-written lent h =
+      let i = exact .is in
+      write-done d w (taken d w old words .memory) lent 0 (sym (exact .call)) refl (exact .merges) (omega (arith, ap length i))
+      ∙ ap (λ (x : List ℕ). record { answer = accepted (length x); words = x ++ drop (length x) lent }) (sym i)
+
+-- A refused place is sharp: the words before it, read alone, are refused only because a word is missing there, or are accepted and so
+-- are a whole image.
+module _ (d w : ℕ) (old words : List ℕ) (call : badShape d w (length old) ≡ 0) (n : taken d w old words .answer .status ≡ 0 → ⊥) where
+  faulty : checked d w words .status ≡ 0 → ⊥
+  faulty z = n (ap (λ (x : Done). x .answer .status) (read-done d w old words 0 (sym call) refl (checked d w words) refl z))
+
+  at-fault : taken d w old words .answer .position ≡ checked d w words .position
+  at-fault = ap (λ (x : Done). x .answer .position) (read-faulty d w old words 0 (sym call) refl (checked d w words) refl faulty)
+
+  pub sharp : (q : ℕ) → taken d w old words .answer .position ≡ q
+      → (taken d w old (take q words) .answer ≡ record { status = badWord; position = q; value = 0 }) ⊎ (taken d w old (take q words) .answer ≡ accepted q)
+  sharp q e =
+      ⊎-elim
+      (λ x. inl (ap (λ (y : Done). y .answer) (read-faulty d w old (take q words) 0 (sym call) refl (stop badWord q) (sym x) (λ z. omega arith))))
+      (λ x. inr (ap (λ (y : Done). y .answer) (read-done d w old (take q words) 0 (sym call) refl (go q) (sym x) refl)))
+      (sharp-at d w words q faulty (sym at-fault ∙ e))
+
+-- the logarithm in a head is the width's
+log-power : (n k p i : ℕ) → 0 < p → i ≤ n → logFrom n k p (p * 2 ^ i) ≡ k + i
+unfolding logFrom
+log-power zero k p i h l = let z : i ≡ 0 = omega arith in rw z (sym (add-zero k))
+log-power (suc n) k p zero h l = rw (mul-one p, le-ltb p p (omega arith)) (sym (add-zero k))
+log-power (suc n) k p (suc i) h l =
+    let f : suc i ≡ 1 + i = omega arith in
+    let e : p * 2 ^ suc i ≡ p * 2 * 2 ^ i = ap (λ (x : ℕ). p * 2 ^ x) f ∙ ap (λ (x : ℕ). p * x) (pow-add 2 1 i) ∙ sym (mul-assoc p 2 (2 ^ i)) in
+    let m : p * 2 * 1 ≤ p * 2 * 2 ^ i = mul-le-mul-left {m = 1} {n = 2 ^ i} (p * 2) (pow-pos i) in
+    rw (e, lt-ltb p (p * 2 * 2 ^ i) (omega arith)) (log-power n (k + 1) (p * 2) i (omega arith) (omega arith) ∙ omega arith)
+
+pub log-width-is : (w : ℕ) → validWidth w ≡ true → 2 ^ logWidth w ≡ w
+unfolding validWidth logWidth
+log-width-is w v =
+    powers-are 12 32 w (λ x. 2 ^ logFrom 11 5 32 x ≡ x) (λ i h. ap (λ (k : ℕ). 2 ^ k) (log-power 11 5 32 i (omega arith) (omega arith)) ∙ pow-add 2 5 i) v

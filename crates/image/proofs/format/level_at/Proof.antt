@@ -2,7 +2,7 @@ use mathlib.Core.Path.{ap}
 use lib.ListN.{replicate}
 use Rattle.image.specs.Image.{levelAt}
 use Rattle.group.specs.declared.Reading.{Reading}
-use Rattle.image.proofs.Trees.{read-level-le}
+use Rattle.image.proofs.Laws.{read-level-le}
 use borrow.Author.Needs.{needs}
 use Rattle.image.proofs.format.level_at.Statement.{statement}
 use Rattle.image.proofs.format.level_at.Tie as tie

@@ -3,8 +3,7 @@ use mathlib.Core.List.{List}
 use Prim.Native.Nat.{ℕ, _+_, _*_}
 use native.Mathlib.Omega.{arith}
 use lib.ListN.{length, set, length-set}
-use lib.Seq.{length-sets}
-use Rattle.image.specs.Image.{word, headKind, headPayload, endWord, rowsWords}
+use Rattle.image.specs.Image.{word, headKind, headPayload, endWord}
 use Rattle.image.proofs.Calls.{image-length, image-put}
 use borrow.Author.Needs.{needs}
 use Rattle.image.proofs.writer.put_image.Statement.{statement}
@@ -35,7 +34,7 @@ put-rows-requires c κs = let a = c .before .before .before .before .before .arg
 
 kept : (c : tie.After-slice-known2) → length (c .before .before .put-rows .last .0) ≡ length (c .before .before .before .before .before .before .before .before .args .words .now)
 kept c = let a = c .before .before .before .before .before .before .before .before .args in
-    ap length (c .before .before .put-rows .ensures .1) ∙ length-sets (set (a .words .now) 0 (c .before .before .before .before .word .result)) 1 (rowsWords (a .d) (a .w) (a .memory .now)) ∙ length-set (a .words .now) 0 (c .before .before .before .before .word .result)
+    omega (arith, length-set (a .words .now) 0 (c .before .before .before .before .word .result))
 
 cast-word-2 : tie.Need-cast-word-2
 cast-word-2 c = search needs

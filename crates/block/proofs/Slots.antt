@@ -8,13 +8,10 @@ use native.Mathlib.Omega.{arith}
 use borrow.Author.Tests.{lt-ltb, le-ltb}
 use lib.Dec.{ltb}
 use lib.Pow.{pow-add, pow-pos}
-use Rattle.layout.specs.Layout.{Layout, merged, halves, isMerged, valid}
+use Rattle.layout.specs.Layout.{Layout, merged, halves, isMerged}
 use Rattle.block.specs.declared.Counter.{Counter}
 use Rattle.block.specs.Block.{Block, counter, split, cap, Fits, shape, counterAt}
 use Rattle.block.specs.Change.{change}
-use Rattle.group.specs.declared.Group.{Group}
-use Rattle.group.specs.Status.{invalidMerge}
-use Rattle.group.specs.Group.{read, reading, decode}
 
 pub counter-halves : {n : ℕ} (l r : Block n) (k : ℕ) (P : Counter → Type 0)
     → (ltb k (2 ^ n) ≡ true → P (counterAt l k))
@@ -32,14 +29,6 @@ unfolding counterAt
 level-le {n} (counter v) k = omega arith
 level-le (split {n} l r) k =
     counter-halves l r k (λ c. c .level ≤ suc n) (λ e. omega (arith, level-le l k)) (λ e. omega (arith, level-le r (k - 2 ^ n)))
-
-pub read-level-le : (g : Group) (k : ℕ) → read g k .level ≤ 3
-unfolding read reading
-read-level-le g k = go (valid 3 (g .merge))
-  where
-    go : (b : Bool) → cond b (reading (counterAt (decode g) (k % 8))) (record { status = invalidMerge; value = 0; level = 0 }) .level ≤ 3
-    go true = level-le (decode g) (k % 8)
-    go false = omega arith
 
 -- the level of the counter of a slot, by the layout
 unfoldable pub levelOf : {n : ℕ} → Layout n → ℕ → ℕ
