@@ -1,8 +1,8 @@
 // The image of a meter: 32-bit words that hold its depth, its width, and every counter at its layout.
-pub mod format;
-pub mod geometry;
-pub mod reader;
-pub mod writer;
+mod format;
+mod geometry;
+mod reader;
+mod writer;
 
 use group::Answer;
 ghost use mathlib.Core.Path.{_≡_};
