@@ -6,6 +6,7 @@ use words::Body;
 use words::Opening;
 ghost use mathlib.Core.Path.{_≡_};
 ghost use Prim.Native.Nat.{_<_, _≤_};
+ghost use lib.ListN.{length};
 ghost use Rattle.feed.specs.Answers as answers;
 ghost use Rattle.feed.specs.Answers.{bodyAnswer, recordAnswer};
 ghost use Rattle.feed.specs.Head.{headDepth, headWidth, badGeometry, headed};
@@ -160,6 +161,7 @@ fn query(d: usize, w: usize, memory: &[u8], n: usize, words: &[u32]) -> Recorded
 pub fn record(d: usize, w: usize, memory: &mut [u8], before: u64, words: &[u32]) -> Recorded
     ensures { λ r. ⌜ r ≡ recorded d w (now (memory .entry)) before (now (words .entry)) .outcome ⌝ }
     ensures { λ r. ⌜ now (memory .exit) ≡ recorded d w (now (memory .entry)) before (now (words .entry)) .memory ⌝ }
+    ensures { λ r. ⌜ recordAnswer r .position ≤ length (now (words .entry)) ⌝ }
 {
     let bad = row::bad_shape(d, w, memory.len());
     if bad != 0 {
