@@ -1,5 +1,6 @@
 -- Laws of words and decimal numbers that the code's proofs use, and what decimal digits are worth.
-use mathlib.Core.Path.{_≡_, refl, ap, _∙_}
+use mathlib.Core.Path.{_≡_, refl, sym, ap, _∙_}
+use mathlib.Core.Bool.{Bool, not, _||_}
 use mathlib.Core.List.{List, [], _∷_, _++_}
 use Prim.Native.Nat.{ℕ, zero, suc, _+_, _-_, _*_, _/_, _%_, _^_, _≤_, _<_}
 use native.Mathlib.Nat.{add-zero, zero-add, div-lt-iff-lt-mul, pow-suc}
@@ -7,6 +8,7 @@ use native.Mathlib.Numerals.{add-one, sub-one}
 use native.Mathlib.Omega.{arith}
 use native.Mathlib.Decide.{decLt}
 use borrow.Author.Tests.{lt-ltb, le-ltb}
+use lib.Dec.{eqb}
 use lib.ListN.{length, getD, take, drop, set}
 use lib.Seq.{paste-suc}
 use types.Run.{OneOf}
@@ -17,7 +19,7 @@ use Rattle.feed.proofs.Recorded as the-recorded
 use Rattle.lines.specs.declared.Line.{Line}
 use Rattle.lines.specs.declared.Line.the-variants as line
 use Rattle.lines.proofs.Line as the-line
-use Rattle.lines.specs.Line.{lineOf, updatedWord, text}
+use Rattle.lines.specs.Line.{lineOf, continues, updatedWord, text}
 use Rattle.lines.specs.Text.{digitsBefore, decimal, numberAfter}
 use Rattle.lines.specs.Words.{wordAt, wordsFrom}
 
@@ -108,3 +110,19 @@ text-updated (line.Estimate v) h = absurd (omega arith)
 text-updated (line.End n) h = absurd (omega arith)
 text-updated (line.Refused s) h = absurd (omega arith)
 text-updated (line.Stopped s i) h = absurd (omega arith)
+
+-- whether a record follows a line, by the line's tag
+abbrev continuing : ℕ → Bool
+continuing t = not (eqb t 3 || eqb t 5)
+
+by-tag : (l : Line) → continues l ≡ continuing (tagOf the-line.the-type l)
+unfolding continues
+by-tag (line.Geometry d w) = refl
+by-tag line.Updated = refl
+by-tag (line.Estimate v) = refl
+by-tag (line.End n) = refl
+by-tag (line.Refused s) = refl
+by-tag (line.Stopped s i) = refl
+
+pub tag-continues : (l : Line) (t : ℕ) → OneOf (t ∷ []) (tagOf the-line.the-type l) → continuing t ≡ continues l
+tag-continues l t h = sym (by-tag l ∙ ap continuing h)

@@ -1,8 +1,10 @@
 -- The program's lines. Document 01, 'The program's lines'.
 use Prim.Native.Nat.{ℕ, _+_}
-use mathlib.Core.Bool.{Bool, cond, _||_}
+use mathlib.Core.Bool.{Bool, true, false, cond, _||_}
 use mathlib.Core.List.{List, [], _∷_, _++_}
-use lib.Dec.{eqb}
+use lib.Dec.{eqb, leb}
+use Rattle.group.specs.declared.Answer.{Answer}
+use Rattle.feed.specs.Head.{headDepth, headWidth}
 use Rattle.feed.specs.declared.Recorded.{Recorded}
 use Rattle.feed.specs.declared.Recorded.the-variants as recorded
 use Rattle.lines.specs.declared.Line.{Line}
@@ -54,6 +56,17 @@ text (line.End n) = endWord ++ decimal n ++ newline
 text (line.Refused s) = refusedWord ++ decimal s ++ newline
 text (line.Stopped s i) = stoppedWord ++ decimal s ++ atWord ++ decimal i ++ newline
 
+-- the largest width that the program lends memory for
+abbrev pub mostSlots : ℕ
+mostSlots = 4096
+
+-- the line of a head's answer: the geometry of an accepted one, if it is not too wide
+unfoldable pub headLine : Answer → Line
+headLine a =
+    cond (eqb (a .status) 0)
+    (cond (leb (headWidth (a .value)) mostSlots) (line.Geometry (headDepth (a .value)) (headWidth (a .value))) (line.Stopped 3 0))
+    (line.Stopped (a .status) (a .position))
+
 -- Numbers 1, 2, 4, 8 and 9 stop a feed.
 unfoldable pub stops : ℕ → Bool
 stops s = eqb s 1 || eqb s 2 || eqb s 4 || eqb s 8 || eqb s 9
@@ -67,3 +80,12 @@ lineOf recorded.Updated before records = line.Updated
 lineOf (recorded.Estimate v) before records = line.Estimate v
 lineOf recorded.Ended before records = line.End records
 lineOf (recorded.Rejected s p) before records = rejectedLine s (before + p)
+
+-- whether a record follows
+unfoldable pub continues : Line → Bool
+continues line.Updated = true
+continues (line.Estimate v) = true
+continues (line.Refused s) = true
+continues (line.Geometry d w) = true
+continues (line.End n) = false
+continues (line.Stopped s i) = false

@@ -3,6 +3,7 @@ mod text;
 mod words;
 
 use feed::Recorded;
+use group::Answer;
 pub use text::Text;
 use text::begin;
 use text::pair;
@@ -13,7 +14,10 @@ ghost use Prim.Native.Nat.{_+_, _^_, _<_, _≤_};
 ghost use Rattle.feed.specs.Answers.{recordAnswer};
 ghost use Rattle.lines.specs.Text.{content};
 ghost use Rattle.lines.specs.Line as spec;
-ghost use Rattle.lines.specs.Line.{lineOf};
+ghost use Rattle.lines.specs.Line.{headLine, lineOf};
+
+// The largest width that the program lends memory for.
+pub const MOST_SLOTS: usize = 4096;
 
 pub enum Line {
     Geometry { d: usize, w: usize },
@@ -22,6 +26,46 @@ pub enum Line {
     End { records: u64 },
     Refused { status: u8 },
     Stopped { status: u8, index: u64 },
+}
+
+// The line of a head's answer.
+pub fn head_line(a: Answer) -> Line
+    ensures { λ l. ⌜ l ≡ headLine a ⌝ }
+{
+    if a.status != 0 {
+        return Line::Stopped {
+            status: a.status,
+            index: a.position,
+        };
+    }
+    let w = feed::head_width(a.value);
+    if w > MOST_SLOTS {
+        return Line::Stopped {
+            status: 3,
+            index: 0,
+        };
+    }
+    Line::Geometry {
+        d: feed::head_depth(a.value),
+        w,
+    }
+}
+
+// Whether a record follows.
+pub fn continues(l: Line) -> bool
+    ensures { λ r. ⌜ r ≡ spec.continues l ⌝ }
+{
+    match l {
+        Line::Geometry { d: _, w: _ } => true,
+        Line::Updated => true,
+        Line::Estimate { value: _ } => true,
+        Line::End { records: _ } => false,
+        Line::Refused { status: _ } => true,
+        Line::Stopped {
+            status: _,
+            index: _,
+        } => false,
+    }
 }
 
 fn stops(status: u8) -> bool
