@@ -46,6 +46,9 @@ add-t28 c = let s = c .before .before .before .before .before .before .before .b
 continues-requires : tie.Need-continues-requires
 continues-requires c κs = search needs
 
+is-end-requires : tie.Need-is-end-requires
+is-end-requires c κs = search needs
+
 same-length : tie.Need-same-length
 same-length c = search needs
 
@@ -56,9 +59,9 @@ same-length-3 : tie.Need-same-length-3
 same-length-3 c = search needs
 
 returns : tie.Need-returns
-returns c = let a = c .before .before .before .after in
-    let r = c .before .before .before .before .before .before .before .before .before .before .before .before .before .before .before .before .before .refill in
-    ((a .ensures .1, omega (arith, a .ensures .2, r .ensures .0 .1)), (c .before .before .before .before .before .before .put .ensures, (omega (arith, c .before .before .before .before .before .before .before .before .before .before .before .next .ensures), omega arith)))
+returns c = let a = c .before .before .before .before .after in
+    let r = c .before .before .before .before .before .before .before .before .before .before .before .before .before .before .before .before .before .before .refill in
+    ((a .ensures .1, omega (arith, a .ensures .2, r .ensures .0 .1)), (c .before .before .before .before .before .before .before .put .ensures, (omega (arith, c .before .before .before .before .before .before .before .before .before .before .before .before .next .ensures), omega arith)))
 
 pub step-spec : {M : Type 1} → statement M
 step-spec =
@@ -76,6 +79,7 @@ step-spec =
     add-t27
     add-t28
     continues-requires
+    is-end-requires
     same-length
     same-length-2
     same-length-3

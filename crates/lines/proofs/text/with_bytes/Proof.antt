@@ -41,9 +41,13 @@ loop-less c = search needs
 loop-again : tie.Need-loop-again Inv-loop μ-loop
 loop-again c = let l = c .before .before .loop in
     let a = c .before .before .before .before .args in
-    let s = a .s .now in
-    (omega arith, refl, l .inv .2, length-set (l .bytes) (a .t .length + l .i) (getD s (l .i) 0) ∙ l .inv .3,
-     append-turn (l .bytes) (take (a .t .length) (a .t .bytes)) s (a .t .length) (l .i) (omega arith) (omega arith) (l .inv .4))
+    let s = a .s .now in (
+      omega arith,
+      refl,
+      l .inv .2,
+      length-set (l .bytes) (a .t .length + l .i) (getD s (l .i) 0) ∙ l .inv .3,
+      append-turn (l .bytes) (take (a .t .length) (a .t .bytes)) s (a .t .length) (l .i) (omega arith) (omega arith) (l .inv .4),
+    )
 
 add-t15 : tie.Need-add-t15 Inv-loop μ-loop
 add-t15 c = search needs

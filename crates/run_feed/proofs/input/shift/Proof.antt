@@ -44,13 +44,16 @@ loop-again c = let l = c .before .before .loop in
     let x = getD (l .buffer) (a .from + l .i) 0 in
     let at : l .i + (a .from + l .i - l .i) ≡ a .from + l .i = omega arith in
     let same : x ≡ getD (drop (a .from) b) (l .i) 0 =
-        ap (λ (k : ℕ). getD (l .buffer) k 0) (sym at) ∙ sym (getD-drop (l .i) (l .buffer) (a .from + l .i - l .i) 0)
-        ∙ ap (λ (k : List ℕ). getD k (a .from + l .i - l .i) 0) (l .inv .3) ∙ getD-drop (l .i) b (a .from + l .i - l .i) 0 ∙ ap (λ (k : ℕ). getD b k 0) at
-        ∙ sym (getD-drop (a .from) b (l .i) 0) in
-    (omega arith, l .inv .1, length-set (l .buffer) (l .i) x ∙ l .inv .2,
-     drop-set-lt (l .i + 1) (l .buffer) (l .i) x (omega arith) ∙ more (l .i) (l .buffer) b (l .inv .3),
-     rw add-one (take-suc-set (l .buffer) (l .i) x (omega arith) ∙ ap₂ (λ (k : List ℕ) (y : ℕ). k ++ (y ∷ [])) (l .inv .4) same
-      ∙ sym (take-suc (drop (a .from) b) (l .i) 0 (omega (arith, length-drop (a .from) b)))))
+    ap (λ (k : ℕ). getD (l .buffer) k 0) (sym at) ∙ sym (getD-drop (l .i) (l .buffer) (a .from + l .i - l .i) 0)
+    ∙ ap (λ (k : List ℕ). getD k (a .from + l .i - l .i) 0) (l .inv .3) ∙ getD-drop (l .i) b (a .from + l .i - l .i) 0 ∙ ap (λ (k : ℕ). getD b k 0) at
+    ∙ sym (getD-drop (a .from) b (l .i) 0) in (
+      omega arith,
+      l .inv .1,
+      length-set (l .buffer) (l .i) x ∙ l .inv .2,
+      drop-set-lt (l .i + 1) (l .buffer) (l .i) x (omega arith) ∙ more (l .i) (l .buffer) b (l .inv .3),
+      rw add-one (take-suc-set (l .buffer) (l .i) x (omega arith) ∙ ap₂ (λ (k : List ℕ) (y : ℕ). k ++ (y ∷ [])) (l .inv .4) same
+          ∙ sym (take-suc (drop (a .from) b) (l .i) 0 (omega (arith, length-drop (a .from) b)))),
+    )
 
 same-length : tie.Need-same-length Inv-loop μ-loop
 same-length c = search needs

@@ -40,9 +40,14 @@ loop-less c = search needs
 loop-again : tie.Need-loop-again Inv-loop μ-loop
 loop-again c = let l = c .before .loop in
     let a = c .before .before .before .args in
-    let x = a .t .bytes in
-    (omega arith, l .inv .1, l .inv .2, l .inv .3, length-set (l .out) (a .at + l .i) (getD x (l .i) 0) ∙ l .inv .4,
-     append-turn (l .out) (take (a .at) (a .out .now)) x (a .at) (l .i) (omega arith) (omega arith) (l .inv .5))
+    let x = a .t .bytes in (
+      omega arith,
+      l .inv .1,
+      l .inv .2,
+      l .inv .3,
+      length-set (l .out) (a .at + l .i) (getD x (l .i) 0) ∙ l .inv .4,
+      append-turn (l .out) (take (a .at) (a .out .now)) x (a .at) (l .i) (omega arith) (omega arith) (l .inv .5),
+    )
 
 add-result : tie.Need-add-result Inv-loop μ-loop
 add-result c = search needs
