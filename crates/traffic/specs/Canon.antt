@@ -1,0 +1,15 @@
+-- The block that totals leave, whatever the order of the calls that added them up.
+use Prim.Native.Nat.{ℕ, zero, suc, _+_, _*_}
+use mathlib.Core.Bool.{Bool, cond, _&&_}
+use lib.Dec.{ltb}
+use Rattle.block.specs.Block.{Block, counter, split, cap}
+
+-- whether a counter of level n holds the total of block i of that level; `totals n i` is that total
+unfoldable pub small : (ℕ → ℕ → ℕ) → ℕ → ℕ → Bool
+small totals n i = ltb (totals n i) (cap n)
+
+-- Block i of level n: one counter exactly where a half is too large. Its halves are blocks 2 × i and 2 × i + 1 of the level below.
+unfoldable pub canon : (ℕ → ℕ → ℕ) → (n : ℕ) → ℕ → Block n
+canon totals zero i = counter (totals 0 i)
+canon totals (suc n) i =
+    cond (small totals n (2 * i) && small totals n (2 * i + 1)) (split (canon totals n (2 * i)) (canon totals n (2 * i + 1))) (counter (totals (suc n) i))

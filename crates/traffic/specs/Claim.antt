@@ -1,0 +1,21 @@
+-- What is claimed of every list of calls. Document 01, 'Traffic and its two figures'.
+use Prim.Native.Nat.{ℕ, _≤_}
+use mathlib.Core.Path.{_≡_}
+use mathlib.Core.List.{List}
+use lib.ListN.{length}
+use Rattle.group.specs.Status.{accepted}
+use Rattle.meter.specs.Meter.{estimated, widest}
+use Rattle.traffic.specs.Traffic.{Pair, lower, upper, level}
+use Rattle.traffic.specs.Calls.{Calls, traffic, run}
+
+-- an estimate of a key is at least the lower and at most the upper figure
+abbrev pub Between : ℕ → ℕ → List Pair → List ℕ → ℕ → Type 0
+Between d w pairs key value = (lower pairs key ≤ value) × (value ≤ upper d w pairs key)
+
+pub record Claim (d w : ℕ) (calls : Calls) : Type 0 where
+  -- told the meter's d and w, the estimate call accepts every key
+  pub accepts : (key : List ℕ) → 1 ≤ length key → length key ≤ 64 → estimated d w (run d w calls) key .status ≡ 0
+  -- each accepted estimate lies between the two figures
+  pub estimates : (key : List ℕ) → estimated d w (run d w calls) key .status ≡ 0 → Between d w (traffic calls) key (estimated d w (run d w calls) key .value)
+  -- the widest level call gives number 0 and the figure L
+  pub widest-level : widest d w (run d w calls) ≡ accepted (level d w (traffic calls))

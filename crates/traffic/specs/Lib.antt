@@ -1,0 +1,4 @@
+pub mod Traffic
+pub mod Calls
+pub mod Canon
+pub mod Claim
