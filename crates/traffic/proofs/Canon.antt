@@ -110,7 +110,7 @@ module _ (t : ℕ → ℕ → ℕ) where
         ]
 
 -- the half of a block that a slot is in
-half : (s n : ℕ) → s / 2 ^ suc n ≡ s / 2 ^ n / 2
+pub half : (s n : ℕ) → s / 2 ^ suc n ≡ s / 2 ^ n / 2
 half s n = rw (← add-one n) (sym (shr-shr s n 1))
 
 low : (s n : ℕ) → s % 2 ^ suc n ≡ s / 2 ^ n % 2 * 2 ^ n + s % 2 ^ n
