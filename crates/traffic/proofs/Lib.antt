@@ -1,2 +1,4 @@
 pub mod Canon
 pub mod Totals
+pub mod Gather
+pub mod Answers
