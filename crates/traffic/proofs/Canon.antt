@@ -146,7 +146,7 @@ module _ (t t′ : ℕ → ℕ → ℕ) (adds′ : Adds t′) (s a : ℕ) (plus 
   plus-at : (n i : ℕ) → s / 2 ^ n ≡ i → t′ n i ≡ t n i + a
   plus-at n i e = plus n i ∙ rw (eq-eqb (s / 2 ^ n) i e) (omega arith)
 
-  plus-off : (n i : ℕ) → (s / 2 ^ n ≡ i → ⊥) → t′ n i ≡ t n i
+  pub plus-off : (n i : ℕ) → (s / 2 ^ n ≡ i → ⊥) → t′ n i ≡ t n i
   plus-off n i e = plus n i ∙ rw (ne-eqb (s / 2 ^ n) i e) (omega arith)
 
   plus-more : (n i : ℕ) → t n i ≤ t′ n i

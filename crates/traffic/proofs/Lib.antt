@@ -2,3 +2,4 @@ pub mod Canon
 pub mod Totals
 pub mod Gather
 pub mod Answers
+pub mod Steps
