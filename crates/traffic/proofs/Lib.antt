@@ -3,3 +3,4 @@ pub mod Totals
 pub mod Gather
 pub mod Answers
 pub mod Steps
+pub mod Bytes
