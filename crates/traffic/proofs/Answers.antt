@@ -164,9 +164,8 @@ module _ (d w : ℕ) (vd : validDepth d ≡ true) (vw : validWidth w ≡ true) (
     unfolding upper
     estimate-between =
         let f : ℕ → ℕ = λ r. readValue w key r (rowOf w memory r) in
-        rw (rows-are (readValue w key) d w memory)
-        (
+        rw (rows-are (readValue w key) d w memory) (
           le-least f (lower ps key) d 0 (depth-in d vd .0) (λ r h q. value-low r (omega arith)),
           le-least (landingTotal w (level d w ps) ps key) (least (ofGroups f d 0)) d 0 (depth-in d vd .0)
-          (λ r h q. omega (arith, least-le f d 0 r h q, value-high r (omega arith))),
+              (λ r h q. omega (arith, least-le f d 0 r h q, value-high r (omega arith))),
         )

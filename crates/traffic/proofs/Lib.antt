@@ -4,3 +4,4 @@ pub mod Gather
 pub mod Answers
 pub mod Steps
 pub mod Bytes
+pub mod Theorem
