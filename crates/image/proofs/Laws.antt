@@ -115,15 +115,6 @@ pub value-none : (n v : ℕ) (words : List ℕ) (p : ℕ) → n ≡ 0 → valueF
 unfolding valueFrom
 value-none n v words p e = rw e
 
--- a test that the code has made
-pub turn : (s t : Step) (f : ℕ → Step) → s ≡ t → s .status ≡ 0 → next t f ≡ f (s .position)
-unfolding next
-turn s t f e h = rw (← e, eq-eqb (s .status) 0 h)
-
-pub halt : (s t : Step) (f : ℕ → Step) → s ≡ t → (s .status ≡ 0 → ⊥) → next t f ≡ s
-unfolding next
-halt s t f e h = rw (← e, ne-eqb (s .status) 0 h)
-
 pub check-parts-step : (n : ℕ) (words : List ℕ) (p limit : ℕ) → 0 < n → checkParts n words p limit ≡ next (below words p countKind limit) (λ q. checkParts (n - 1) words q (2 ^ 24))
 unfolding checkParts
 check-parts-step zero words p limit h = absurd (omega arith)

@@ -6,7 +6,7 @@ use lib.Dec.{eqb}
 use lib.ListN.{length}
 use Rattle.word.specs.Word.{endKind, payload, tested}
 use Rattle.image.specs.Read.{checkEnd}
-use Rattle.image.proofs.Laws.{turn, halt}
+use Rattle.word.proofs.Laws.{turn, halt}
 use borrow.Author.Needs.{needs}
 use Rattle.image.proofs.reader.check_end.Statement.{statement}
 use Rattle.image.proofs.reader.check_end.Tie as tie

@@ -4,7 +4,7 @@ use lib.Dec.{eqb}
 use Rattle.word.specs.Word.{tested, headKind}
 use Rattle.image.specs.Read.{checkHead, otherMeter}
 use Rattle.image.specs.Image.{headPayload}
-use Rattle.image.proofs.Laws.{turn, halt}
+use Rattle.word.proofs.Laws.{turn, halt}
 use borrow.Author.Needs.{needs}
 use Rattle.image.proofs.reader.check_head.Statement.{statement}
 use Rattle.image.proofs.reader.check_head.Tie as tie
