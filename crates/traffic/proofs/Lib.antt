@@ -4,4 +4,6 @@ pub mod Gather
 pub mod Answers
 pub mod Steps
 pub mod Bytes
+pub mod Records
 pub mod Theorem
+pub mod Example

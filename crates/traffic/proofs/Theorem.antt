@@ -1,6 +1,6 @@
 -- The claim, proved of every faithful list of calls: after it the memory holds the list's traffic, and so answers as document 01 says.
 use mathlib.Core.Path.{_≡_, refl, sym, ap, subst, _∙_}
-use mathlib.Core.Bool.{Bool, true, false, cond}
+use mathlib.Core.Bool.{Bool, true, false, cond, true≢false}
 use mathlib.Core.List.{List, [], _∷_, _++_}
 use Prim.Native.Nat.{ℕ, zero, suc, _+_, _≤_, _<_}
 use native.Mathlib.Decide.{ℕ-discrete}
@@ -17,12 +17,18 @@ use Rattle.image.specs.Image.{image}
 use Rattle.image.specs.Read.{checked, taken}
 use Rattle.image.proofs.Calls.{read-call, read-faulty, read-done}
 use Rattle.image.proofs.Theorems.{restored}
+use Rattle.word.specs.Word.{payload, isDue}
+use Rattle.feed.specs.declared.Recorded.the-variants as case
+use Rattle.feed.specs.Answers.{recordAnswer}
+use Rattle.feed.specs.Words.{updateKind, keyOf, amountOf}
+use Rattle.feed.specs.Record.{recorded}
 use Rattle.traffic.specs.Traffic.{Pair}
-use Rattle.traffic.specs.Calls.{Call, clear, update, estimate, widest, unite, write, read, Source, from, raw, Calls, none, then, traffic, after, behind, run, done, bytesOf, wordsOf, Faithful, Listed, LeftBy}
+use Rattle.traffic.specs.Calls.{Call, clear, update, estimate, widest, unite, write, read, feed, Source, from, raw, Calls, none, then, recordPair, traffic, after, behind, run, done, bytesOf, wordsOf, Faithful, Listed, LeftBy}
 use Rattle.traffic.specs.Canon.{Holds, memoryOf}
 use Rattle.traffic.specs.Claim.{Between, Claim}
 use Rattle.traffic.proofs.Answers.{shape-good, key-good, widest-holds, estimate-holds, estimate-between}
 use Rattle.traffic.proofs.Steps.{start-holds, update-holds, unite-holds}
+use Rattle.traffic.proofs.Records.{record-cases, outcome-status, query-only}
 use Rattle.traffic.proofs.Bytes.{memory-is, all-bytes, holds-valid}
 
 -- a clearing that is accepted leaves what a list starts from
@@ -50,6 +56,17 @@ read-kept d w memory words e =
       ]
     ]
 
+record-kept : (d w : ℕ) (memory : List ℕ) (before : ℕ) (words : List ℕ)
+    → eqb (recordAnswer (recorded d w memory before words .outcome) .status) 0 ≡ false → recorded d w memory before words .memory ≡ memory
+unfolding updated
+record-kept d w memory before words =
+    let a = updated d w memory (keyOf (payload words 0) words) (amountOf (payload words 0) words) .answer in
+    record-cases d w memory before words (λ c. eqb (recordAnswer (c .outcome) .status) 0 ≡ false → c .memory ≡ memory)
+    (λ s p f e. refl)
+    (λ due e. finish-kept _ _ _ _ (sym (outcome-status a case.Updated refl) ∙ e))
+    (λ due e. refl)
+    (λ due e. refl)
+
 kept : (d w d′ w′ : ℕ) (call : Call) (memory : List ℕ) → eqb (done d w d′ w′ call memory .answer .status) 0 ≡ false → done d w d′ w′ call memory .memory ≡ memory
 unfolding done cleared updated united
 kept d w d′ w′ clear memory e = finish-kept _ _ _ _ e
@@ -59,6 +76,7 @@ kept d w d′ w′ widest memory e = refl
 kept d w d′ w′ (unite source) memory e = finish-kept _ _ _ _ e
 kept d w d′ w′ (write words) memory e = refl
 kept d w d′ w′ (read source) memory e = read-kept d′ w′ memory (wordsOf d w source) e
+kept d w d′ w′ (feed before words) memory e = record-kept d′ w′ memory before words e
 
 -- a call that was told d and w
 told : (d w d′ w′ : ℕ) (call : Call) (memory : List ℕ) (P : List ℕ → Type 0) → d′ ≡ d → w′ ≡ w
@@ -71,6 +89,22 @@ module _ (d w : ℕ) (vd : validDepth d ≡ true) (vw : validWidth w ≡ true) w
   image-holds memory old ps holds long =
       let back = restored d w memory old (shape-good d w (length memory) vd vw (holds .long)) (all-bytes d w vw memory ps holds) (holds-valid d w memory ps holds) (long ∙ sym (holds .long)) in
       rw back holds
+
+  -- a record or the end
+  record-holds : (memory : List ℕ) (ps : List Pair) → Holds d w memory ps → (before : ℕ) (words : List ℕ)
+      → eqb (recordAnswer (recorded d w memory before words .outcome) .status) 0 ≡ true
+      → Holds d w (recorded d w memory before words .memory) (cond (isDue words 0 updateKind) (recordPair words ∷ ps) ps)
+  unfolding recordPair
+  record-holds memory ps h before words =
+      let k = keyOf (payload words 0) words in
+      let a = amountOf (payload words 0) words in
+      let m = updated d w memory k a .answer in
+      record-cases d w memory before words
+      (λ c. eqb (recordAnswer (c .outcome) .status) 0 ≡ true → Holds d w (c .memory) (cond (isDue words 0 updateKind) (recordPair words ∷ ps) ps))
+      (λ s p f e. absurd (true≢false (sym e ∙ f)))
+      (λ due e. rw due (update-holds d w vw vd memory ps h k a (eqb-true (m .status) 0 (sym (outcome-status m case.Updated refl) ∙ e))))
+      (λ due e. rw due h)
+      (λ due e. rw due h)
 
   mutual
     unfolding run done bytesOf wordsOf traffic after behind Faithful Listed LeftBy
@@ -93,6 +127,7 @@ module _ (d w : ℕ) (vd : validDepth d ≡ true) (vw : validWidth w ≡ true) w
     accepted-holds (unite source) memory ps h l e = unite-holds d w vw vd memory ps h (bytesOf d w source) (behind source) (source-holds source l) (eqb-true _ _ e)
     accepted-holds (write words) memory ps h l e = h
     accepted-holds (read source) memory ps h l e = read-holds source memory (h .long) l
+    accepted-holds (feed before words) memory ps h l e = record-holds memory ps h before words e
 
     source-holds : (source : Source) → LeftBy d w source → Holds d w (bytesOf d w source) (behind source)
     source-holds (from calls) l = holds calls l
@@ -127,11 +162,18 @@ module _ (d w : ℕ) (vd : validDepth d ≡ true) (vw : validWidth w ≡ true) w
               ∙ ap (λ (x : Answer). x .status) (estimated-bad d w m key (badKey (length key)) (call-key d w m key good) n) ∙ e))
         ]
 
+    estimates : (key : List ℕ) → estimated d w (run d w calls) key .status ≡ 0 → Between d w (traffic calls) key (estimated d w (run d w calls) key .value)
+    estimates key e = answers key (sound-key key e) .1
+
     -- Document 01's claim, of every list of calls.
     pub claim : Claim d w calls
     claim =
         record {
           accepts = λ key p q. answers key (key-good (length key) p q) .0;
-          estimates = λ key e. answers key (sound-key key e) .1;
+          estimates = estimates;
+          records = λ before words value e.
+              let q = query-only d w (run d w calls) before words value e in
+              let k = keyOf (payload words 0) words in
+              subst (λ (v : ℕ). Between d w (traffic calls) k v) (q .1) (estimates k (q .0));
           widest-level = widest-holds d w vd vw (run d w calls) (traffic calls) (holds calls f);
         }

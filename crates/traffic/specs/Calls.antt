@@ -12,6 +12,10 @@ use Rattle.meter.specs.Meter as meter
 use Rattle.image.specs.Image.{image}
 use Rattle.image.specs.Write.{written}
 use Rattle.image.specs.Read.{taken}
+use Rattle.word.specs.Word.{payload, isDue}
+use Rattle.feed.specs.Answers.{recordAnswer}
+use Rattle.feed.specs.Words.{updateKind, keyOf, amountOf}
+use Rattle.feed.specs.Record.{recorded}
 use Rattle.traffic.specs.Traffic.{Pair}
 
 mutual
@@ -25,6 +29,8 @@ mutual
     -- an image written into lent words, and an image read
     write : (words : List ℕ) → Call
     read : Source → Call
+    -- a feed's record or end, in the words lent from there on, told how many words came before
+    feed : (before : ℕ) (words : List ℕ) → Call
 
   -- Where a union's source or an image comes from: the list that left the meter, or anything at all, bytes or words.
   pub data Source : Type 0 where
@@ -37,9 +43,13 @@ mutual
     none : Calls
     then : Calls → (d w : ℕ) → Call → (ok : Bool) → Calls
 
--- The traffic (document 01: the book) sees the calls and whether each was accepted, and no memory. An accepted update adds its pair; an
--- accepted clearing empties it; an accepted union adds the traffic of the source's list; an accepted image puts that of the image's
--- list in its place. All else, refused calls too, leaves it.
+-- the pair of an update record: the words give it, and no memory
+unfoldable pub recordPair : List ℕ → Pair
+recordPair words = record { key = keyOf (payload words 0) words; amount = amountOf (payload words 0) words }
+
+-- The traffic (document 01: the book) sees the calls and whether each was accepted, and no memory. An accepted update, by call or
+-- record, adds its pair; an accepted clearing empties it; an accepted union adds the traffic of the source's list; an accepted image puts
+-- that of the image's list in its place. All else, refused calls too, leaves it.
 unfoldable mutual
   pub traffic : Calls → List Pair
   traffic none = []
@@ -53,6 +63,7 @@ unfoldable mutual
   after (unite source) pairs = behind source ++ pairs
   after (write words) pairs = pairs
   after (read source) pairs = behind source
+  after (feed before words) pairs = cond (isDue words 0 updateKind) (recordPair words ∷ pairs) pairs
 
   pub behind : Source → List Pair
   behind (from calls) = traffic calls
@@ -73,6 +84,8 @@ unfoldable mutual
   done d w d′ w′ (unite source) memory = united d′ w′ memory (bytesOf d w source)
   done d w d′ w′ (write words) memory = record { answer = written d′ w′ memory words .answer; memory = memory }
   done d w d′ w′ (read source) memory = taken d′ w′ memory (wordsOf d w source)
+  done d w d′ w′ (feed before words) memory =
+      record { answer = recordAnswer (recorded d′ w′ memory before words .outcome); memory = recorded d′ w′ memory before words .memory }
 
   -- a union's source
   pub bytesOf : ℕ → ℕ → Source → List ℕ
@@ -103,6 +116,7 @@ unfoldable mutual
   Listed d w (unite source) = LeftBy d w source
   Listed d w (write words) = Unit
   Listed d w (read source) = LeftBy d w source
+  Listed d w (feed before words) = Unit
 
   pub LeftBy : ℕ → ℕ → Source → Type 0
   LeftBy d w (from calls) = Faithful d w calls

@@ -5,6 +5,10 @@ use mathlib.Core.List.{List}
 use lib.ListN.{length}
 use Rattle.group.specs.Status.{accepted}
 use Rattle.meter.specs.Meter.{estimated, widest}
+use Rattle.word.specs.Word.{payload}
+use Rattle.feed.specs.declared.Recorded.the-variants as case
+use Rattle.feed.specs.Words.{keyOf}
+use Rattle.feed.specs.Record.{recorded}
 use Rattle.traffic.specs.Traffic.{Pair, lower, upper, level}
 use Rattle.traffic.specs.Calls.{Calls, traffic, run}
 
@@ -15,7 +19,9 @@ Between d w pairs key value = (lower pairs key ≤ value) × (value ≤ upper d 
 pub record Claim (d w : ℕ) (calls : Calls) : Type 0 where
   -- told the meter's d and w, the estimate call accepts every key
   pub accepts : (key : List ℕ) → 1 ≤ length key → length key ≤ 64 → estimated d w (run d w calls) key .status ≡ 0
-  -- each accepted estimate lies between the two figures
+  -- each accepted estimate, by call or record, lies between the two figures
   pub estimates : (key : List ℕ) → estimated d w (run d w calls) key .status ≡ 0 → Between d w (traffic calls) key (estimated d w (run d w calls) key .value)
+  pub records : (before : ℕ) (words : List ℕ) (value : ℕ) → recorded d w (run d w calls) before words .outcome ≡ case.Estimate value
+      → Between d w (traffic calls) (keyOf (payload words 0) words) value
   -- the widest level call gives number 0 and the figure L
   pub widest-level : widest d w (run d w calls) ≡ accepted (level d w (traffic calls))
