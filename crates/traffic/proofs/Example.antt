@@ -1,7 +1,6 @@
 -- The lists of the table are faithful and leave the figures that it says, by computation.
 use mathlib.Core.Path.{_≡_, refl, sym}
 use mathlib.Core.Bool.{true, false, true≢false}
-use mathlib.Core.List.{List, [], _∷_}
 use Prim.Native.Nat.{ℕ}
 use Rattle.layout.specs.Layout as layouts
 use Rattle.layout.specs.Code as codes
@@ -21,11 +20,11 @@ use Rattle.image.specs.Image as image
 use Rattle.image.specs.Write as writing
 use Rattle.image.specs.Read as reading
 use Rattle.feed.specs.Words as records
-use Rattle.feed.specs.Record as feeding
+use Rattle.feed.specs.Record as carrying
 use Rattle.traffic.specs.Traffic as totals
 use Rattle.traffic.specs.Calls as calls
-use Rattle.traffic.specs.Calls.{Call, Calls, then, Faithful, Listed, done, run}
-use Rattle.traffic.specs.Example.{other, every, cases, AllMeet}
+use Rattle.traffic.specs.Calls.{Faithful}
+use Rattle.traffic.specs.Example.{other, filling, feeding, every, cases, AllMeet}
 
 -- a call that was told the meter's depth and width, and one that was refused
 took : {A : Type 0} → A → true ≡ true → (_≡_ {A = ℕ} 1 1) × (_≡_ {A = ℕ} 32 32) × A
@@ -34,25 +33,47 @@ took l e = (refl, refl, l)
 no : {A : Type 0} → false ≡ true → A
 no e = absurd (true≢false (sym e))
 
--- The lists with many calls, one part after another.
-other-faithful : Faithful 1 32 other
-unfolding calls.recordPair calls.traffic calls.after calls.behind calls.run calls.done calls.bytesOf calls.wordsOf calls.Faithful calls.Listed calls.LeftBy totals.sumOf totals.sameKey totals.keyTotal totals.blockOf totals.blockTotal totals.anyBelow totals.overflows totals.levelUpTo totals.level totals.lower totals.landingTotal totals.upper layouts.bit layouts.ones layouts.marks layouts.layout layouts.valid layouts.widest codes.layouts codes.mergedCode codes.code codes.uncode blocks.cap blocks.shape blocks.word blocks.fill blocks.block blocks.counterAt blocks.total changes.change sums.sumTotal sums.held sums.join sums.add sums.unite hashes.fnvStep hashes.fnv hashes.slotOf groups.number groups.bytes groups.decode groups.encode groups.reading groups.read groups.settle groups.added groups.united groups.widestOf groups.changed packs.fourCode packs.packed packs.fourMerges packs.unpacked geometry.validDepth geometry.oneOfPowers geometry.validWidth geometry.stride geometry.size order.firstOf order.earlier order.earliest order.answerOf order.finish rows.mapRows rows.ofRows rows.groupAt rows.withGroup rows.ofGroups rows.leastOr rows.least rows.largest row.keySlot row.addedIn row.updateStatus row.updateRow row.readRow row.levelStatus row.levelAt row.widestStatus row.widestRow row.unitedAt row.unitedStatus row.uniteStatus row.uniteGroups row.uniteRow meter.cleared meter.badCall meter.updated meter.readStatus meter.readValue meter.estimated meter.widest meter.rowOf meter.sourceStatus meter.sourceAdded meter.united image.word words.next words.payload words.isDue words.tested words.below image.logFrom image.logWidth image.headPayload image.wordsOf image.parts image.levelAt image.isFirst image.slotWords image.slotsWords image.groupWords image.groupsWords image.layoutAt image.fourWords image.rowWords image.rowsWords image.body image.endWord image.image writing.allValid writing.validRows writing.slotSize writing.slotsSize writing.groupSize writing.writeStatus writing.finishWrite writing.written reading.checkHead reading.firstBits reading.checkParts reading.checkSlot reading.checkSlots reading.checkGroups reading.mergesAt reading.checkFour reading.checkFours reading.checkEnd reading.checked reading.valueFrom reading.readSlot reading.readSlots reading.readGroup reading.readGroups reading.afterGroups reading.afterFours reading.readFours reading.readRows reading.finishRead reading.readAfter reading.taken records.opensKey records.opened records.keyPayload records.keyWord records.checkKey records.checkAmount records.keyByte records.keyFrom records.amountOf records.updateStep records.queryStep records.bodyOf records.updateBody records.queryBody feeding.outcomeOf feeding.carriedUpdate feeding.queried feeding.carried feeding.carriedAfter feeding.recorded
-other-faithful = ((((tt, refl, took tt), refl, took tt), refl, took tt), refl, took (tt, refl, took tt))
-
-every-faithful : Faithful 1 32 every
-unfolding calls.recordPair calls.traffic calls.after calls.behind calls.run calls.done calls.bytesOf calls.wordsOf calls.Faithful calls.Listed calls.LeftBy totals.sumOf totals.sameKey totals.keyTotal totals.blockOf totals.blockTotal totals.anyBelow totals.overflows totals.levelUpTo totals.level totals.lower totals.landingTotal totals.upper layouts.bit layouts.ones layouts.marks layouts.layout layouts.valid layouts.widest codes.layouts codes.mergedCode codes.code codes.uncode blocks.cap blocks.shape blocks.word blocks.fill blocks.block blocks.counterAt blocks.total changes.change sums.sumTotal sums.held sums.join sums.add sums.unite hashes.fnvStep hashes.fnv hashes.slotOf groups.number groups.bytes groups.decode groups.encode groups.reading groups.read groups.settle groups.added groups.united groups.widestOf groups.changed packs.fourCode packs.packed packs.fourMerges packs.unpacked geometry.validDepth geometry.oneOfPowers geometry.validWidth geometry.stride geometry.size order.firstOf order.earlier order.earliest order.answerOf order.finish rows.mapRows rows.ofRows rows.groupAt rows.withGroup rows.ofGroups rows.leastOr rows.least rows.largest row.keySlot row.addedIn row.updateStatus row.updateRow row.readRow row.levelStatus row.levelAt row.widestStatus row.widestRow row.unitedAt row.unitedStatus row.uniteStatus row.uniteGroups row.uniteRow meter.cleared meter.badCall meter.updated meter.readStatus meter.readValue meter.estimated meter.widest meter.rowOf meter.sourceStatus meter.sourceAdded meter.united image.word words.next words.payload words.isDue words.tested words.below image.logFrom image.logWidth image.headPayload image.wordsOf image.parts image.levelAt image.isFirst image.slotWords image.slotsWords image.groupWords image.groupsWords image.layoutAt image.fourWords image.rowWords image.rowsWords image.body image.endWord image.image writing.allValid writing.validRows writing.slotSize writing.slotsSize writing.groupSize writing.writeStatus writing.finishWrite writing.written reading.checkHead reading.firstBits reading.checkParts reading.checkSlot reading.checkSlots reading.checkGroups reading.mergesAt reading.checkFour reading.checkFours reading.checkEnd reading.checked reading.valueFrom reading.readSlot reading.readSlots reading.readGroup reading.readGroups reading.afterGroups reading.afterFours reading.readFours reading.readRows reading.finishRead reading.readAfter reading.taken records.opensKey records.opened records.keyPayload records.keyWord records.checkKey records.checkAmount records.keyByte records.keyFrom records.amountOf records.updateStep records.queryStep records.bodyOf records.updateBody records.queryBody feeding.outcomeOf feeding.carriedUpdate feeding.queried feeding.carried feeding.carriedAfter feeding.recorded
-every-faithful =
-    ((((((((((((((((tt, refl, took tt), refl, took tt), refl, took tt), refl, took tt), refl, took other-faithful), refl, took other-faithful), refl, no),
-    refl, took tt), refl, took tt), refl, took tt), refl, no), refl, took tt), refl, took tt), refl, no), refl, no), refl, no)
-
-cases-meet : AllMeet cases
-unfolding calls.recordPair calls.traffic calls.after calls.behind calls.run calls.done calls.bytesOf calls.wordsOf calls.Faithful calls.Listed calls.LeftBy totals.sumOf totals.sameKey totals.keyTotal totals.blockOf totals.blockTotal totals.anyBelow totals.overflows totals.levelUpTo totals.level totals.lower totals.landingTotal totals.upper layouts.bit layouts.ones layouts.marks layouts.layout layouts.valid layouts.widest codes.layouts codes.mergedCode codes.code codes.uncode blocks.cap blocks.shape blocks.word blocks.fill blocks.block blocks.counterAt blocks.total changes.change sums.sumTotal sums.held sums.join sums.add sums.unite hashes.fnvStep hashes.fnv hashes.slotOf groups.number groups.bytes groups.decode groups.encode groups.reading groups.read groups.settle groups.added groups.united groups.widestOf groups.changed packs.fourCode packs.packed packs.fourMerges packs.unpacked geometry.validDepth geometry.oneOfPowers geometry.validWidth geometry.stride geometry.size order.firstOf order.earlier order.earliest order.answerOf order.finish rows.mapRows rows.ofRows rows.groupAt rows.withGroup rows.ofGroups rows.leastOr rows.least rows.largest row.keySlot row.addedIn row.updateStatus row.updateRow row.readRow row.levelStatus row.levelAt row.widestStatus row.widestRow row.unitedAt row.unitedStatus row.uniteStatus row.uniteGroups row.uniteRow meter.cleared meter.badCall meter.updated meter.readStatus meter.readValue meter.estimated meter.widest meter.rowOf meter.sourceStatus meter.sourceAdded meter.united image.word words.next words.payload words.isDue words.tested words.below image.logFrom image.logWidth image.headPayload image.wordsOf image.parts image.levelAt image.isFirst image.slotWords image.slotsWords image.groupWords image.groupsWords image.layoutAt image.fourWords image.rowWords image.rowsWords image.body image.endWord image.image writing.allValid writing.validRows writing.slotSize writing.slotsSize writing.groupSize writing.writeStatus writing.finishWrite writing.written reading.checkHead reading.firstBits reading.checkParts reading.checkSlot reading.checkSlots reading.checkGroups reading.mergesAt reading.checkFour reading.checkFours reading.checkEnd reading.checked reading.valueFrom reading.readSlot reading.readSlots reading.readGroup reading.readGroups reading.afterGroups reading.afterFours reading.readFours reading.readRows reading.finishRead reading.readAfter reading.taken records.opensKey records.opened records.keyPayload records.keyWord records.checkKey records.checkAmount records.keyByte records.keyFrom records.amountOf records.updateStep records.queryStep records.bodyOf records.updateBody records.queryBody feeding.outcomeOf feeding.carriedUpdate feeding.queried feeding.carried feeding.carriedAfter feeding.recorded
+pub cases-meet : AllMeet cases
+unfolding calls.recordPair calls.traffic calls.after calls.behind calls.run calls.done calls.bytesOf calls.wordsOf calls.Faithful
+    calls.Listed calls.LeftBy totals.sumOf totals.sameKey totals.keyTotal totals.blockOf totals.blockTotal totals.anyBelow
+    totals.overflows totals.levelUpTo totals.level totals.lower totals.landingTotal totals.upper layouts.bit layouts.ones
+    layouts.marks layouts.layout layouts.valid layouts.widest codes.layouts codes.mergedCode codes.code codes.uncode blocks.cap
+    blocks.shape blocks.word blocks.fill blocks.block blocks.counterAt blocks.total changes.change sums.sumTotal sums.held sums.join
+    sums.add sums.unite hashes.fnvStep hashes.fnv hashes.slotOf groups.number groups.bytes groups.decode groups.encode groups.reading
+    groups.read groups.settle groups.added groups.united groups.widestOf groups.changed packs.fourCode packs.packed packs.fourMerges
+    packs.unpacked geometry.validDepth geometry.oneOfPowers geometry.validWidth geometry.stride geometry.size order.firstOf
+    order.earlier order.earliest order.answerOf order.finish rows.mapRows rows.ofRows rows.groupAt rows.withGroup rows.ofGroups
+    rows.leastOr rows.least rows.largest row.keySlot row.addedIn row.updateStatus row.updateRow row.readRow row.levelStatus
+    row.levelAt row.widestStatus row.widestRow row.unitedAt row.unitedStatus row.uniteStatus row.uniteGroups row.uniteRow
+    meter.cleared meter.badCall meter.updated meter.readStatus meter.readValue meter.estimated meter.widest meter.rowOf
+    meter.sourceStatus meter.sourceAdded meter.united image.word words.next words.payload words.isDue words.tested words.below
+    image.logFrom image.logWidth image.headPayload image.wordsOf image.parts image.levelAt image.isFirst image.slotWords
+    image.slotsWords image.groupWords image.groupsWords image.layoutAt image.fourWords image.rowWords image.rowsWords image.body
+    image.endWord image.image writing.allValid writing.validRows writing.slotSize writing.slotsSize writing.groupSize
+    writing.writeStatus writing.finishWrite writing.written reading.checkHead reading.firstBits reading.checkParts reading.checkSlot
+    reading.checkSlots reading.checkGroups reading.mergesAt reading.checkFour reading.checkFours reading.checkEnd reading.checked
+    reading.valueFrom reading.readSlot reading.readSlots reading.readGroup reading.readGroups reading.afterGroups reading.afterFours
+    reading.readFours reading.readRows reading.finishRead reading.readAfter reading.taken records.opensKey records.opened
+    records.keyPayload records.keyWord records.checkKey records.checkAmount records.keyByte records.keyFrom records.amountOf
+    records.updateStep records.queryStep records.bodyOf records.updateBody records.queryBody carrying.outcomeOf carrying.carriedUpdate
+    carrying.queried carrying.carried carrying.carriedAfter carrying.recorded
 cases-meet =
-    (
+    let other-is : Faithful 1 32 other = ((((tt, refl, took tt), refl, took tt), refl, took tt), refl, took (tt, refl, took tt)) in
+    let filled : Faithful 1 32 filling = ((((tt, refl, took tt), refl, took tt), refl, took tt), refl, took tt) in
+    let fed : Faithful 1 32 feeding = ((((((filled, refl, took other-is), refl, took other-is), refl, no), refl, took tt), refl, took tt), refl, took tt) in
+    let every-is : Faithful 1 32 every = ((((((fed, refl, no), refl, took tt), refl, took tt), refl, no), refl, no), refl, no) in (
       (tt, refl, refl, refl, refl),
-      ((((((tt, refl, took tt), refl, took tt), refl, took tt)), refl, refl, refl, refl),
-      ((((tt, refl, took tt), refl, took tt), refl, refl, refl, refl),
-      ((((((tt, refl, took tt), refl, took tt), refl, took tt), refl, took tt), refl, refl, refl, refl),
-      (((((tt, refl, took tt), refl, took tt), refl, took tt), refl, refl, refl, refl),
-      ((every-faithful, refl, refl, refl, refl), tt)))))
+      (
+        (((((tt, refl, took tt), refl, took tt), refl, took tt)), refl, refl, refl, refl),
+        (
+          (((tt, refl, took tt), refl, took tt), refl, refl, refl, refl),
+          (
+            (((((tt, refl, took tt), refl, took tt), refl, took tt), refl, took tt), refl, refl, refl, refl),
+            (
+              ((((tt, refl, took tt), refl, took tt), refl, took tt), refl, refl, refl, refl),
+              ((every-is, refl, refl, refl, refl), tt),
+            ),
+          ),
+        ),
+      ),
     )

@@ -1,3 +1,4 @@
+pub mod Example
 pub mod Canon
 pub mod Totals
 pub mod Gather
@@ -6,4 +7,3 @@ pub mod Steps
 pub mod Bytes
 pub mod Records
 pub mod Theorem
-pub mod Example

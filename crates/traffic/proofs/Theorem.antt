@@ -9,6 +9,7 @@ use borrow.Author.Tests.{eqb-true, eqb-false}
 use lib.Dec.{eqb}
 use lib.ListN.{length, replicate}
 use Rattle.group.specs.declared.Answer.{Answer}
+use Rattle.group.specs.Status.{accepted}
 use Rattle.row.specs.Geometry.{validDepth, validWidth, size}
 use Rattle.row.specs.Order.{badShape, badKey, answerOf, Done, finish}
 use Rattle.meter.specs.Meter.{badCall, cleared, updated, estimated, united}
@@ -146,7 +147,7 @@ module _ (d w : ℕ) (vd : validDepth d ≡ true) (vw : validWidth w ≡ true) w
 
   module _ (calls : Calls) (f : Faithful d w calls) where
     answers : (key : List ℕ) → badKey (length key) ≡ 0
-        → (estimated d w (run d w calls) key .status ≡ 0) × Between d w (traffic calls) key (estimated d w (run d w calls) key .value)
+        → (estimated d w (run d w calls) key ≡ accepted (estimated d w (run d w calls) key .value)) × Between d w (traffic calls) key (estimated d w (run d w calls) key .value)
     answers key k =
         rw (estimate-holds d w vd vw (run d w calls) (traffic calls) (holds calls f) key k)
         (refl, estimate-between d w vd vw (run d w calls) (traffic calls) (holds calls f) key)

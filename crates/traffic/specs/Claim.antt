@@ -18,7 +18,7 @@ Between d w pairs key value = (lower pairs key ≤ value) × (value ≤ upper d 
 
 pub record Claim (d w : ℕ) (calls : Calls) : Type 0 where
   -- told the meter's d and w, the estimate call accepts every key
-  pub accepts : (key : List ℕ) → 1 ≤ length key → length key ≤ 64 → estimated d w (run d w calls) key .status ≡ 0
+  pub accepts : (key : List ℕ) → 1 ≤ length key → length key ≤ 64 → estimated d w (run d w calls) key ≡ accepted (estimated d w (run d w calls) key .value)
   -- each accepted estimate, by call or record, lies between the two figures
   pub estimates : (key : List ℕ) → estimated d w (run d w calls) key .status ≡ 0 → Between d w (traffic calls) key (estimated d w (run d w calls) key .value)
   pub records : (before : ℕ) (words : List ℕ) (value : ℕ) → recorded d w (run d w calls) before words .outcome ≡ case.Estimate value

@@ -10,7 +10,7 @@ use Rattle.meter.specs.Meter.{estimated}
 use Rattle.traffic.specs.Traffic.{level, lower, upper}
 use Rattle.traffic.specs.Calls.{Call, Calls, none, then, clear, update, estimate, widest, unite, write, read, feed, from, raw, traffic, run, Faithful}
 
--- Keys of one byte that land at slots 0, 8, 10 and 11.
+-- Keys of one byte that land at slots 0, 8, 10, 11 and 12.
 abbrev pub at-0 : List ℕ
 at-0 = 10 ∷ []
 
@@ -22,6 +22,9 @@ at-10 = 65 ∷ []
 
 abbrev pub at-11 : List ℕ
 at-11 = 114 ∷ []
+
+abbrev pub at-12 : List ℕ
+at-12 = 106 ∷ []
 
 -- a call that was accepted, and one that was refused, told the meter's 1 and 32
 abbrev pub ok : Calls → Call → Calls
@@ -45,15 +48,17 @@ abbrev pub other : Calls
 other =
     ok (ok (ok (ok none (feed 1 updateWords)) (feed 5 queryWords)) (feed 7 endWords)) (unite (from (ok none (update at-8 70000))))
 
--- Every kind of call, accepted and refused. A record whose words are missing, a call told another depth and width, a union with too few
--- bytes, an image with no words and one written into too few are refused.
+-- Every kind of call, accepted and refused. Refused are a record whose words are missing, a call told another depth and width, an image
+-- written into too few words, a union with too few bytes and an image of no words.
+abbrev pub filling : Calls
+filling = ok (ok (ok (ok none (update at-0 9)) clear) (update at-11 7)) (estimate at-11)
+
+abbrev pub feeding : Calls
+feeding = ok (ok (ok (refused (ok (ok filling (unite (from other))) (read (from other))) (feed 0 [])) (feed 1 updateWords)) (feed 5 queryWords)) (feed 7 endWords)
+
 abbrev pub every : Calls
 every =
-    let filled = ok (ok (ok (ok none (update at-0 9)) clear) (update at-11 7)) (estimate at-11) in
-    let read-back = ok (ok filled (unite (from other))) (read (from other)) in
-    let fed = ok (ok (ok (refused read-back (feed 0 [])) (feed 1 updateWords)) (feed 5 queryWords)) (feed 7 endWords) in
-    let told-else = then fed 2 64 (update at-8 1) false in
-    refused (refused (refused (ok (ok told-else widest) (write (replicate 40 0))) (write [])) (unite (raw []))) (read (raw []))
+    refused (refused (refused (ok (ok (then feeding 2 64 (update at-8 1) false) widest) (write (replicate 40 0))) (write [])) (unite (raw []))) (read (raw []))
 
 -- the figures of a key after a list
 pub record Case : Type 0 where
@@ -91,7 +96,7 @@ cases =
       high = 316;
     }
     ∷ record {
-      calls = ok (ok (ok none (update at-10 4294967295)) (update at-8 9)) (update at-10 1);
+      calls = ok (ok (ok none (update at-10 4294967295)) (update at-12 9)) (update at-10 1);
       key = at-10;
       widest-level = 3;
       low = 4294967296;
