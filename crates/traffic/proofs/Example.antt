@@ -24,7 +24,7 @@ use Rattle.feed.specs.Record as carrying
 use Rattle.traffic.specs.Traffic as totals
 use Rattle.traffic.specs.Calls as calls
 use Rattle.traffic.specs.Calls.{Faithful}
-use Rattle.traffic.specs.Example.{other, filling, feeding, every, cases, AllMeet}
+use Rattle.traffic.specs.Example.{other, mixed, fed, every, cases, AllMeet}
 
 -- a call that was told the meter's depth and width, and one that was refused
 took : {A : Type 0} → A → true ≡ true → (_≡_ {A = ℕ} 1 1) × (_≡_ {A = ℕ} 32 32) × A
@@ -59,9 +59,10 @@ unfolding calls.recordPair calls.traffic calls.after calls.behind calls.run call
     carrying.queried carrying.carried carrying.carriedAfter carrying.recorded
 cases-meet =
     let other-is : Faithful 1 32 other = ((((tt, refl, took tt), refl, took tt), refl, took tt), refl, took (tt, refl, took tt)) in
-    let filled : Faithful 1 32 filling = ((((tt, refl, took tt), refl, took tt), refl, took tt), refl, took tt) in
-    let fed : Faithful 1 32 feeding = ((((((filled, refl, took other-is), refl, took other-is), refl, no), refl, took tt), refl, took tt), refl, took tt) in
-    let every-is : Faithful 1 32 every = ((((((fed, refl, no), refl, took tt), refl, took tt), refl, no), refl, no), refl, no) in (
+    let mixed-is : Faithful 1 32 mixed
+    = ((((((tt, refl, took tt), refl, took tt), refl, took tt), refl, took tt), refl, took other-is), refl, took other-is) in
+    let fed-is : Faithful 1 32 fed = ((((mixed-is, refl, no), refl, took tt), refl, took tt), refl, took tt) in
+    let every-is : Faithful 1 32 every = ((((((fed-is, refl, no), refl, took tt), refl, took tt), refl, no), refl, no), refl, no) in (
       (tt, refl, refl, refl, refl),
       (
         (((((tt, refl, took tt), refl, took tt), refl, took tt)), refl, refl, refl, refl),

@@ -26,12 +26,14 @@ at-11 = 114 ∷ []
 abbrev pub at-12 : List ℕ
 at-12 = 106 ∷ []
 
--- a call that was accepted, and one that was refused, told the meter's 1 and 32
-abbrev pub ok : Calls → Call → Calls
-ok calls call = then calls 1 32 call true
+infixl 20 _▸_
+infixl 20 _▹_
+-- then a call that was accepted, and one that was refused, told the meter's 1 and 32
+abbrev pub _▸_ : Calls → Call → Calls
+calls ▸ call = then calls 1 32 call true
 
-abbrev pub refused : Calls → Call → Calls
-refused calls call = then calls 1 32 call false
+abbrev pub _▹_ : Calls → Call → Calls
+calls ▹ call = then calls 1 32 call false
 
 -- the feed of document 01's program: an update of the key at slot 10 by 300, a query of it and the end
 abbrev pub updateWords : List ℕ
@@ -43,22 +45,20 @@ queryWords = 0x60000001 ∷ 0x70410000 ∷ []
 abbrev pub endWords : List ℕ
 endWords = 0x40000007 ∷ []
 
--- another meter, which fed document 01's feed and then took a union with a third
+-- another meter: document 01's feed, then a union with a third
 abbrev pub other : Calls
-other =
-    ok (ok (ok (ok none (feed 1 updateWords)) (feed 5 queryWords)) (feed 7 endWords)) (unite (from (ok none (update at-8 70000))))
+other = none ▸ feed 1 updateWords ▸ feed 5 queryWords ▸ feed 7 endWords ▸ unite (from (none ▸ update at-8 70000))
 
 -- Every kind of call, accepted and refused. Refused are a record whose words are missing, a call told another depth and width, an image
 -- written into too few words, a union with too few bytes and an image of no words.
-abbrev pub filling : Calls
-filling = ok (ok (ok (ok none (update at-0 9)) clear) (update at-11 7)) (estimate at-11)
+abbrev pub mixed : Calls
+mixed = none ▸ update at-0 9 ▸ clear ▸ update at-11 7 ▸ estimate at-11 ▸ unite (from other) ▸ read (from other)
 
-abbrev pub feeding : Calls
-feeding = ok (ok (ok (refused (ok (ok filling (unite (from other))) (read (from other))) (feed 0 [])) (feed 1 updateWords)) (feed 5 queryWords)) (feed 7 endWords)
+abbrev pub fed : Calls
+fed = mixed ▹ feed 0 [] ▸ feed 1 updateWords ▸ feed 5 queryWords ▸ feed 7 endWords
 
 abbrev pub every : Calls
-every =
-    refused (refused (refused (ok (ok (then feeding 2 64 (update at-8 1) false) widest) (write (replicate 40 0))) (write [])) (unite (raw []))) (read (raw []))
+every = then fed 2 64 (update at-8 1) false ▸ widest ▸ write (replicate 40 0) ▹ write [] ▹ unite (raw []) ▹ read (raw [])
 
 -- the figures of a key after a list
 pub record Case : Type 0 where
@@ -85,10 +85,10 @@ AllMeet (c ∷ cs) = Meets c × AllMeet cs
 abbrev pub cases : List Case
 cases =
     record { calls = none; key = at-10; widest-level = 0; low = 0; value = 0; high = 0 }
-    ∷ record { calls = ok (ok (ok none (update at-8 300)) (update at-10 5)) (update at-11 7); key = at-10; widest-level = 1; low = 5; value = 5; high = 12 }
-    ∷ record { calls = ok (ok none (update at-10 300)) (update at-11 7); key = at-10; widest-level = 1; low = 300; value = 307; high = 307 }
+    ∷ record { calls = none ▸ update at-8 300 ▸ update at-10 5 ▸ update at-11 7; key = at-10; widest-level = 1; low = 5; value = 5; high = 12 }
+    ∷ record { calls = none ▸ update at-10 300 ▸ update at-11 7; key = at-10; widest-level = 1; low = 300; value = 307; high = 307 }
     ∷ record {
-      calls = ok (ok (ok (ok none (update at-10 300)) (update at-11 7)) (update at-8 9)) (update at-0 70000);
+      calls = none ▸ update at-10 300 ▸ update at-11 7 ▸ update at-8 9 ▸ update at-0 70000;
       key = at-10;
       widest-level = 2;
       low = 300;
@@ -96,7 +96,7 @@ cases =
       high = 316;
     }
     ∷ record {
-      calls = ok (ok (ok none (update at-10 4294967295)) (update at-12 9)) (update at-10 1);
+      calls = none ▸ update at-10 4294967295 ▸ update at-12 9 ▸ update at-10 1;
       key = at-10;
       widest-level = 3;
       low = 4294967296;
