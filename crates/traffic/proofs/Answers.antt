@@ -1,17 +1,16 @@
 -- What a memory that holds a traffic answers: the estimate of every key, between the two figures, and the widest level.
 use mathlib.Core.Path.{_≡_, refl, sym, ap, _∙_}
-use mathlib.Core.Bool.{Bool, true, false, cond}
-use mathlib.Core.List.{List, [], _∷_}
-use Prim.Native.Nat.{ℕ, zero, suc, _+_, _-_, _*_, _/_, _%_, _^_, _≤_, _<_}
+use mathlib.Core.Bool.{true}
+use mathlib.Core.List.{List}
+use Prim.Native.Nat.{ℕ, zero, suc, _*_, _/_, _%_, _^_, _≤_, _<_}
 use native.Mathlib.Nat.{le-antisymm, le-div-iff-mul-le}
 use native.Mathlib.Omega.{arith}
 use borrow.Author.Tests.{eq-eqb, le-leb}
 use lib.ListN.{length}
 use lib.Pow.{pow-pos, shl-shr}
-use Rattle.layout.specs.Layout.{valid, layout, marks}
 use Rattle.layout.specs.Layout as layouts
 use Rattle.layout.proofs.Laws.{layout-marks, widest-le}
-use Rattle.block.specs.Block.{Block, cap, shape, counterAt}
+use Rattle.block.specs.Block.{Block, shape, counterAt}
 use Rattle.group.specs.declared.Answer.{Answer}
 use Rattle.group.specs.declared.Reading.{Reading}
 use Rattle.group.specs.Status.{accepted}
@@ -23,14 +22,14 @@ use Rattle.row.specs.Order.{firstOf, earliest, badShape, badKey, answerOf}
 use Rattle.row.specs.Rows.{ofRows, ofGroups, least, largest, groupAt}
 use Rattle.row.specs.Row.{keySlot, readRow, levelStatus, levelAt, widestStatus, widestRow}
 use Rattle.row.proofs.Widths.{depth-in, slot-in, group-in}
-use Rattle.meter.specs.Meter.{rowOf, badCall, readStatus, readValue, estimated, rowStatus, rowLevel, widest}
+use Rattle.meter.specs.Meter.{rowOf, readStatus, readValue, estimated, rowStatus, rowLevel, widest}
 use Rattle.meter.proofs.Calls.{call-key, estimated-good, widest-good}
 use Rattle.meter.proofs.Memory.{key-in}
 use Rattle.traffic.specs.Traffic.{Pair, blockOf, blockTotal, levelUpTo, level, lower, landingTotal, upper}
 use Rattle.traffic.specs.Canon.{canon, Holds}
 use Rattle.traffic.specs.Claim.{Between}
 use Rattle.traffic.proofs.Canon.{canon-fits, counter-is, widest-cause, wider, level-le}
-use Rattle.traffic.proofs.Totals.{key-le, wider-le, Overflow, overflow-some, some-overflow, level-least, level-cause}
+use Rattle.traffic.proofs.Totals.{key-le, wider-le, overflow-some, some-overflow, level-least, level-cause}
 use Rattle.traffic.proofs.Gather.{rows-are, none-earliest, largest-le, le-largest, le-least, least-le}
 
 pub shape-good : (d w n : ℕ) → validDepth d ≡ true → validWidth w ≡ true → n ≡ size d w → badShape d w n ≡ 0

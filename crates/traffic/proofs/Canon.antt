@@ -1,5 +1,5 @@
 -- Laws of the block that totals leave, for any level: what adding and uniting do to it, and what its counters are.
-use mathlib.Core.Path.{_≡_, refl, sym, ap, ap₂, _∙_}
+use mathlib.Core.Path.{_≡_, refl, sym, ap, _∙_}
 use mathlib.Core.Bool.{Bool, true, false, cond, _&&_}
 use Prim.Native.Nat.{ℕ, zero, suc, _+_, _-_, _*_, _/_, _%_, _^_, _≤_, _<_, max}
 use mathlib.Core.Logic.{_⊎_, inl, inr, ⊎-elim}
@@ -7,9 +7,9 @@ use native.Mathlib.Nat.{add-comm, mod-lt}
 use native.Mathlib.Numerals.{add-one}
 use native.Mathlib.Decide.{decLt, ℕ-discrete}
 use native.Mathlib.Omega.{arith}
-use borrow.Author.Tests.{lt-ltb, le-ltb, ltb-true, ltb-false, eq-eqb, ne-eqb}
+use borrow.Author.Tests.{lt-ltb, le-ltb, ltb-true, eq-eqb, ne-eqb}
 use lib.Dec.{ltb, eqb}
-use lib.Pow.{pow-pos, pow-mono, mod-pow-add, shr-shr}
+use lib.Pow.{pow-pos, mod-pow-add, shr-shr}
 use Rattle.layout.specs.Layout.{widest}
 use Rattle.block.specs.Block.{Block, counter, split, cap, Fits, shape, counterAt, total}
 use Rattle.block.specs.Sum.{Sum, fits, over, sumTotal, held, join, add, unite}

@@ -1,28 +1,25 @@
 -- An accepted clearing, update or union leaves a memory that holds the new traffic.
-use mathlib.Core.Path.{_≡_, refl, sym, ap, ap₂, subst, _∙_}
-use mathlib.Core.Bool.{Bool, true, false, cond}
+use mathlib.Core.Path.{_≡_, refl, sym, ap, _∙_}
+use mathlib.Core.Bool.{true}
 use mathlib.Core.List.{List, [], _∷_, _++_}
-use Prim.Native.Nat.{ℕ, zero, suc, _+_, _-_, _*_, _/_, _%_, _^_, _≤_, _<_}
+use Prim.Native.Nat.{ℕ, zero, suc, _+_, _-_, _*_, _/_, _≤_, _<_}
 use native.Mathlib.Nat.{zero-sub, sub-zero, suc-sub-suc}
 use native.Mathlib.Decide.{ℕ-discrete}
 use native.Mathlib.Omega.{arith}
-use lib.ListN.{length, getD, take, drop, replicate, length-replicate, getD-replicate}
-use lib.Seq.{getD-take, getD-drop}
+use lib.ListN.{length, take, drop, replicate, length-replicate, getD-replicate}
 use Rattle.layout.specs.Layout.{marks, ones}
-use Rattle.block.specs.Block.{Block, cap, shape, word}
+use Rattle.block.specs.Block.{cap, shape, word}
 use Rattle.group.specs.declared.Group.{Group}
-use Rattle.group.specs.declared.Outcome.{Outcome}
 use Rattle.group.specs.Hash.{basis}
 use Rattle.group.specs.Group.{bytes, encode, settle, added}
 use Rattle.group.specs.Group as group
 use Rattle.group.proofs.Laws.{decode-encode, encode-valid}
 use Rattle.row.specs.Geometry.{validDepth, validWidth, stride, size, RowsIn}
-use Rattle.row.specs.Order.{badShape}
 use Rattle.row.specs.Rows.{groupAt}
 use Rattle.row.specs.Row.{keySlot, addedIn, unitedAt}
-use Rattle.row.proofs.Widths.{depth-in, stride-is, group-in}
+use Rattle.row.proofs.Widths.{depth-in, group-in}
 use Rattle.row.proofs.Lists.{row-in}
-use Rattle.meter.specs.Meter.{rowOf, cleared, updated, united}
+use Rattle.meter.specs.Meter.{rowOf, updated, united}
 use Rattle.meter.proofs.Memory.{Updated, update-accepted, update-group, update-other, United, unite-accepted, unite-group, rows-long}
 use Rattle.traffic.specs.Traffic.{Pair, sumOf, blockTotal}
 use Rattle.traffic.specs.Canon.{small, canon, Holds}

@@ -1,10 +1,9 @@
 -- The claim, proved of every faithful list of calls: after it the memory holds the list's traffic, and so answers as document 01 says.
 use mathlib.Core.Path.{_≡_, refl, sym, ap, subst, _∙_}
-use mathlib.Core.Bool.{Bool, true, false, cond, true≢false}
-use mathlib.Core.List.{List, [], _∷_, _++_}
-use Prim.Native.Nat.{ℕ, zero, suc, _+_, _≤_, _<_}
+use mathlib.Core.Bool.{true, false, cond, true≢false}
+use mathlib.Core.List.{List, _∷_}
+use Prim.Native.Nat.{ℕ, zero, suc}
 use native.Mathlib.Decide.{ℕ-discrete}
-use native.Mathlib.Omega.{arith}
 use borrow.Author.Tests.{eqb-true, eqb-false}
 use lib.Dec.{eqb}
 use lib.ListN.{length, replicate}
@@ -12,7 +11,7 @@ use Rattle.group.specs.declared.Answer.{Answer}
 use Rattle.group.specs.Status.{accepted}
 use Rattle.row.specs.Geometry.{validDepth, validWidth, size}
 use Rattle.row.specs.Order.{badShape, badKey, answerOf, Done, finish}
-use Rattle.meter.specs.Meter.{badCall, cleared, updated, estimated, united}
+use Rattle.meter.specs.Meter.{cleared, updated, estimated, united}
 use Rattle.meter.proofs.Calls.{cleared-good, call-key, estimated-bad}
 use Rattle.image.specs.Image.{image}
 use Rattle.image.specs.Read.{checked, taken}
