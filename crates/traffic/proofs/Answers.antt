@@ -32,12 +32,12 @@ use Rattle.traffic.proofs.Canon.{canon-fits, counter-is, widest-cause, 
 use Rattle.traffic.proofs.Totals.{key-le, wider-le, overflow-some, some-overflow, level-least, level-cause}
 use Rattle.traffic.proofs.Gather.{rows-are, none-earliest, largest-le, le-largest, le-least, least-le}
 
-pub shape-good : (d w n : ℕ) → validDepth d ≡ true → validWidth w ≡ true → n ≡ size d w → badShape d w n ≡ 0
+pub good-shape : (d w n : ℕ) → validDepth d ≡ true → validWidth w ≡ true → n ≡ size d w → badShape d w n ≡ 0
 unfolding firstOf
-shape-good d w n vd vw e = rw (vd, vw, eq-eqb n (size d w) e)
+good-shape d w n vd vw e = rw (vd, vw, eq-eqb n (size d w) e)
 
-pub key-good : (n : ℕ) → 1 ≤ n → n ≤ 64 → badKey n ≡ 0
-key-good n p q = rw (le-leb 1 n p, le-leb n 64 q)
+pub good-key : (n : ℕ) → 1 ≤ n → n ≤ 64 → badKey n ≡ 0
+good-key n p q = rw (le-leb 1 n p, le-leb n 64 q)
 
 module _ (d w : ℕ) (vd : validDepth d ≡ true) (vw : validWidth w ≡ true) (memory : List ℕ) (ps : List Pair) (holds : Holds d w memory ps) where
   block-at : ℕ → ℕ → Block 3
@@ -103,7 +103,7 @@ module _ (d w : ℕ) (vd : validDepth d ≡ true) (vw : validWidth w ≡ true) (
   level-none r p = none-earliest (levelStatus w (rowOf w memory r)) (w / 8) 0 (λ g h q. ap (λ (x : Answer). x .status) (level-is r g p (omega arith)))
 
   shape-is : badShape d w (length memory) ≡ 0
-  shape-is = shape-good d w (length memory) vd vw (holds .long)
+  shape-is = good-shape d w (length memory) vd vw (holds .long)
 
   pub widest-holds : widest d w memory ≡ accepted (level d w ps)
   unfolding answerOf
@@ -148,9 +148,6 @@ module _ (d w : ℕ) (vd : validDepth d ≡ true) (vw : validWidth w ≡ true) (
       value-high =
           let b = block-at r (slot / 8) in
           rw value-is (wider-le w r ps slot (counterAt b (slot % 8) .level) (level d w ps) (omega (arith, level-le b (slot % 8), group-le r (slot / 8) p group)))
-
-    value : ℕ
-    value = least (ofRows (readValue w key) (stride w) d 0 memory)
 
     pub estimate-holds : badKey (length key) ≡ 0 → estimated d w memory key ≡ accepted (least (ofRows (readValue w key) (stride w) d 0 memory))
     unfolding answerOf

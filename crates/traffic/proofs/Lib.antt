@@ -6,4 +6,5 @@ pub mod Answers
 pub mod Steps
 pub mod Bytes
 pub mod Records
+pub mod Refused
 pub mod Theorem

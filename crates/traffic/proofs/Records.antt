@@ -24,6 +24,7 @@ module _ (d w : ℕ) (memory : List ℕ) (before : ℕ) (words : List ℕ) where
   abbrev amount : ℕ
   amount = amountOf (payload words 0) words
 
+  -- to prove a thing of what the call does, prove it of a rejection, an update, a query and the end
   module _ (P : Carried → Type 0)
       (rejects : (s p : ℕ) → eqb s 0 ≡ false → P (record { outcome = case.Rejected s p; memory = memory }))
       (updates : isDue words 0 updateKind ≡ true → P (record { outcome = outcomeOf (updated d w memory key amount .answer) case.Updated; memory = updated d w memory key amount .memory }))

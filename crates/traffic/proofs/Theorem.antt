@@ -2,20 +2,19 @@
 use mathlib.Core.Path.{_≡_, refl, sym, ap, subst, _∙_}
 use mathlib.Core.Bool.{true, false, cond, true≢false}
 use mathlib.Core.List.{List, _∷_}
-use Prim.Native.Nat.{ℕ, zero, suc}
+use Prim.Native.Nat.{ℕ}
 use native.Mathlib.Decide.{ℕ-discrete}
-use borrow.Author.Tests.{eqb-true, eqb-false}
+use borrow.Author.Tests.{eqb-true}
 use lib.Dec.{eqb}
 use lib.ListN.{length, replicate}
 use Rattle.group.specs.declared.Answer.{Answer}
 use Rattle.group.specs.Status.{accepted}
 use Rattle.row.specs.Geometry.{validDepth, validWidth, size}
-use Rattle.row.specs.Order.{badShape, badKey, answerOf, Done, finish}
-use Rattle.meter.specs.Meter.{cleared, updated, estimated, united}
+use Rattle.row.specs.Order.{badKey}
+use Rattle.meter.specs.Meter.{cleared, updated, estimated}
 use Rattle.meter.proofs.Calls.{cleared-good, call-key, estimated-bad}
 use Rattle.image.specs.Image.{image}
-use Rattle.image.specs.Read.{checked, taken}
-use Rattle.image.proofs.Calls.{read-call, read-faulty, read-done}
+use Rattle.image.specs.Read.{taken}
 use Rattle.image.proofs.Theorems.{restored}
 use Rattle.word.specs.Word.{payload, isDue}
 use Rattle.feed.specs.declared.Recorded.the-variants as case
@@ -25,58 +24,17 @@ use Rattle.feed.specs.Record.{recorded}
 use Rattle.traffic.specs.Traffic.{Pair}
 use Rattle.traffic.specs.Calls.{Call, clear, update, estimate, widest, unite, write, read, feed, Source, from, raw, Calls, none, then, recordPair, traffic, after, behind, run, done, bytesOf, wordsOf, Faithful, Listed, LeftBy}
 use Rattle.traffic.specs.Canon.{Holds, memoryOf}
-use Rattle.traffic.specs.Claim.{Between, Claim}
-use Rattle.traffic.proofs.Answers.{shape-good, key-good, widest-holds, estimate-holds, estimate-between}
+use Rattle.traffic.specs.Claim.{Between, Claim, Demand3}
+use Rattle.traffic.proofs.Answers.{good-shape, good-key, widest-holds, estimate-holds, estimate-between}
 use Rattle.traffic.proofs.Steps.{start-holds, update-holds, unite-holds}
 use Rattle.traffic.proofs.Records.{record-cases, outcome-status, query-only}
+use Rattle.traffic.proofs.Refused.{status-is, kept}
 use Rattle.traffic.proofs.Bytes.{memory-is, all-bytes, holds-valid}
 
 -- a clearing that is accepted leaves what a list starts from
 pub cleared-is : (d w : ℕ) (memory : List ℕ) → validDepth d ≡ true → validWidth w ≡ true → length memory ≡ size d w → cleared d w memory .memory ≡ replicate (size d w) 0
 cleared-is d w memory vd vw e =
-    sym (cleared-good d w memory (shape-good d w (length memory) vd vw e) .1) ∙ ap (λ (n : ℕ). replicate n 0) e
-
--- a refused call leaves the memory
-status-is : (s v : ℕ) → answerOf s v .status ≡ s
-unfolding answerOf
-status-is zero v = refl
-status-is (suc s) v = refl
-
-finish-kept : (s v : ℕ) (new memory : List ℕ) → eqb (finish s v new memory .answer .status) 0 ≡ false → finish s v new memory .memory ≡ memory
-unfolding finish
-finish-kept s v new memory e = rw (rw (status-is s v) at e)
-
-read-kept : (d w : ℕ) (memory words : List ℕ) → eqb (taken d w memory words .answer .status) 0 ≡ false → taken d w memory words .memory ≡ memory
-read-kept d w memory words e =
-    elim (ℕ-discrete (badShape d w (length memory)) 0) [
-      | no n ↦ ap (λ (x : Done). x .memory) (read-call d w memory words (badShape d w (length memory)) refl n)
-      | yes z ↦ elim (ℕ-discrete (checked d w words .status) 0) [
-        | no n ↦ ap (λ (x : Done). x .memory) (read-faulty d w memory words 0 (sym z) refl (checked d w words) refl n)
-        | yes y ↦ absurd (eqb-false (taken d w memory words .answer .status) 0 e (ap (λ (x : Done). x .answer .status) (read-done d w memory words 0 (sym z) refl (checked d w words) refl y)))
-      ]
-    ]
-
-record-kept : (d w : ℕ) (memory : List ℕ) (before : ℕ) (words : List ℕ)
-    → eqb (recordAnswer (recorded d w memory before words .outcome) .status) 0 ≡ false → recorded d w memory before words .memory ≡ memory
-unfolding updated
-record-kept d w memory before words =
-    let a = updated d w memory (keyOf (payload words 0) words) (amountOf (payload words 0) words) .answer in
-    record-cases d w memory before words (λ c. eqb (recordAnswer (c .outcome) .status) 0 ≡ false → c .memory ≡ memory)
-    (λ s p f e. refl)
-    (λ due e. finish-kept _ _ _ _ (sym (outcome-status a case.Updated refl) ∙ e))
-    (λ due e. refl)
-    (λ due e. refl)
-
-kept : (d w d′ w′ : ℕ) (call : Call) (memory : List ℕ) → eqb (done d w d′ w′ call memory .answer .status) 0 ≡ false → done d w d′ w′ call memory .memory ≡ memory
-unfolding done cleared updated united
-kept d w d′ w′ clear memory e = finish-kept _ _ _ _ e
-kept d w d′ w′ (update key amount) memory e = finish-kept _ _ _ _ e
-kept d w d′ w′ (estimate key) memory e = refl
-kept d w d′ w′ widest memory e = refl
-kept d w d′ w′ (unite source) memory e = finish-kept _ _ _ _ e
-kept d w d′ w′ (write words) memory e = refl
-kept d w d′ w′ (read source) memory e = read-kept d′ w′ memory (wordsOf d w source) e
-kept d w d′ w′ (feed before words) memory e = record-kept d′ w′ memory before words e
+    sym (cleared-good d w memory (good-shape d w (length memory) vd vw e) .1) ∙ ap (λ (n : ℕ). replicate n 0) e
 
 -- a call that was told d and w
 told : (d w d′ w′ : ℕ) (call : Call) (memory : List ℕ) (P : List ℕ → Type 0) → d′ ≡ d → w′ ≡ w
@@ -87,7 +45,7 @@ told d w d′ w′ call memory P p q f = rw (p, q) f
 module _ (d w : ℕ) (vd : validDepth d ≡ true) (vw : validWidth w ≡ true) where
   image-holds : (memory old : List ℕ) (ps : List Pair) → Holds d w memory ps → length old ≡ size d w → Holds d w (taken d w old (image d w memory) .memory) ps
   image-holds memory old ps holds long =
-      let back = restored d w memory old (shape-good d w (length memory) vd vw (holds .long)) (all-bytes d w vw memory ps holds) (holds-valid d w memory ps holds) (long ∙ sym (holds .long)) in
+      let back = restored d w memory old (good-shape d w (length memory) vd vw (holds .long)) (all-bytes d w vw memory ps holds) (holds-valid d w memory ps holds) (long ∙ sym (holds .long)) in
       rw back holds
 
   -- a record or the end
@@ -155,7 +113,7 @@ module _ (d w : ℕ) (vd : validDepth d ≡ true) (vw : validWidth w ≡ true) w
     sound-key : (key : List ℕ) → estimated d w (run d w calls) key .status ≡ 0 → badKey (length key) ≡ 0
     sound-key key e =
         let m = run d w calls in
-        let good = shape-good d w (length m) vd vw (holds calls f .long) in
+        let good = good-shape d w (length m) vd vw (holds calls f .long) in
         elim (ℕ-discrete (badKey (length key)) 0) [
           | yes z ↦ z
           | no n ↦ absurd (n (sym (status-is (badKey (length key)) 0)
@@ -165,11 +123,10 @@ module _ (d w : ℕ) (vd : validDepth d ≡ true) (vw : validWidth w ≡ true) w
     estimates : (key : List ℕ) → estimated d w (run d w calls) key .status ≡ 0 → Between d w (traffic calls) key (estimated d w (run d w calls) key .value)
     estimates key e = answers key (sound-key key e) .1
 
-    -- Document 01's claim, of every list of calls.
-    pub claim : Claim d w calls
+    claim : Claim d w calls
     claim =
         record {
-          accepts = λ key p q. answers key (key-good (length key) p q) .0;
+          accepts = λ key p q. answers key (good-key (length key) p q) .0;
           estimates = estimates;
           records = λ before words value e.
               let q = query-only d w (run d w calls) before words value e in
@@ -177,3 +134,7 @@ module _ (d w : ℕ) (vd : validDepth d ≡ true) (vw : validWidth w ≡ true) w
               subst (λ (v : ℕ). Between d w (traffic calls) k v) (q .1) (estimates k (q .0));
           widest-level = widest-holds d w vd vw (run d w calls) (traffic calls) (holds calls f);
         }
+
+-- Document 01's claim, of every list of calls.
+pub demand-3 : Demand3
+demand-3 = claim

@@ -81,10 +81,6 @@ module _ (w r : ℕ) where
   unfolding blockTotal
   totals-append ps qs n i = sum-append (λ key. eqb (blockOf w r n key) i) ps qs
 
-  pub totals-none : (n i : ℕ) → blockTotal w r [] n i ≡ 0
-  unfolding blockTotal sumOf
-  totals-none n i = refl
-
   -- a key's total is at most that of a block that the key lands in
   pub key-le : (ps : List Pair) (key : List ℕ) (n : ℕ) → keyTotal key ps ≤ blockTotal w r ps n (keySlot basis w key r / 2 ^ n)
   unfolding keyTotal blockTotal blockOf
