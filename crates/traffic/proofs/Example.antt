@@ -24,7 +24,7 @@ use Rattle.feed.specs.Record as carrying
 use Rattle.traffic.specs.Traffic as totals
 use Rattle.traffic.specs.Calls as calls
 use Rattle.traffic.specs.Calls.{Faithful}
-use Rattle.traffic.specs.Example.{other, mixed, fed, every, cases, AllMeet}
+use Rattle.traffic.specs.Example.{other, mixed, fed, every, cases, AllMeet, handMade, ByHand}
 
 -- a call that was told the meter's depth and width, and one that was refused
 took : {A : Type 0} → A → true ≡ true → (_≡_ {A = ℕ} 1 1) × (_≡_ {A = ℕ} 32 32) × A
@@ -78,3 +78,17 @@ cases-meet =
         ),
       ),
     )
+
+pub by-hand : ByHand handMade
+unfolding totals.sumOf totals.blockTotal totals.anyBelow totals.overflows totals.levelUpTo totals.level layouts.bit layouts.ones
+    layouts.marks layouts.layout layouts.valid layouts.widest codes.layouts codes.mergedCode codes.uncode blocks.cap blocks.word
+    blocks.fill blocks.block blocks.counterAt changes.change groups.number groups.bytes groups.decode groups.reading groups.read
+    groups.widestOf groups.changed packs.fourMerges packs.unpacked geometry.validDepth geometry.oneOfPowers geometry.validWidth
+    geometry.stride geometry.size order.firstOf order.earlier order.earliest order.answerOf rows.ofRows rows.groupAt rows.withGroup
+    rows.ofGroups rows.largest row.levelStatus row.levelAt row.widestStatus row.widestRow meter.widest words.next words.payload
+    words.isDue words.tested words.below image.logFrom image.logWidth image.headPayload image.wordsOf image.levelAt image.isFirst
+    writing.slotSize writing.slotsSize writing.groupSize reading.checkHead reading.firstBits reading.checkParts reading.checkSlot
+    reading.checkSlots reading.checkGroups reading.mergesAt reading.checkFour reading.checkFours reading.checkEnd reading.checked
+    reading.valueFrom reading.readSlot reading.readSlots reading.readGroup reading.readGroups reading.afterGroups reading.afterFours
+    reading.readFours reading.readRows reading.finishRead reading.readAfter reading.taken
+by-hand = (refl, refl, refl)

@@ -3,10 +3,12 @@
 use Prim.Native.Nat.{ℕ}
 use mathlib.Core.Path.{_≡_}
 use mathlib.Core.Bool.{true, false}
-use mathlib.Core.List.{List, [], _∷_}
+use mathlib.Core.List.{List, [], _∷_, _++_}
 use lib.ListN.{replicate}
 use Rattle.group.specs.Status.{accepted}
 use Rattle.meter.specs.Meter.{estimated}
+use Rattle.meter.specs.Meter as meter
+use Rattle.image.specs.Read.{taken}
 use Rattle.traffic.specs.Traffic.{level, lower, upper}
 use Rattle.traffic.specs.Calls.{Call, Calls, none, then, clear, update, estimate, widest, unite, write, read, feed, from, raw, traffic, run, Faithful}
 
@@ -105,3 +107,14 @@ cases =
     }
     ∷ record { calls = every; key = at-10; widest-level = 2; low = 600; value = 70600; high = 70600 }
     ∷ []
+
+-- An image made by hand: slots 0 and 1 are merged and hold 0. It is accepted, but no traffic leaves such a meter: its widest level is 1,
+-- and where all totals are 0 so is L. The premise on an accepted image cannot be left out.
+abbrev pub handMade : List ℕ
+handMade = 0x10000051 ∷ 0x2002ae90 ∷ replicate 31 0x30000000 ++ 0x40000021 ∷ []
+
+abbrev pub ByHand : List ℕ → Type 0
+ByHand words =
+    (taken 1 32 (replicate 36 0) words .answer .status ≡ 0)
+    × (meter.widest 1 32 (taken 1 32 (replicate 36 0) words .memory) ≡ accepted 1)
+    × (level 1 32 [] ≡ 0)
