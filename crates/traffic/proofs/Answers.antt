@@ -141,7 +141,7 @@ module _ (d w : ℕ) (vd : validDepth d ≡ true) (vw : validWidth w ≡ true) (
 
       value-low : lower ps key ≤ readValue w key r (rowOf w memory r)
       unfolding lower slot
-      value-low = rw value-is (key-le w r ps key (counterAt (block-at r (slot / 8)) (slot % 8) .level))
+      value-low = omega (arith, value-is, key-le w r ps key (counterAt (block-at r (slot / 8)) (slot % 8) .level))
 
       value-high : readValue w key r (rowOf w memory r) ≤ landingTotal w (level d w ps) ps key r
       unfolding landingTotal blockOf slot block-at

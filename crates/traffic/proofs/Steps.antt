@@ -1,4 +1,4 @@
--- An accepted clearing, update or union leaves a memory that holds the new traffic.
+-- A cleared memory holds no traffic, and an accepted update or union leaves a memory that holds the new traffic.
 use mathlib.Core.Path.{_≡_, refl, sym, ap, _∙_}
 use mathlib.Core.Bool.{true}
 use mathlib.Core.List.{List, [], _∷_, _++_}
