@@ -1,12 +1,12 @@
 -- The claim, proved of every faithful list of calls: after it the memory holds the list's traffic, and so answers as document 01 says.
 use mathlib.Core.Path.{_≡_, refl, sym, ap, subst, _∙_}
 use mathlib.Core.Bool.{true, false, cond, true≢false}
-use mathlib.Core.List.{List, _∷_}
-use Prim.Native.Nat.{ℕ}
+use mathlib.Core.List.{List, _∷_, _++_}
+use Prim.Native.Nat.{ℕ, _≤_}
 use native.Mathlib.Decide.{ℕ-discrete}
 use borrow.Author.Tests.{eqb-true}
 use lib.Dec.{eqb}
-use lib.ListN.{length, replicate}
+use lib.ListN.{length, drop, replicate}
 use Rattle.group.specs.declared.Answer.{Answer}
 use Rattle.group.specs.Status.{accepted}
 use Rattle.row.specs.Geometry.{validDepth, validWidth, size}
@@ -14,7 +14,9 @@ use Rattle.row.specs.Order.{badKey}
 use Rattle.meter.specs.Meter.{cleared, updated, estimated}
 use Rattle.meter.proofs.Calls.{cleared-good, call-key, estimated-bad}
 use Rattle.image.specs.Image.{image}
+use Rattle.image.specs.Write.{written}
 use Rattle.image.specs.Read.{taken}
+use Rattle.image.proofs.Calls.{write-done}
 use Rattle.image.proofs.Theorems.{restored}
 use Rattle.word.specs.Word.{payload, isDue}
 use Rattle.feed.specs.declared.Recorded.the-variants as case
@@ -102,6 +104,14 @@ module _ (d w : ℕ) (vd : validDepth d ≡ true) (vw : validWidth w ≡ true) w
   pub same-traffic : (calls others : Calls) → Faithful d w calls → Faithful d w others → traffic calls ≡ traffic others → run d w calls ≡ run d w others
   same-traffic calls others f g e = run-is calls f ∙ ap (memoryOf d w) e ∙ sym (run-is others g)
 
+  -- The image of a list is what the writer gives: it refuses no meter that a list left, if the words suffice.
+  pub written-is : (calls : Calls) (lent : List ℕ) → Faithful d w calls → length (image d w (run d w calls)) ≤ length lent
+      → written d w (run d w calls) lent
+      ≡ record { answer = accepted (length (image d w (run d w calls))); words = image d w (run d w calls) ++ drop (length (image d w (run d w calls))) lent }
+  written-is calls lent f room =
+      let h = holds calls f in
+      write-done d w (run d w calls) lent 0 (sym (good-shape d w (length (run d w calls)) vd vw (h .long))) refl (holds-valid d w (run d w calls) (traffic calls) h) room
+
   module _ (calls : Calls) (f : Faithful d w calls) where
     answers : (key : List ℕ) → badKey (length key) ≡ 0
         → (estimated d w (run d w calls) key ≡ accepted (estimated d w (run d w calls) key .value)) × Between d w (traffic calls) key (estimated d w (run d w calls) key .value)
@@ -138,3 +148,15 @@ module _ (d w : ℕ) (vd : validDepth d ≡ true) (vw : validWidth w ≡ true) w
 -- Document 01's claim, of every list of calls.
 pub demand-3 : Demand3
 demand-3 = claim
+
+-- The premise excludes no next call: a faithful list goes on with any call that is told d and w, and takes its source or image from such
+-- a list, whatever it answers; and with any other that is refused.
+pub goes-on : (d w : ℕ) (calls : Calls) (call : Call) → Faithful d w calls → Listed d w call
+    → Faithful d w (then calls d w call (eqb (done d w d w call (run d w calls) .answer .status) 0))
+unfolding Faithful
+goes-on d w calls call f l = (f, refl, λ e. (refl, refl, l))
+
+pub goes-on-refused : (d w d′ w′ : ℕ) (calls : Calls) (call : Call) → Faithful d w calls → eqb (done d w d′ w′ call (run d w calls) .answer .status) 0 ≡ false
+    → Faithful d w (then calls d′ w′ call false)
+unfolding Faithful
+goes-on-refused d w d′ w′ calls call f e = (f, e, λ z. absurd (true≢false (sym z)))
