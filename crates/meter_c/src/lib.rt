@@ -18,7 +18,13 @@ fn give(a: Answer, place: &mut u64, figure: &mut u64) -> u32
 }
 
 #[no_mangle]
-pub extern "C" fn meter_clear(d: usize, w: usize, memory: &mut [u8], place: &mut u64, figure: &mut u64) -> u32
+pub extern "C" fn meter_clear(
+    d: usize,
+    w: usize,
+    memory: &mut [u8],
+    place: &mut u64,
+    figure: &mut u64,
+) -> u32
     ensures { λ r. ⌜ r ≡ cleared d w (now (memory .entry)) .answer .status ⌝ }
     ensures { λ _. ⌜ now (place .exit) ≡ cleared d w (now (memory .entry)) .answer .position ⌝ }
     ensures { λ _. ⌜ now (figure .exit) ≡ cleared d w (now (memory .entry)) .answer .value ⌝ }
@@ -28,7 +34,15 @@ pub extern "C" fn meter_clear(d: usize, w: usize, memory: &mut [u8], place: &mut
 }
 
 #[no_mangle]
-pub extern "C" fn meter_update(d: usize, w: usize, memory: &mut [u8], key: &[u8], amount: u32, place: &mut u64, figure: &mut u64) -> u32
+pub extern "C" fn meter_update(
+    d: usize,
+    w: usize,
+    memory: &mut [u8],
+    key: &[u8],
+    amount: u32,
+    place: &mut u64,
+    figure: &mut u64,
+) -> u32
     ensures { λ r. ⌜ r ≡ updated d w (now (memory .entry)) (now (key .entry)) amount .answer .status ⌝ }
     ensures { λ _. ⌜ now (place .exit) ≡ updated d w (now (memory .entry)) (now (key .entry)) amount .answer .position ⌝ }
     ensures { λ _. ⌜ now (figure .exit) ≡ updated d w (now (memory .entry)) (now (key .entry)) amount .answer .value ⌝ }
@@ -38,7 +52,14 @@ pub extern "C" fn meter_update(d: usize, w: usize, memory: &mut [u8], key: &[u8]
 }
 
 #[no_mangle]
-pub extern "C" fn meter_estimate(d: usize, w: usize, memory: &[u8], key: &[u8], place: &mut u64, figure: &mut u64) -> u32
+pub extern "C" fn meter_estimate(
+    d: usize,
+    w: usize,
+    memory: &[u8],
+    key: &[u8],
+    place: &mut u64,
+    figure: &mut u64,
+) -> u32
     ensures { λ r. ⌜ r ≡ estimated d w (now (memory .entry)) (now (key .entry)) .status ⌝ }
     ensures { λ _. ⌜ now (place .exit) ≡ estimated d w (now (memory .entry)) (now (key .entry)) .position ⌝ }
     ensures { λ _. ⌜ now (figure .exit) ≡ estimated d w (now (memory .entry)) (now (key .entry)) .value ⌝ }
@@ -47,7 +68,13 @@ pub extern "C" fn meter_estimate(d: usize, w: usize, memory: &[u8], key: &[u8], 
 }
 
 #[no_mangle]
-pub extern "C" fn meter_widest(d: usize, w: usize, memory: &[u8], place: &mut u64, figure: &mut u64) -> u32
+pub extern "C" fn meter_widest(
+    d: usize,
+    w: usize,
+    memory: &[u8],
+    place: &mut u64,
+    figure: &mut u64,
+) -> u32
     ensures { λ r. ⌜ r ≡ widest d w (now (memory .entry)) .status ⌝ }
     ensures { λ _. ⌜ now (place .exit) ≡ widest d w (now (memory .entry)) .position ⌝ }
     ensures { λ _. ⌜ now (figure .exit) ≡ widest d w (now (memory .entry)) .value ⌝ }
@@ -56,7 +83,14 @@ pub extern "C" fn meter_widest(d: usize, w: usize, memory: &[u8], place: &mut u6
 }
 
 #[no_mangle]
-pub extern "C" fn meter_unite(d: usize, w: usize, memory: &mut [u8], source: &[u8], place: &mut u64, figure: &mut u64) -> u32
+pub extern "C" fn meter_unite(
+    d: usize,
+    w: usize,
+    memory: &mut [u8],
+    source: &[u8],
+    place: &mut u64,
+    figure: &mut u64,
+) -> u32
     ensures { λ r. ⌜ r ≡ united d w (now (memory .entry)) (now (source .entry)) .answer .status ⌝ }
     ensures { λ _. ⌜ now (place .exit) ≡ united d w (now (memory .entry)) (now (source .entry)) .answer .position ⌝ }
     ensures { λ _. ⌜ now (figure .exit) ≡ united d w (now (memory .entry)) (now (source .entry)) .answer .value ⌝ }
@@ -66,7 +100,14 @@ pub extern "C" fn meter_unite(d: usize, w: usize, memory: &mut [u8], source: &[u
 }
 
 #[no_mangle]
-pub extern "C" fn meter_pack(m0: u8, m1: u8, m2: u8, m3: u8, place: &mut u64, figure: &mut u64) -> u32
+pub extern "C" fn meter_pack(
+    m0: u8,
+    m1: u8,
+    m2: u8,
+    m3: u8,
+    place: &mut u64,
+    figure: &mut u64,
+) -> u32
     ensures { λ r. ⌜ r ≡ packed m0 m1 m2 m3 .status ⌝ }
     ensures { λ _. ⌜ now (place .exit) ≡ packed m0 m1 m2 m3 .position ⌝ }
     ensures { λ _. ⌜ now (figure .exit) ≡ packed m0 m1 m2 m3 .value ⌝ }
@@ -75,7 +116,12 @@ pub extern "C" fn meter_pack(m0: u8, m1: u8, m2: u8, m3: u8, place: &mut u64, fi
 }
 
 #[no_mangle]
-pub extern "C" fn meter_unpack(code: u32, merges: &mut [u8; 4], place: &mut u64, figure: &mut u64) -> u32
+pub extern "C" fn meter_unpack(
+    code: u32,
+    merges: &mut [u8; 4],
+    place: &mut u64,
+    figure: &mut u64,
+) -> u32
     ensures { λ r. ⌜ r ≡ unpacked code .answer .status ⌝ }
     ensures { λ _. ⌜ now (place .exit) ≡ unpacked code .answer .position ⌝ }
     ensures { λ _. ⌜ now (figure .exit) ≡ unpacked code .answer .value ⌝ }
@@ -88,7 +134,14 @@ pub extern "C" fn meter_unpack(code: u32, merges: &mut [u8; 4], place: &mut u64,
 }
 
 #[no_mangle]
-pub extern "C" fn meter_image_write(d: usize, w: usize, memory: &[u8], words: &mut [u32], place: &mut u64, figure: &mut u64) -> u32
+pub extern "C" fn meter_image_write(
+    d: usize,
+    w: usize,
+    memory: &[u8],
+    words: &mut [u32],
+    place: &mut u64,
+    figure: &mut u64,
+) -> u32
     ensures { λ r. ⌜ r ≡ written d w (now (memory .entry)) (now (words .entry)) .answer .status ⌝ }
     ensures { λ _. ⌜ now (place .exit) ≡ written d w (now (memory .entry)) (now (words .entry)) .answer .position ⌝ }
     ensures { λ _. ⌜ now (figure .exit) ≡ written d w (now (memory .entry)) (now (words .entry)) .answer .value ⌝ }
@@ -98,7 +151,14 @@ pub extern "C" fn meter_image_write(d: usize, w: usize, memory: &[u8], words: &m
 }
 
 #[no_mangle]
-pub extern "C" fn meter_image_read(d: usize, w: usize, memory: &mut [u8], words: &[u32], place: &mut u64, figure: &mut u64) -> u32
+pub extern "C" fn meter_image_read(
+    d: usize,
+    w: usize,
+    memory: &mut [u8],
+    words: &[u32],
+    place: &mut u64,
+    figure: &mut u64,
+) -> u32
     ensures { λ r. ⌜ r ≡ taken d w (now (memory .entry)) (now (words .entry)) .answer .status ⌝ }
     ensures { λ _. ⌜ now (place .exit) ≡ taken d w (now (memory .entry)) (now (words .entry)) .answer .position ⌝ }
     ensures { λ _. ⌜ now (figure .exit) ≡ taken d w (now (memory .entry)) (now (words .entry)) .answer .value ⌝ }
