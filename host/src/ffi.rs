@@ -2,14 +2,7 @@
 
 #[allow(dead_code)]
 extern "C" {
-    pub fn meter_clear(
-        d: usize,
-        w: usize,
-        memory: *mut u8,
-        memory_len: usize,
-        place: *mut u64,
-        figure: *mut u64,
-    ) -> u32;
+    pub fn meter_clear(d: usize, w: usize, memory: *mut u8, memory_len: usize, place: *mut u64, figure: *mut u64) -> u32;
     pub fn meter_update(
         d: usize,
         w: usize,
@@ -31,14 +24,7 @@ extern "C" {
         place: *mut u64,
         figure: *mut u64,
     ) -> u32;
-    pub fn meter_widest(
-        d: usize,
-        w: usize,
-        memory: *const u8,
-        memory_len: usize,
-        place: *mut u64,
-        figure: *mut u64,
-    ) -> u32;
+    pub fn meter_widest(d: usize, w: usize, memory: *const u8, memory_len: usize, place: *mut u64, figure: *mut u64) -> u32;
     pub fn meter_unite(
         d: usize,
         w: usize,
@@ -49,14 +35,7 @@ extern "C" {
         place: *mut u64,
         figure: *mut u64,
     ) -> u32;
-    pub fn meter_pack(
-        m0: u8,
-        m1: u8,
-        m2: u8,
-        m3: u8,
-        place: *mut u64,
-        figure: *mut u64,
-    ) -> u32;
+    pub fn meter_pack(m0: u8, m1: u8, m2: u8, m3: u8, place: *mut u64, figure: *mut u64) -> u32;
     pub fn meter_unpack(code: u32, merges: *mut u8, place: *mut u64, figure: *mut u64) -> u32;
     pub fn meter_image_write(
         d: usize,

@@ -148,18 +148,12 @@ pub fn size(d: usize, w: usize) -> Option<usize> {
 fn call(f: impl FnOnce(*mut u64, *mut u64) -> u32) -> Answer {
     let (mut place, mut figure) = (0, 0);
     let number = f(&mut place, &mut figure);
-    Answer {
-        number,
-        place,
-        figure,
-    }
+    Answer { number, place, figure }
 }
 
 /// Sets every byte of a memory to 0.
 pub fn clear(d: usize, w: usize, memory: &mut [u8]) -> Answer {
-    call(|place, figure| unsafe {
-        ffi::meter_clear(d, w, memory.as_mut_ptr(), memory.len(), place, figure)
-    })
+    call(|place, figure| unsafe { ffi::meter_clear(d, w, memory.as_mut_ptr(), memory.len(), place, figure) })
 }
 
 /// Adds an amount to the key's counter in each row.
@@ -182,24 +176,13 @@ pub fn update(d: usize, w: usize, memory: &mut [u8], key: &[u8], amount: u32) ->
 /// The least figure of the key's counters.
 pub fn estimate(d: usize, w: usize, memory: &[u8], key: &[u8]) -> Answer {
     call(|place, figure| unsafe {
-        ffi::meter_estimate(
-            d,
-            w,
-            memory.as_ptr(),
-            memory.len(),
-            key.as_ptr(),
-            key.len(),
-            place,
-            figure,
-        )
+        ffi::meter_estimate(d, w, memory.as_ptr(), memory.len(), key.as_ptr(), key.len(), place, figure)
     })
 }
 
 /// The largest level of any counter, 0 to 3: its counters have up to 8, 16, 32 or 64 bits.
 pub fn widest(d: usize, w: usize, memory: &[u8]) -> Answer {
-    call(|place, figure| unsafe {
-        ffi::meter_widest(d, w, memory.as_ptr(), memory.len(), place, figure)
-    })
+    call(|place, figure| unsafe { ffi::meter_widest(d, w, memory.as_ptr(), memory.len(), place, figure) })
 }
 
 /// Adds a source meter of the same depth and width into a meter.
@@ -227,9 +210,7 @@ pub fn pack(merges: [u8; 4]) -> Answer {
 /// The four merge bytes of a layout code; all 0 when turned away.
 pub fn unpack(code: u32) -> (Answer, [u8; 4]) {
     let mut merges = [0; 4];
-    let answer = call(|place, figure| unsafe {
-        ffi::meter_unpack(code, merges.as_mut_ptr(), place, figure)
-    });
+    let answer = call(|place, figure| unsafe { ffi::meter_unpack(code, merges.as_mut_ptr(), place, figure) });
     (answer, merges)
 }
 

@@ -80,7 +80,10 @@ impl Pair {
 fn told(rng: &mut Rng, d: usize, w: usize) -> (usize, usize) {
     match rng.below(40) {
         0 => (rng.pick(&[0, 9, 10, 16, 256, usize::MAX, 1 << 32]), w),
-        1 => (d, rng.pick(&[0, 1, 16, 31, 33, 48, 96, 65_535, 65_537, 131_072, 1 << 32, usize::MAX])),
+        1 => (
+            d,
+            rng.pick(&[0, 1, 16, 31, 33, 48, 96, 65_535, 65_537, 131_072, 1 << 32, usize::MAX]),
+        ),
         2 => (0, 33),
         3 => (rng.within(1..9), w),
         4 => (d, 32 << rng.below(12)),
@@ -120,7 +123,10 @@ fn damage(rng: &mut Rng, words: &mut Vec<u32>) {
             1 => words.push(rng.pick(&[words[n - 1], 0x3000_0000, rng_word(at)])),
             2 => words[at] ^= 1 << rng.below(32),
             3 => words[at] = words[at] & 0x0fff_ffff | (rng.below(16) as u32) << 28,
-            4 => words[at] = words[at] & 0xf000_0000 | rng.pick(&[255, 256, 65_535, 65_536, 456_975, 456_976, 0xff_ffff, 0xfff_ffff]),
+            4 => {
+                words[at] =
+                    words[at] & 0xf000_0000 | rng.pick(&[255, 256, 65_535, 65_536, 456_975, 456_976, 0xff_ffff, 0xfff_ffff])
+            }
             5 => drop(words.remove(at)),
             6 => words.insert(at, words[at]),
             7 => words[0] = 0x1000_0000 | rng.below(1 << 9) as u32,
@@ -147,13 +153,15 @@ impl List {
 
     fn update(&mut self, d: usize, w: usize, p: &mut Pair, key: &[u8], amount: u32) {
         let a = meter::update(d, w, p.proved.get_mut(), key, amount);
-        self.tally.compare("update", a, reference::update(d, w, &mut p.model, key, amount));
+        self.tally
+            .compare("update", a, reference::update(d, w, &mut p.model, key, amount));
         p.compare("update");
     }
 
     fn estimate(&mut self, d: usize, w: usize, p: &mut Pair, key: &[u8]) {
         let a = meter::estimate(d, w, p.proved.get(), key);
-        self.tally.compare("estimate", a, reference::estimate(d, w, &mut p.model, key));
+        self.tally
+            .compare("estimate", a, reference::estimate(d, w, &mut p.model, key));
         p.compare("estimate");
     }
 
@@ -165,7 +173,8 @@ impl List {
 
     fn unite(&mut self, d: usize, w: usize, p: &mut Pair, source: &mut Pair) {
         let a = meter::unite(d, w, p.proved.get_mut(), source.proved.get());
-        self.tally.compare("unite", a, reference::unite(d, w, &mut p.model, &mut source.model));
+        self.tally
+            .compare("unite", a, reference::unite(d, w, &mut p.model, &mut source.model));
         p.compare("unite");
         source.compare("unite, source");
     }
@@ -186,7 +195,8 @@ impl List {
         let mut proved = lend_words(&before);
         let mut model = before;
         let a = meter::image_write(d, w, p.proved.get(), proved.get_mut());
-        self.tally.compare("image_write", a, reference::image_write(d, w, &mut p.model, &mut model));
+        self.tally
+            .compare("image_write", a, reference::image_write(d, w, &mut p.model, &mut model));
         assert!(proved.guards_stand(), "image_write: words beside the lent ones");
         assert!(proved.get() == model, "image_write: the words");
         p.compare("image_write");
@@ -195,7 +205,8 @@ impl List {
     fn image_read(&mut self, d: usize, w: usize, p: &mut Pair, words: &[u32]) {
         let lent = lend_words(words);
         let a = meter::image_read(d, w, p.proved.get_mut(), lent.get());
-        self.tally.compare("image_read", a, reference::image_read(d, w, &mut p.model, words));
+        self.tally
+            .compare("image_read", a, reference::image_read(d, w, &mut p.model, words));
         assert!(lent.guards_stand() && lent.get() == words, "image_read: the words");
         p.compare("image_read");
     }

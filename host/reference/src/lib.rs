@@ -174,7 +174,10 @@ pub struct Tree {
 pub enum Group {
     Sound(Tree),
     /// The merge byte is none of the 26.
-    Damaged { counts: [u8; 8], merge: u8 },
+    Damaged {
+        counts: [u8; 8],
+        merge: u8,
+    },
 }
 
 impl Tree {
@@ -244,10 +247,7 @@ impl Tree {
     }
 
     fn merge(&self) -> u8 {
-        (1..16)
-            .filter(|&n| self.counter[n].is_some())
-            .map(marks_within)
-            .sum()
+        (1..16).filter(|&n| self.counter[n].is_some()).map(marks_within).sum()
     }
 
     fn widest(&self) -> u32 {
@@ -356,10 +356,7 @@ pub fn slot(row: usize, key: &[u8], w: usize) -> usize {
 }
 
 fn is_width(w: usize) -> bool {
-    [
-        32, 64, 128, 256, 512, 1024, 2048, 4096, 8192, 16384, 32768, 65536,
-    ]
-    .contains(&w)
+    [32, 64, 128, 256, 512, 1024, 2048, 4096, 8192, 16384, 32768, 65536].contains(&w)
 }
 
 fn good_geometry(d: usize, w: usize) -> Result<(), Refused> {
@@ -750,13 +747,7 @@ fn parse_record(before: u64, words: &[u32]) -> Result<Record, Refused> {
 }
 
 /// Carries out a record or the end of a feed; also says which it was, where its words pass.
-pub fn feed_record(
-    d: usize,
-    w: usize,
-    memory: &mut Memory,
-    before: u64,
-    words: &[u32],
-) -> (Answer, Option<Record>) {
+pub fn feed_record(d: usize, w: usize, memory: &mut Memory, before: u64, words: &[u32]) -> (Answer, Option<Record>) {
     if let Err(refused) = good_shape(d, w, memory.len()) {
         return (answer(Err(refused)), None);
     }
@@ -861,7 +852,14 @@ mod tests {
     #[test]
     fn feed_example() {
         let feed = [
-            0x1000_0051, 0x5000_0001, 0x7041_0000, 0x8000_0000, 0x8000_012c, 0x6000_0001, 0x7041_0000, 0x4000_0007u32,
+            0x1000_0051,
+            0x5000_0001,
+            0x7041_0000,
+            0x8000_0000,
+            0x8000_012c,
+            0x6000_0001,
+            0x7041_0000,
+            0x4000_0007u32,
         ];
         let mut memory = Memory::new(&[0; 36]);
         assert_eq!(feed_head(&feed), accepted(0x51));
