@@ -3,7 +3,7 @@
 
 mod common;
 
-use common::{amount, key, lend_bytes, lend_words, memory, seed, Lent, Rng};
+use common::{amount, key, lend_bytes, lend_words, memory, seed, some_image, Lent, Rng};
 use reference::Memory;
 use std::collections::BTreeMap;
 use std::time::Instant;
@@ -105,40 +105,6 @@ fn other_length(rng: &mut Rng, pair: &Pair) -> Pair {
     Pair::new(&bytes)
 }
 
-/// The words of an image, mostly damaged in one or two places.
-fn damage(rng: &mut Rng, words: &mut Vec<u32>) {
-    for _ in 0..rng.below(3) {
-        let n = words.len();
-        if n == 0 {
-            words.push(rng.next() as u32);
-            continue;
-        }
-        let at = match rng.below(4) {
-            0 => 0,
-            1 => n - 1,
-            _ => rng.below(n),
-        };
-        match rng.below(9) {
-            0 => words.truncate(at),
-            1 => words.push(rng.pick(&[words[n - 1], 0x3000_0000, rng_word(at)])),
-            2 => words[at] ^= 1 << rng.below(32),
-            3 => words[at] = words[at] & 0x0fff_ffff | (rng.below(16) as u32) << 28,
-            4 => {
-                words[at] =
-                    words[at] & 0xf000_0000 | rng.pick(&[255, 256, 65_535, 65_536, 456_975, 456_976, 0xff_ffff, 0xfff_ffff])
-            }
-            5 => drop(words.remove(at)),
-            6 => words.insert(at, words[at]),
-            7 => words[0] = 0x1000_0000 | rng.below(1 << 9) as u32,
-            _ => words[at] = rng.next() as u32,
-        }
-    }
-}
-
-fn rng_word(at: usize) -> u32 {
-    0x4000_0000 | at as u32
-}
-
 struct List {
     rng: Rng,
     tally: Tally,
@@ -222,19 +188,6 @@ impl List {
         assert_eq!(proved_merges, model_merges, "unpack: the merge bytes");
     }
 
-    /// An image of one of the memories, or of a random one, damaged or not.
-    fn some_image(&mut self, d: usize, w: usize, from: &mut Pair) -> Vec<u32> {
-        let mut words = vec![0; 3 * d * w + 2];
-        let mut count = reference::image_write(d, w, &mut from.model, &mut words).figure as usize;
-        if count == 0 {
-            let mut clear = Memory::new(&vec![0; d * w / 8 * 9]);
-            count = reference::image_write(d, w, &mut clear, &mut words).figure as usize;
-        }
-        words.truncate(count);
-        damage(&mut self.rng, &mut words);
-        words
-    }
-
     /// A list of calls on three meters of one geometry.
     fn run(&mut self, d: usize, w: usize, calls: usize) {
         let mut meters: Vec<Pair> = (0..3).map(|_| Pair::new(&memory(&mut self.rng, d, w))).collect();
@@ -263,7 +216,7 @@ impl List {
                 18..=19 => self.unite(td, tw, &mut target, &mut source),
                 20 => self.image_write(td, tw, &mut target),
                 21..=22 => {
-                    let words = self.some_image(d, w, &mut source);
+                    let words = some_image(&mut self.rng, d, w, &mut source.model);
                     self.image_read(td, tw, &mut target, &words)
                 }
                 _ => target = Pair::new(&memory(&mut self.rng, d, w)),

@@ -1,6 +1,7 @@
 //! What the tests share: seeds, lent buffers with guards, and memories, keys, amounts and words to try.
 #![allow(dead_code)]
 
+use reference::Memory;
 use std::ops::Range;
 
 /// SplitMix64.
@@ -172,4 +173,85 @@ pub fn memory(rng: &mut Rng, d: usize, w: usize) -> Vec<u8> {
         }
     }
     bytes
+}
+
+/// Damages words in up to two places.
+pub fn damage(rng: &mut Rng, words: &mut Vec<u32>) {
+    for _ in 0..rng.below(3) {
+        let n = words.len();
+        if n == 0 {
+            words.push(rng.next() as u32);
+            continue;
+        }
+        let at = match rng.below(4) {
+            0 => 0,
+            1 => n - 1,
+            _ => rng.below(n),
+        };
+        match rng.below(9) {
+            0 => words.truncate(at),
+            1 => words.push(rng.pick(&[words[n - 1], 0x3000_0000, 0x4000_0000 | at as u32])),
+            2 => words[at] ^= 1 << rng.below(32),
+            3 => words[at] = words[at] & 0x0fff_ffff | (rng.below(16) as u32) << 28,
+            4 => {
+                let limits = [255, 256, 65_535, 65_536, 456_975, 456_976, 0xff_ffff, 0xfff_ffff];
+                words[at] = words[at] & 0xf000_0000 | rng.pick(&limits)
+            }
+            5 => drop(words.remove(at)),
+            6 => words.insert(at, words[at]),
+            7 => words[0] = 0x1000_0000 | rng.below(1 << 9) as u32,
+            _ => words[at] = rng.next() as u32,
+        }
+    }
+}
+
+/// The image of a memory, or of a clear one where it is damaged; mostly damaged itself.
+pub fn some_image(rng: &mut Rng, d: usize, w: usize, from: &mut Memory) -> Vec<u32> {
+    let mut words = vec![0; d * w + d * w / 32 + 2];
+    let mut count = reference::image_write(d, w, from, &mut words).figure as usize;
+    if count == 0 {
+        let mut clear = Memory::new(&vec![0; d * w / 8 * 9]);
+        count = reference::image_write(d, w, &mut clear, &mut words).figure as usize;
+    }
+    words.truncate(count);
+    damage(rng, &mut words);
+    words
+}
+
+/// The words of an update or asking record.
+pub fn record_words(key: &[u8], amount: Option<u32>) -> Vec<u32> {
+    let kind = if amount.is_some() { 5 } else { 6 };
+    let mut words = vec![kind << 28 | key.len() as u32];
+    for part in key.chunks(3) {
+        let byte = |i: usize| part.get(i).copied().unwrap_or(0) as u32;
+        words.push(7 << 28 | byte(0) << 16 | byte(1) << 8 | byte(2));
+    }
+    if let Some(amount) = amount {
+        words.push(8 << 28 | amount >> 16);
+        words.push(8 << 28 | amount & 0xffff);
+    }
+    words
+}
+
+/// A record or the end after `before` words, with more words behind it; often damaged.
+pub fn record(rng: &mut Rng, before: u64, some_key: &[u8]) -> Vec<u32> {
+    let mut words = match rng.below(5) {
+        0 => vec![4 << 28 | (before % (1 << 28)) as u32],
+        1 | 2 => record_words(some_key, Some(amount(rng))),
+        _ => record_words(some_key, None),
+    };
+    if rng.once_in(8) {
+        // A set bit in an unused byte of the last key word.
+        let last = 1 + (some_key.len().max(1) - 1) / 3;
+        if let Some(word) = words.get_mut(last) {
+            *word |= 1 << rng.below(28);
+        }
+    }
+    if rng.once_in(2) {
+        damage(rng, &mut words);
+    }
+    if rng.once_in(3) {
+        words.extend((0..rng.below(4)).map(|_| rng.next() as u32));
+    }
+    words
 }
