@@ -18,11 +18,13 @@ use Rattle.block.specs.Block.{cap, counterAt}
 use Rattle.group.specs.declared.Group.{Group}
 use Rattle.group.specs.Status.{badPayload}
 use Rattle.group.specs.Group.{decode, read, changed}
-use Rattle.image.specs.declared.reader.Step.{Step}
+use Rattle.word.specs.declared.Step.{Step}
+use Rattle.word.specs.Word.{go, next, payload, isDue, tested, below}
 use Rattle.image.specs.Image.{word, countKind, parts, wordsOf, levelAt, isFirst, slotWords, slotsWords, groupWords}
 use Rattle.image.specs.Write.{slotSize, slotsSize, groupSize}
-use Rattle.image.specs.Read.{go, next, payload, isDue, tested, below, firstBits, checkParts, checkSlot, checkSlots, valueFrom, readSlot, readSlots, readGroup}
-use Rattle.image.proofs.Laws.{both, slot-none, slot-some, size-first, size-other, read-slot-other, read-slot-first, read-slot-merge}
+use Rattle.image.specs.Read.{firstBits, checkParts, checkSlot, checkSlots, valueFrom, readSlot, readSlots, readGroup}
+use Rattle.word.proofs.Laws.{both}
+use Rattle.image.proofs.Laws.{slot-none, slot-some, size-first, size-other, read-slot-other, read-slot-first, read-slot-merge}
 use Rattle.block.proofs.Slots.{level-le}
 use Rattle.group.proofs.Changing.{Good, good-changed, changed-at, changed-before, zero-good}
 use Rattle.image.proofs.Digits.{words-bits, power-step, value-digits}

@@ -12,11 +12,13 @@ use lib.Seq.{sets, sets-eq}
 use Rattle.group.specs.Status.{invalidMerge, accepted, rejected}
 use Rattle.row.specs.Geometry.{validDepth, validWidth, stride, size}
 use Rattle.row.specs.Order.{unless, firstOf, badShape}
-use Rattle.image.specs.declared.reader.Step.{Step}
-use Rattle.image.specs.Image.{word, headKind, headPayload, rowsWords, body, endWord, image}
+use Rattle.word.specs.declared.Step.{Step}
+use Rattle.word.specs.Word.{headKind}
+use Rattle.image.specs.Image.{word, headPayload, rowsWords, body, endWord, image}
 use Rattle.image.specs.Write.{tooFewWords, validRows, writeStatus, finishWrite, written}
 use Rattle.image.specs.Read.{checked, readRows, finishRead, readAfter, taken}
-use Rattle.image.proofs.Laws.{both, Width, width-is, sets-append}
+use Rattle.word.proofs.Laws.{both}
+use Rattle.image.proofs.Laws.{Width, width-is, sets-append}
 
 -- a call whose depth, width and memory have passed
 pub record Sound (d w n : ℕ) : Type 0 where

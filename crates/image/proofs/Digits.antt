@@ -10,8 +10,9 @@ use lib.ListN.{length, getD, drop, length-drop}
 use lib.Pow.{pow-add, pow-mono, pow-pos, shr-lt, mod-pow-add}
 use lib.Seq.{getD-drop, drop-drop, drop-at}
 use Rattle.block.specs.Block.{cap}
+use Rattle.word.specs.Word.{go, next, payload, isDue, tested, below}
 use Rattle.image.specs.Image.{word, countKind, parts, wordsOf}
-use Rattle.image.specs.Read.{go, next, payload, isDue, tested, below, checkParts, firstBits, valueFrom}
+use Rattle.image.specs.Read.{checkParts, firstBits, valueFrom}
 use Rattle.image.proofs.Laws.{parts-length}
 
 -- the word at a position

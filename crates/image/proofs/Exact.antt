@@ -18,11 +18,12 @@ use Rattle.group.proofs.Packing.{code-merge, pack-unpack}
 use Rattle.group.proofs.Changing.{Good}
 use Rattle.row.specs.Geometry.{stride}
 use Rattle.row.specs.Rows.{groupAt, withGroup}
-use Rattle.image.specs.declared.reader.Step.{Step}
+use Rattle.word.specs.declared.Step.{Step}
+use Rattle.word.specs.Word.{go, next, payload, below}
 use Rattle.image.specs.Image.{word, layoutKind, layoutAt, groupWords, groupsWords, fourWords, rowWords, rowsWords}
 use Rattle.image.specs.Write.{allValid, validRows, groupSize}
-use Rattle.image.specs.Read.{go, next, payload, below, mergesAt, checkSlots, checkGroups, checkFour, checkFours, readGroup, readGroups, afterGroups, readFours, afterFours, readRows}
-use Rattle.image.proofs.Laws.{both}
+use Rattle.image.specs.Read.{mergesAt, checkSlots, checkGroups, checkFour, checkFours, readGroup, readGroups, afterGroups, readFours, afterFours, readRows}
+use Rattle.word.proofs.Laws.{both}
 use Rattle.image.proofs.Rows.{with-length, with-before, with-counts, with-merge, with-after, merges-from}
 use Rattle.image.proofs.Accepting.{passed, below-is, group-is}
 

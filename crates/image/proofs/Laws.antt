@@ -26,10 +26,11 @@ use Rattle.row.specs.Rows.{groupAt, withGroup}
 use Rattle.group.specs.Status.{invalidMerge, accepted, rejected}
 use Rattle.group.specs.Pack.{fourCode, packed}
 use Rattle.group.proofs.Packing.{four-below}
-use Rattle.image.specs.declared.reader.Step.{Step}
+use Rattle.word.specs.declared.Step.{Step}
+use Rattle.word.specs.Word.{isDue, next, below, payload}
 use Rattle.image.specs.Image.{word, countKind, logFrom, parts, wordsOf, levelAt, isFirst, slotWords, slotsWords, groupWords, groupsWords, fourWords, rowWords, rowsWords, layoutAt}
 use Rattle.image.specs.Write.{allValid, validRows, slotSize, slotsSize, groupSize}
-use Rattle.image.specs.Read.{isDue, next, checkParts, checkSlot, checkSlots, checkGroups, checkFour, checkFours, below, valueFrom, payload, firstBits, readSlot, readSlots, mergesAt, readGroup, readGroups, afterGroups, afterFours, readFours, readRows}
+use Rattle.image.specs.Read.{checkParts, checkSlot, checkSlots, checkGroups, checkFour, checkFours, valueFrom, firstBits, readSlot, readSlots, mergesAt, readGroup, readGroups, afterGroups, afterFours, readFours, readRows}
 
 -- a shift of a small number loses no bits
 pub small-shl : (a level : ℕ) → a ≤ 8 → level ≤ 24 → a * 2 ^ level % 2 ^ 32 ≡ a * 2 ^ level
@@ -114,15 +115,6 @@ pub value-none : (n v : ℕ) (words : List ℕ) (p : ℕ) → n ≡ 0 → valueF
 unfolding valueFrom
 value-none n v words p e = rw e
 
--- a test that the code has made
-pub turn : (s t : Step) (f : ℕ → Step) → s ≡ t → s .status ≡ 0 → next t f ≡ f (s .position)
-unfolding next
-turn s t f e h = rw (← e, eq-eqb (s .status) 0 h)
-
-pub halt : (s t : Step) (f : ℕ → Step) → s ≡ t → (s .status ≡ 0 → ⊥) → next t f ≡ s
-unfolding next
-halt s t f e h = rw (← e, ne-eqb (s .status) 0 h)
-
 pub check-parts-step : (n : ℕ) (words : List ℕ) (p limit : ℕ) → 0 < n → checkParts n words p limit ≡ next (below words p countKind limit) (λ q. checkParts (n - 1) words q (2 ^ 24))
 unfolding checkParts
 check-parts-step zero words p limit h = absurd (omega arith)
@@ -131,15 +123,6 @@ check-parts-step (suc n) words p limit h = rw (sub-one (suc n))
 pub check-parts-none : (n : ℕ) (words : List ℕ) (p limit : ℕ) → n ≡ 0 → checkParts n words p limit ≡ record { status = 0; position = p }
 unfolding checkParts
 check-parts-none n words p limit e = rw e
-
-pub both : (a b : Bool) → (a && b) ≡ true → (a ≡ true) × (b ≡ true)
-both true b e = (refl, e)
-both false b e = absurd (true≢false (sym e))
-
--- a word that is due is there
-pub due-in : (words : List ℕ) (p kind : ℕ) → isDue words p kind ≡ true → p < length words
-unfolding isDue
-due-in words p kind e = ltb-true p (length words) (both (ltb p (length words)) (eqb (getD words p 0 / 2 ^ 28) kind) e .0)
 
 -- a turn of a copy from the front
 pub copy-more : (s d : List ℕ) (i : ℕ) → i < length s → i < length d → set (take i s ++ drop i d) i (getD s i 0) ≡ take (i + 1) s ++ drop (i + 1) d

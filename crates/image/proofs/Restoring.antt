@@ -14,9 +14,10 @@ use Rattle.group.specs.declared.Group.{Group}
 use Rattle.group.specs.declared.Reading.{Reading}
 use Rattle.group.specs.Group.{decode, read, reading, changed}
 use Rattle.group.proofs.Changing.{Good, good-fits, shape-decode, read-is, group-ext, good-changed, changed-at, changed-before, zero-good}
+use Rattle.word.specs.Word.{go, next}
 use Rattle.image.specs.Image.{parts, wordsOf, levelAt, isFirst, slotWords, slotsWords, groupWords}
 use Rattle.image.specs.Write.{slotSize, slotsSize, groupSize}
-use Rattle.image.specs.Read.{go, next, checkSlot, checkSlots, readSlot, readSlots, readGroup}
+use Rattle.image.specs.Read.{checkSlot, checkSlots, readSlot, readSlots, readGroup}
 use Rattle.image.proofs.Laws.{slot-none, slot-some, read-slot-other, read-slot-merge, read-slot-first, check-slot-other, size-first, size-other}
 use Rattle.block.proofs.Slots.{level-le, levelOf, level-is, value-lt, same-before}
 use Rattle.image.proofs.Digits.{check-counter, value-counter, parts-after}

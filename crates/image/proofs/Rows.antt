@@ -19,11 +19,13 @@ use Rattle.group.proofs.Packing.{unpack-pack}
 use Rattle.group.proofs.Changing.{Good}
 use Rattle.row.specs.Geometry.{stride}
 use Rattle.row.specs.Rows.{groupAt, withGroup}
-use Rattle.image.specs.declared.reader.Step.{Step}
+use Rattle.word.specs.declared.Step.{Step}
+use Rattle.word.specs.Word.{go, next, payload}
 use Rattle.image.specs.Image.{word, layoutKind, layoutAt, groupWords, groupsWords, fourWords, rowWords, rowsWords}
 use Rattle.image.specs.Write.{allValid, validRows, groupSize}
-use Rattle.image.specs.Read.{go, next, payload, mergesAt, checkGroups, checkFour, checkFours, readGroups, afterGroups, readFours, afterFours, readRows}
-use Rattle.image.proofs.Laws.{both, layout-lt}
+use Rattle.image.specs.Read.{mergesAt, checkGroups, checkFour, checkFours, readGroups, afterGroups, readFours, afterFours, readRows}
+use Rattle.word.proofs.Laws.{both}
+use Rattle.image.proofs.Laws.{layout-lt}
 use Rattle.image.proofs.Digits.{here, payload-here, below-here}
 use Rattle.image.proofs.Restoring.{by-test, group-restored}
 

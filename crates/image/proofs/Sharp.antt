@@ -11,10 +11,11 @@ use lib.ListN.{length, getD, take, length-take}
 use lib.Seq.{getD-take}
 use Rattle.group.specs.Status.{badPayload}
 use Rattle.group.specs.Pack.{unpacked}
-use Rattle.image.specs.declared.reader.Step.{Step}
-use Rattle.image.specs.Image.{headKind, endKind, headPayload, layoutKind, countKind, wordsOf, levelAt, isFirst}
-use Rattle.image.specs.Read.{go, stop, badWord, otherMeter, checkHead, checkEnd, checked, next, payload, isDue, tested, below, firstBits, checkParts, checkSlot, checkSlots, checkGroups, mergesAt, checkFour, checkFours}
-use Rattle.image.proofs.Laws.{both, due-in}
+use Rattle.word.specs.declared.Step.{Step}
+use Rattle.word.specs.Word.{headKind, endKind, go, stop, badWord, next, payload, isDue, tested, below}
+use Rattle.image.specs.Image.{headPayload, layoutKind, countKind, wordsOf, levelAt, isFirst}
+use Rattle.image.specs.Read.{otherMeter, checkHead, checkEnd, checked, firstBits, checkParts, checkSlot, checkSlots, checkGroups, mergesAt, checkFour, checkFours}
+use Rattle.word.proofs.Laws.{both, due-in}
 use Rattle.image.proofs.Restoring.{by-test}
 use Rattle.image.proofs.Accepting.{below-is}
 

@@ -16,10 +16,11 @@ use Rattle.group.specs.Status.{badPayload, accepted}
 use Rattle.group.proofs.Bytes.{Bytes}
 use Rattle.row.specs.Geometry.{validWidth}
 use Rattle.row.specs.Order.{badShape, Done}
-use Rattle.image.specs.declared.reader.Step.{Step}
-use Rattle.image.specs.Image.{word, headKind, endKind, logFrom, logWidth, headPayload, rowsWords, body, endWord, image}
+use Rattle.word.specs.declared.Step.{Step}
+use Rattle.word.specs.Word.{headKind, endKind, go, stop, badWord, next, payload, tested, below}
+use Rattle.image.specs.Image.{word, logFrom, logWidth, headPayload, rowsWords, body, endWord, image}
 use Rattle.image.specs.Write.{validRows, written}
-use Rattle.image.specs.Read.{go, stop, badWord, otherMeter, next, payload, tested, below, checkHead, checkFours, checkEnd, checked, readRows, taken}
+use Rattle.image.specs.Read.{otherMeter, checkHead, checkFours, checkEnd, checked, readRows, taken}
 use Rattle.image.proofs.Calls.{Sound, sound-call, write-done, read-call, read-faulty, read-done}
 use Rattle.image.proofs.Digits.{payload-here, due-here, below-here}
 use Rattle.image.proofs.Laws.{powers-are}

@@ -9,22 +9,17 @@ use Rattle.group.specs.Group.{read}
 use Rattle.group.specs.Pack.{packed}
 use Rattle.row.specs.Geometry.{largestLog, stride}
 use Rattle.row.specs.Rows.{groupAt}
+use Rattle.word.specs.Word.{headKind, endKind}
 
 -- the top four bits of a word are its kind and the low 28 its payload
 unfoldable pub word : ℕ → ℕ → ℕ
 word kind payload = kind * 2 ^ 28 + payload
-
-abbrev pub headKind : ℕ
-headKind = 1
 
 abbrev pub layoutKind : ℕ
 layoutKind = 2
 
 abbrev pub countKind : ℕ
 countKind = 3
-
-abbrev pub endKind : ℕ
-endKind = 4
 
 -- The logarithm of a width: the first k, from the smallest width's on, with w ≤ 2 ^ k. There are n larger powers to try, and p is 2 ^ k.
 unfoldable pub logFrom : ℕ → ℕ → ℕ → ℕ → ℕ

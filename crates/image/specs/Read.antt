@@ -11,43 +11,14 @@ use Rattle.group.specs.Pack.{unpacked}
 use Rattle.row.specs.Geometry.{stride}
 use Rattle.row.specs.Order.{badShape, Done}
 use Rattle.row.specs.Rows.{withGroup}
-use Rattle.image.specs.Image.{headKind, layoutKind, countKind, endKind, headPayload, wordsOf, levelAt, isFirst}
+use Rattle.word.specs.Word.{headKind, endKind, badWord, go, stop, next, payload, isDue, tested, below}
+use Rattle.image.specs.Image.{layoutKind, countKind, headPayload, wordsOf, levelAt, isFirst}
 use Rattle.image.specs.Write.{slotSize, groupSize}
-use Rattle.image.specs.declared.reader.Step.{Step}
+use Rattle.word.specs.declared.Step.{Step}
 
--- lines 8 and 10
-abbrev pub badWord : ℕ
-badWord = 8
-
+-- line 10
 abbrev pub otherMeter : ℕ
 otherMeter = 10
-
--- what is wrong with the first faulty word and where it is; or status 0 and the position to read on from
-abbrev pub go : ℕ → Step
-go p = record { status = 0; position = p }
-
-abbrev pub stop : ℕ → ℕ → Step
-stop s p = record { status = s; position = p }
-
--- the next test, unless a word before is faulty
-unfoldable pub next : Step → (ℕ → Step) → Step
-next s f = cond (eqb (s .status) 0) (f (s .position)) s
-
--- the payload of the word at a position
-unfoldable pub payload : List ℕ → ℕ → ℕ
-payload words p = getD words p 0 % 2 ^ 28
-
--- whether a word is there and has the kind that is due
-unfoldable pub isDue : List ℕ → ℕ → ℕ → Bool
-isDue words p kind = ltb p (length words) && eqb (getD words p 0 / 2 ^ 28) kind
-
--- A word of a kind: a test of its payload, and the number of the line that a failed test gives. 8 comes first.
-unfoldable pub tested : List ℕ → ℕ → ℕ → Bool → ℕ → Step
-tested words p kind holds line = cond (isDue words p kind) (cond holds (go (p + 1)) (stop line p)) (stop badWord p)
-
--- a word of a kind with a payload below a limit
-unfoldable pub below : List ℕ → ℕ → ℕ → ℕ → Step
-below words p kind limit = tested words p kind (ltb (payload words p) limit) badPayload
 
 -- The head's bits 9 to 27 are 0; then 10.
 unfoldable pub checkHead : ℕ → ℕ → List ℕ → Step

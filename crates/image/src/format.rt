@@ -9,17 +9,11 @@ ghost use Rattle.image.specs.Write.{slotSize, groupSize};
 ghost use Rattle.image.specs.Read.{firstBits};
 
 // The kinds of words.
-pub const HEAD: u32 = 1;
-
 pub const LAYOUT: u32 = 2;
 
 pub const COUNT: u32 = 3;
 
-pub const END: u32 = 4;
-
 pub const TOO_FEW_WORDS: u8 = 7;
-
-pub const BAD_WORD: u8 = 8;
 
 pub const OTHER_METER: u8 = 10;
 

@@ -3,95 +3,32 @@ use crate::format;
 use crate::geometry::log_width;
 use group::Group;
 use row::store;
+use word::Step;
+use word::below;
+use word::go;
+use word::payload;
+use word::stop;
+use word::tested;
 ghost use mathlib.Core.Path.{_≡_};
 ghost use mathlib.Core.List.{_++_};
 ghost use Prim.Native.Nat.{_+_, _*_, _/_, _%_, _^_, _<_, _≤_};
 ghost use lib.ListN.{length, take, drop};
 ghost use Rattle.row.specs.Geometry.{stride};
 ghost use Rattle.row.specs.Rows.{withGroup};
-ghost use Rattle.image.specs.Read as spec;
 ghost use Rattle.image.specs.Read.{checkHead, checkParts, checkSlot, checkSlots, checkGroups, checkFour, checkFours, checkEnd, checked, valueFrom, mergesAt, readSlot, readGroup, readGroups, afterGroups, readFours, afterFours, readRows};
-
-// A fault and its position; or status 0 and the position to read on from.
-pub struct Step {
-    pub status: u8,
-    pub position: usize,
-}
-
-fn go(position: usize) -> Step
-    ensures { λ r. ⌜ r ≡ spec.go position ⌝ }
-{
-    Step {
-        status: 0,
-        position,
-    }
-}
-
-fn stop(status: u8, position: usize) -> Step
-    ensures { λ r. ⌜ r ≡ spec.stop status position ⌝ }
-{
-    Step { status, position }
-}
-
-// The payload of the word at a position, or 0.
-pub fn payload(words: &[u32], p: usize) -> u32
-    ensures { λ r. ⌜ r ≡ spec.payload (now (words .entry)) p ⌝ }
-    ensures { λ r. ⌜ r < 2 ^ 28 ⌝ }
-{
-    if p < words.len() {
-        return words[p] & 0x0fff_ffff;
-    }
-    0
-}
-
-// Whether a word is there and has the kind that is due.
-pub fn is_due(words: &[u32], p: usize, kind: u32) -> bool
-    ensures { λ r. ⌜ r ≡ spec.isDue (now (words .entry)) p kind ⌝ }
-{
-    if p < words.len() {
-        return words[p] >> 28 == kind;
-    }
-    false
-}
-
-// A word of a kind whose payload passes a test, or the status of the failed test.
-pub fn tested(words: &[u32], p: usize, kind: u32, holds: bool, status: u8) -> Step
-    ensures { λ r. ⌜ r ≡ spec.tested (now (words .entry)) p kind holds status ⌝ }
-{
-    if !is_due(words, p, kind) {
-        return stop(format::BAD_WORD, p);
-    }
-    if !holds {
-        return stop(status, p);
-    }
-    go(p + 1)
-}
-
-// A word of a kind with a payload below a limit.
-pub fn below(words: &[u32], p: usize, kind: u32, limit: u32) -> Step
-    ensures { λ r. ⌜ r ≡ spec.below (now (words .entry)) p kind limit ⌝ }
-{
-    tested(
-        words,
-        p,
-        kind,
-        payload(words, p) < limit,
-        group::BAD_PAYLOAD,
-    )
-}
 
 pub fn check_head(words: &[u32], d: usize, w: usize) -> Step
     requires { ⌜ d ≤ 8 ⌝ }
     ensures { λ r. ⌜ r ≡ checkHead d w (now (words .entry)) ⌝ }
 {
-    let s = below(words, 0, format::HEAD, 512);
+    let s = below(words, 0, word::HEAD, 512);
     if s.status != 0 {
         return s;
     }
     tested(
         words,
         0,
-        format::HEAD,
+        word::HEAD,
         payload(words, 0) == log_width(w) * 16 + d as u32,
         format::OTHER_METER,
     )
@@ -203,7 +140,7 @@ pub fn check_end(words: &[u32], p: usize) -> Step
     let s = tested(
         words,
         p,
-        format::END,
+        word::END,
         payload(words, p) == (p % 268435456) as u32,
         group::BAD_PAYLOAD,
     );
@@ -211,7 +148,7 @@ pub fn check_end(words: &[u32], p: usize) -> Step
         return s;
     }
     if words.len() != s.position {
-        return stop(format::BAD_WORD, s.position);
+        return stop(word::BAD_WORD, s.position);
     }
     s
 }

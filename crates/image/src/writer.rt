@@ -199,7 +199,7 @@ pub fn put_image(words: &mut [u32], memory: &[u8], d: usize, w: usize)
     requires { ⌜ d * stride w ≤ length (now memory) ⌝ ∗ ⌜ w ≤ 65536 ⌝ ∗ ⌜ d ≤ 8 ⌝ ∗ ⌜ length (image d w (now memory)) ≤ length (now words) ⌝ }
     ensures { λ _. ⌜ now (words .exit) ≡ image d w (now (memory .entry)) ++ drop (length (image d w (now (memory .entry)))) (now (words .entry)) ⌝ }
 {
-    words[0] = word(format::HEAD, log_width(w) * 16 + d as u32);
+    words[0] = word(word::HEAD, log_width(w) * 16 + d as u32);
     let end = put_rows(words, 1, memory, d, w);
-    words[end] = word(format::END, (end % 268435456) as u32);
+    words[end] = word(word::END, (end % 268435456) as u32);
 }

@@ -3,7 +3,7 @@ use Prim.Native.Nat.{_/_}
 use native.Mathlib.Omega.{arith}
 use native.Mathlib.Nat.{mul-le-mul-right}
 use Rattle.image.specs.Read.{checked}
-use Rattle.image.proofs.Laws.{turn, halt}
+use Rattle.word.proofs.Laws.{turn, halt}
 use borrow.Author.Needs.{needs}
 use Rattle.image.proofs.reader.check.Statement.{statement}
 use Rattle.image.proofs.reader.check.Tie as tie

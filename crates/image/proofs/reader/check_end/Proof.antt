@@ -1,12 +1,12 @@
 use Rattle.group.specs.Status.{badPayload}
-use Rattle.image.specs.Image.{endKind}
 use mathlib.Core.Path.{_≡_, sym, ap, _∙_}
 use Prim.Native.Nat.{ℕ, _%_, _^_}
 use borrow.Author.Tests.{eq-eqb, ne-eqb}
 use lib.Dec.{eqb}
 use lib.ListN.{length}
-use Rattle.image.specs.Read.{payload, tested, checkEnd}
-use Rattle.image.proofs.Laws.{turn, halt}
+use Rattle.word.specs.Word.{endKind, payload, tested}
+use Rattle.image.specs.Read.{checkEnd}
+use Rattle.word.proofs.Laws.{turn, halt}
 use borrow.Author.Needs.{needs}
 use Rattle.image.proofs.reader.check_end.Statement.{statement}
 use Rattle.image.proofs.reader.check_end.Tie as tie

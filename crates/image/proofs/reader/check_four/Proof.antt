@@ -2,7 +2,7 @@ use mathlib.Core.Path.{sym, ap, _∙_}
 use mathlib.Core.List.{List}
 use Prim.Native.Nat.{ℕ}
 use Rattle.image.specs.Read.{checkFour, checkGroups}
-use Rattle.image.proofs.Laws.{turn, halt}
+use Rattle.word.proofs.Laws.{turn, halt}
 use borrow.Author.Needs.{needs}
 use Rattle.image.proofs.reader.check_four.Statement.{statement}
 use Rattle.image.proofs.reader.check_four.Tie as tie

@@ -4,7 +4,8 @@ use native.Mathlib.Omega.{arith}
 use borrow.Author.Needs.{needs}
 use native.Mathlib.Nat.{sub-zero}
 use Rattle.image.specs.Read.{checkFours}
-use Rattle.image.proofs.Laws.{turn, halt, check-fours-step, check-fours-none}
+use Rattle.word.proofs.Laws.{turn, halt}
+use Rattle.image.proofs.Laws.{check-fours-step, check-fours-none}
 use Rattle.image.proofs.reader.check_fours.Statement.{statement}
 use Rattle.image.proofs.reader.check_fours.Tie as tie
 

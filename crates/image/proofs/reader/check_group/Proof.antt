@@ -3,7 +3,8 @@ use Prim.Native.Nat.{_-_, _≤_}
 use native.Mathlib.Omega.{arith}
 use borrow.Author.Needs.{needs}
 use Rattle.image.specs.Read.{checkSlots}
-use Rattle.image.proofs.Laws.{turn, halt, check-slots-step, check-slots-none}
+use Rattle.word.proofs.Laws.{turn, halt}
+use Rattle.image.proofs.Laws.{check-slots-step, check-slots-none}
 use Rattle.image.proofs.reader.check_group.Statement.{statement}
 use Rattle.image.proofs.reader.check_group.Tie as tie
 

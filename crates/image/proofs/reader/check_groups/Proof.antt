@@ -4,7 +4,8 @@ use native.Mathlib.Omega.{arith}
 use borrow.Author.Needs.{needs}
 use lib.ListN.{length, drop}
 use Rattle.image.specs.Read.{checkGroups}
-use Rattle.image.proofs.Laws.{turn, halt, check-groups-step, check-groups-none}
+use Rattle.word.proofs.Laws.{turn, halt}
+use Rattle.image.proofs.Laws.{check-groups-step, check-groups-none}
 use Rattle.image.proofs.reader.check_groups.Statement.{statement}
 use Rattle.image.proofs.reader.check_groups.Tie as tie
 

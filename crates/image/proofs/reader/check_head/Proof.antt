@@ -1,9 +1,10 @@
 use mathlib.Core.Path.{sym, ap₂, _∙_}
 use Prim.Native.Nat.{ℕ, _+_, _*_}
 use lib.Dec.{eqb}
-use Rattle.image.specs.Read.{checkHead, tested, otherMeter}
-use Rattle.image.specs.Image.{headKind, headPayload}
-use Rattle.image.proofs.Laws.{turn, halt}
+use Rattle.word.specs.Word.{tested, headKind}
+use Rattle.image.specs.Read.{checkHead, otherMeter}
+use Rattle.image.specs.Image.{headPayload}
+use Rattle.word.proofs.Laws.{turn, halt}
 use borrow.Author.Needs.{needs}
 use Rattle.image.proofs.reader.check_head.Statement.{statement}
 use Rattle.image.proofs.reader.check_head.Tie as tie

@@ -1,8 +1,10 @@
 use mathlib.Core.Path.{_≡_, refl, sym, _∙_}
 use native.Mathlib.Omega.{arith}
 use borrow.Author.Needs.{needs}
-use Rattle.image.specs.Read.{below, checkParts}
-use Rattle.image.proofs.Laws.{turn, halt, check-parts-step, check-parts-none}
+use Rattle.word.specs.Word.{below}
+use Rattle.image.specs.Read.{checkParts}
+use Rattle.word.proofs.Laws.{turn, halt}
+use Rattle.image.proofs.Laws.{check-parts-step, check-parts-none}
 use Rattle.image.proofs.reader.check_parts.Statement.{statement}
 use Rattle.image.proofs.reader.check_parts.Tie as tie
 

@@ -1,7 +1,8 @@
 use Rattle.group.specs.declared.Unpacked.{Unpacked}
 use Rattle.group.specs.Pack.{unpacked}
 use mathlib.Core.Path.{ap, _∙_}
-use Rattle.image.specs.Read.{payload, mergesAt}
+use Rattle.word.specs.Word.{payload}
+use Rattle.image.specs.Read.{mergesAt}
 use borrow.Author.Needs.{needs}
 use Rattle.image.proofs.reader.merges_at.Statement.{statement}
 use Rattle.image.proofs.reader.merges_at.Tie as tie

@@ -2,7 +2,8 @@ use mathlib.Core.Path.{_≡_, refl, sym, _∙_}
 use Prim.Native.Nat.{_+_, _≤_}
 use native.Mathlib.Omega.{arith}
 use borrow.Author.Needs.{needs}
-use Rattle.image.specs.Read.{valueFrom, payload}
+use Rattle.word.specs.Word.{payload}
+use Rattle.image.specs.Read.{valueFrom}
 use Rattle.image.proofs.Laws.{value-step, value-none}
 use Rattle.image.proofs.reader.value_at.Statement.{statement}
 use Rattle.image.proofs.reader.value_at.Tie as tie

@@ -3,7 +3,8 @@ use mathlib.Core.List.{List}
 use Prim.Native.Nat.{ℕ, _+_, _*_}
 use native.Mathlib.Omega.{arith}
 use lib.ListN.{length, set, length-set}
-use Rattle.image.specs.Image.{word, headKind, headPayload, endWord}
+use Rattle.word.specs.Word.{headKind}
+use Rattle.image.specs.Image.{word, headPayload, endWord}
 use Rattle.image.proofs.Calls.{image-length, image-put}
 use borrow.Author.Needs.{needs}
 use Rattle.image.proofs.writer.put_image.Statement.{statement}

@@ -1,8 +1,8 @@
 use mathlib.Core.Path.{_∙_}
-use Rattle.image.specs.Read.{payload, tested, below}
+use Rattle.word.specs.Word.{payload, tested, below}
 use borrow.Author.Needs.{needs}
-use Rattle.image.proofs.reader.below.Statement.{statement}
-use Rattle.image.proofs.reader.below.Tie as tie
+use Rattle.word.proofs.below.Statement.{statement}
+use Rattle.word.proofs.below.Tie as tie
 
 payload-requires : tie.Need-payload-requires
 payload-requires c κs = search needs

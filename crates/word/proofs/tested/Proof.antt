@@ -2,11 +2,11 @@ use mathlib.Core.Path.{_≡_, sym, _∙_}
 use mathlib.Core.Bool.{true, false}
 use native.Mathlib.Omega.{arith}
 use borrow.Author.Tests.{not-true, not-false}
-use Rattle.image.specs.Read.{isDue, tested}
-use Rattle.image.proofs.Laws.{due-in}
+use Rattle.word.specs.Word.{isDue, tested}
+use Rattle.word.proofs.Laws.{due-in}
 use borrow.Author.Needs.{needs}
-use Rattle.image.proofs.reader.tested.Statement.{statement}
-use Rattle.image.proofs.reader.tested.Tie as tie
+use Rattle.word.proofs.tested.Statement.{statement}
+use Rattle.word.proofs.tested.Tie as tie
 
 is-due-requires : tie.Need-is-due-requires
 is-due-requires c κs = search needs

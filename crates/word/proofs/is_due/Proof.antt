@@ -1,8 +1,8 @@
 use borrow.Author.Tests.{lt-ltb, le-ltb}
-use Rattle.image.specs.Read.{isDue}
+use Rattle.word.specs.Word.{isDue}
 use borrow.Author.Needs.{needs}
-use Rattle.image.proofs.reader.is_due.Statement.{statement}
-use Rattle.image.proofs.reader.is_due.Tie as tie
+use Rattle.word.proofs.is_due.Statement.{statement}
+use Rattle.word.proofs.is_due.Tie as tie
 
 mul-result : tie.Need-mul-result
 mul-result c = search needs

@@ -2,11 +2,11 @@ use lib.ListN.{List·getD-eq-default, getD}
 use mathlib.Core.Path.{sym, ap}
 use Prim.Native.Nat.{ℕ, _%_, _^_}
 use native.Mathlib.Omega.{arith}
-use Rattle.image.specs.Read.{payload}
+use Rattle.word.specs.Word.{payload}
 use lib.Bits.{and-mask}
 use borrow.Author.Needs.{needs}
-use Rattle.image.proofs.reader.payload.Statement.{statement}
-use Rattle.image.proofs.reader.payload.Tie as tie
+use Rattle.word.proofs.payload.Statement.{statement}
+use Rattle.word.proofs.payload.Tie as tie
 
 mul-result : tie.Need-mul-result
 mul-result c = search needs

@@ -1,0 +1,135 @@
+-- Laws of a feed's words that the code's proofs use.
+use mathlib.Core.Path.{_≡_, refl, ap}
+use mathlib.Core.Bool.{Bool, true, false, cond, _&&_}
+use mathlib.Core.List.{List, [], _∷_, _++_}
+use Prim.Native.Nat.{ℕ, zero, suc, _+_, _-_, _*_, _%_, _^_, _≤_, _<_}
+use native.Mathlib.Nat.{one-mul, mod-eq-of-lt, add-zero, sub-zero}
+use native.Mathlib.Numerals.{add-one, sub-one}
+use native.Mathlib.Omega.{arith}
+use lib.ListN.{length, take}
+use lib.Dec.{eqb, leb}
+use borrow.Author.Tests.{leb-true, eq-eqb, ne-eqb}
+use lib.Pow.{pow-mono}
+use Rattle.row.specs.Order.{badShape}
+use Rattle.meter.specs.Meter.{estimated}
+use Rattle.word.specs.Word.{endKind, go, next, payload, isDue}
+use Rattle.word.proofs.Laws.{both}
+use types.Run.{OneOf}
+use denote.Enum.Declared.{tagOf}
+use Rattle.feed.specs.declared.words.Opening.{Opening}
+use Rattle.feed.specs.declared.words.Opening.the-variants as opening
+use Rattle.feed.specs.declared.words.Body.{Body}
+use Rattle.feed.specs.declared.words.Body.the-variants as body
+use Rattle.group.specs.declared.Answer.{Answer}
+use Rattle.feed.specs.declared.Recorded.{Recorded}
+use Rattle.feed.specs.declared.Recorded.the-variants as case
+use Rattle.feed.proofs.words.Opening as the-opening
+use Rattle.feed.proofs.words.Body as the-body
+use Rattle.feed.specs.Answers.{bodyAnswer}
+use Rattle.feed.specs.Record.{rejection, outcomeOf, carriedUpdate, queried, carried, carriedAfter, recorded}
+use Rattle.feed.specs.Words.{updateKind, queryKind, opensKey, opened, keyWord, checkKey, keyByte, keyFrom, keyOf}
+
+-- a shift of 1 by a logarithm loses no bits
+pub one-shl : (k : ℕ) → k < 32 → 1 * 2 ^ k % 2 ^ 64 ≡ 2 ^ k
+one-shl k h = rw one-mul (mod-eq-of-lt {n = 2 ^ k} {m = 2 ^ 64} (omega (arith, pow-mono {i = k} {j = 32} (omega arith))))
+
+pub key-step : (k n : ℕ) (words : List ℕ) (p : ℕ) → 0 < k → checkKey k n words p ≡ next (keyWord n words p) (λ q. checkKey (k - 1) (n - 3) words q)
+unfolding checkKey
+key-step zero n words p h = absurd (omega arith)
+key-step (suc k) n words p h = rw (sub-one (suc k))
+
+pub key-none : (k n : ℕ) (words : List ℕ) (p : ℕ) → k ≡ 0 → checkKey k n words p ≡ go p
+unfolding checkKey
+key-none k n words p e = rw e
+
+-- one byte more of a key
+pub key-more : (n : ℕ) (words : List ℕ) (i : ℕ) → keyFrom (suc n) words i ≡ keyFrom n words i ++ (keyByte words (i + n) ∷ [])
+unfolding keyFrom
+key-more zero words i = rw add-zero
+key-more (suc n) words i =
+    let e : i + 1 + n ≡ i + suc n = omega arith in
+    ap (λ (k : List ℕ). keyByte words i ∷ k) (rw e at (key-more n words (i + 1)))
+
+-- The tag of a body: 0 where its words are sound, 1 where it is refused. A branch that binds no field knows the tag alone.
+abbrev pub HasTag : ℕ → Body → Type 0
+HasTag t b = OneOf (t ∷ []) (tagOf the-body.the-type b)
+
+pub sound-answer : (b : Body) → HasTag 0 b → rejection (bodyAnswer b) ≡ case.Rejected 0 0
+sound-answer (body.Sound a) h = refl
+sound-answer (body.Refused s p) h = absurd (omega arith)
+
+pub update-refused : (d w : ℕ) (memory : List ℕ) (n : ℕ) (words : List ℕ) (b : Body) → HasTag 1 b
+    → carriedUpdate d w memory n words b ≡ record { outcome = rejection (bodyAnswer b); memory = memory }
+unfolding carriedUpdate
+update-refused d w memory n words (body.Sound a) h = absurd (omega arith)
+update-refused d w memory n words (body.Refused s p) h = refl
+
+pub query-refused : (d w : ℕ) (memory : List ℕ) (n : ℕ) (words : List ℕ) (b : Body) → HasTag 1 b → queried d w memory n words b ≡ rejection (bodyAnswer b)
+unfolding queried
+query-refused d w memory n words (body.Sound a) h = absurd (omega arith)
+query-refused d w memory n words (body.Refused s p) h = refl
+
+pub query-sound : (d w : ℕ) (memory : List ℕ) (n : ℕ) (words : List ℕ) (b : Body) → HasTag 0 b
+    → queried d w memory n words b ≡ outcomeOf (estimated d w memory (keyOf n words)) (case.Estimate (estimated d w memory (keyOf n words) .value))
+unfolding queried
+query-sound d w memory n words (body.Sound a) h = refl
+query-sound d w memory n words (body.Refused s p) h = absurd (omega arith)
+
+-- the third of the cases of an opening
+pub is-end : (o : Opening) → OneOf (2 ∷ []) (tagOf the-opening.the-type o) → o ≡ opening.End
+is-end (opening.Update n) h = absurd (omega arith)
+is-end (opening.Query n) h = absurd (omega arith)
+is-end opening.End h = refl
+is-end (opening.Refused s) h = absurd (omega arith)
+
+-- the key length of an opened record
+abbrev pub lengthIn : Opening → ℕ
+lengthIn (opening.Update n) = n
+lengthIn (opening.Query n) = n
+lengthIn opening.End = 0
+lengthIn (opening.Refused s) = 0
+
+either-short : (t : Bool) (a b : Opening) → lengthIn a ≤ 64 → lengthIn b ≤ 64 → lengthIn (cond t a b) ≤ 64
+either-short true a b h k = h
+either-short false a b h k = k
+
+key-short : (n : ℕ) (o : Opening) → lengthIn o ≡ n → lengthIn (opensKey n o) ≤ 64
+unfolding opensKey
+key-short n o e = test (leb 1 n && leb n 64) refl
+  where
+    test : (t : Bool) → (leb 1 n && leb n 64) ≡ t → lengthIn (cond (eqb (cond t 0 4) 0) o (opening.Refused (cond t 0 4))) ≤ 64
+    test true h = rw e (leb-true n 64 (both (leb 1 n) (leb n 64) h .1))
+    test false h = omega arith
+
+pub opened-short : (before : ℕ) (words : List ℕ) → lengthIn (opened before words) ≤ 64
+unfolding opened
+opened-short before words =
+    either-short (isDue words 0 updateKind) _ _ (key-short (payload words 0) (opening.Update (payload words 0)) refl)
+    (either-short (isDue words 0 queryKind) _ _ (key-short (payload words 0) (opening.Query (payload words 0)) refl)
+    (either-short (isDue words 0 endKind) _ _
+    (either-short (eqb (payload words 0) (before % 2 ^ 28)) opening.End (opening.Refused 9) (omega arith) (omega arith)) (omega arith)))
+
+-- the outcome by an answer, as the code finds it
+pub outcome-rejected : (a : Answer) (r : Recorded) → (a .status ≡ 0 → ⊥) → outcomeOf a r ≡ rejection a
+unfolding outcomeOf
+outcome-rejected a r h = rw (ne-eqb (a .status) 0 h)
+
+pub outcome-accepted : (a : Answer) (r : Recorded) → a .status ≡ 0 → outcomeOf a r ≡ r
+unfolding outcomeOf
+outcome-accepted a r h = rw (eq-eqb (a .status) 0 h)
+
+-- the part of a buffer that is lent
+pub lent : (n : ℕ) (xs ys : List ℕ) → take n xs ≡ ys → take (n - 0) xs ≡ ys
+lent n xs ys e = rw (sub-zero n) e
+
+-- a call whose own arguments pass, and one whose do not
+pub record-good : (d w : ℕ) (memory : List ℕ) (before : ℕ) (words : List ℕ) → badShape d w (length memory) ≡ 0
+    → recorded d w memory before words ≡ carried d w memory words (opened before words)
+unfolding recorded carriedAfter
+record-good d w memory before words e = rw e
+
+pub record-bad : (d w : ℕ) (memory : List ℕ) (before : ℕ) (words : List ℕ) (s : ℕ) → badShape d w (length memory) ≡ s → (s ≡ 0 → ⊥)
+    → recorded d w memory before words ≡ record { outcome = case.Rejected s 0; memory = memory }
+unfolding recorded carriedAfter
+record-bad d w memory before words zero e h = absurd (h refl)
+record-bad d w memory before words (suc s) e h = rw e

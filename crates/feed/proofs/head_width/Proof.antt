@@ -1,0 +1,20 @@
+use Prim.Native.Nat.{_/_, _%_}
+use native.Mathlib.Omega.{arith}
+use Rattle.feed.specs.Head.{headWidth}
+use Rattle.feed.proofs.Laws.{one-shl}
+use borrow.Author.Needs.{needs}
+use Rattle.feed.proofs.head_width.Statement.{statement}
+use Rattle.feed.proofs.head_width.Tie as tie
+
+cast-result : tie.Need-cast-result
+cast-result c = search needs
+
+shl-result : tie.Need-shl-result
+shl-result c = search needs
+
+returns : tie.Need-returns
+unfolding headWidth
+returns c = one-shl (c .args .payload / 16 % 32) (omega arith)
+
+pub head-width-spec : {M : Type 1} → statement M
+head-width-spec = tie.close (tie.spec cast-result shl-result returns)

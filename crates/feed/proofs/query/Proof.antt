@@ -1,0 +1,105 @@
+use Rattle.group.specs.declared.Answer.{Answer}
+use Rattle.feed.specs.declared.Recorded.{Recorded}
+use Rattle.feed.specs.declared.Recorded.the-variants as case
+use Rattle.feed.proofs.Laws.{lent, outcome-rejected, outcome-accepted}
+use mathlib.Core.Path.{_≡_, refl, sym, ap, _∙_}
+use borrow.Author.Tests.{eq-eqb, ne-eqb}
+use Rattle.feed.specs.Words.{queryBody, keyOf}
+use Rattle.feed.specs.Record.{rejection, outcomeOf, queried}
+use Rattle.feed.proofs.Laws.{query-refused, query-sound}
+use Rattle.meter.specs.Meter.{estimated}
+use Prim.Native.Nat.{ℕ}
+use borrow.Author.Needs.{needs}
+use Rattle.feed.proofs.query.Statement.{statement}
+use Rattle.feed.proofs.query.Tie as tie
+
+-- the estimate that was called, and what the record makes of it
+abbrev called : tie.After-estimate → Answer
+called k =
+    let a = k .before .before .before .before .before .before .before .before .before .args in
+    estimated (a .d) (a .w) (a .memory .now) (keyOf (a .n) (a .words .now))
+
+abbrev meant : tie.After-estimate → Recorded
+meant k =
+    let a = k .before .before .before .before .before .before .before .before .before .args in
+    queried (a .d) (a .w) (a .memory .now) (a .n) (a .words .now) (queryBody (a .n) (a .words .now))
+
+called-is : (k : tie.After-estimate) → k .estimate .result ≡ called k
+called-is k =
+    let g = k .before .before .before in
+    let a = g .before .before .before .before .before .before .args in
+    k .estimate .ensures
+    ∙ ap (estimated (a .d) (a .w) (a .memory .now)) (lent (a .n) (g .key-of .result) (keyOf (a .n) (a .words .now)) (g .key-of .ensures))
+
+meant-is : (k : tie.After-estimate) → meant k ≡ outcomeOf (called k) (case.Estimate (called k .value))
+meant-is k =
+    let g = k .before .before .before in
+    let b = g .before .before .before in
+    let a = b .before .before .before .args in
+    rw (← b .query-body .ensures) (query-sound (a .d) (a .w) (a .memory .now) (a .n) (a .words .now) (b .query-body .result) (g .before .before .match .keys1))
+
+query-body-requires : tie.Need-query-body-requires
+query-body-requires c κs = search needs
+
+enum-told : tie.Need-enum-told
+enum-told c = search needs
+
+enum-told-2 : tie.Need-enum-told-2
+enum-told-2 c = search needs
+
+refused-requires : tie.Need-refused-requires
+refused-requires c κs = search needs
+
+returns : tie.Need-returns
+returns c = let u = c .before .before .before .query-body in
+    let a = c .before .before .before .before .before .before .args in
+    let e = query-refused (a .d) (a .w) (a .memory .now) (a .n) (a .words .now) (u .result) (c .before .before .match .keys2) in
+    rw (← u .ensures, e) (c .refused .ensures)
+
+key-of-requires : tie.Need-key-of-requires
+key-of-requires c κs = search needs
+
+sub-estimate : tie.Need-sub-estimate
+sub-estimate c = search needs
+
+part-estimate-start : tie.Need-part-estimate-start
+part-estimate-start c = search needs
+
+part-estimate-end : tie.Need-part-estimate-end
+part-estimate-end c = search needs
+
+estimate-requires : tie.Need-estimate-requires
+estimate-requires c κs = search needs
+
+rejection-requires : tie.Need-rejection-requires
+rejection-requires c κs = search needs
+
+returns-2 : tie.Need-returns-2
+returns-2 c = let k = c .before .before .before in
+    let z = called-is k in
+    let t = outcome-rejected (called k) (case.Estimate (called k .value)) (λ h. c .before .if1 .taken (ap (λ (x : Answer). x .status) z ∙ h)) in
+    c .rejection .ensures ∙ ap rejection z ∙ sym t ∙ sym (meant-is k)
+
+returns-3 : tie.Need-returns-3
+returns-3 c = let k = c .before .before in
+    let z = called-is k in
+    let t = outcome-accepted (called k) (case.Estimate (called k .value)) (ap (λ (x : Answer). x .status) (sym z) ∙ c .if1 .left) in
+    ap (λ (x : Answer). case.Estimate (x .value)) z ∙ sym t ∙ sym (meant-is k)
+
+pub query-spec : {M : Type 1} → statement M
+query-spec =
+    tie.close
+    (tie.spec
+    query-body-requires
+    enum-told
+    enum-told-2
+    refused-requires
+    returns
+    key-of-requires
+    sub-estimate
+    part-estimate-start
+    part-estimate-end
+    estimate-requires
+    rejection-requires
+    returns-2
+    returns-3)

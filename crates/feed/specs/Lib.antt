@@ -1,0 +1,4 @@
+pub mod Answers
+pub mod Head
+pub mod Words
+pub mod Record

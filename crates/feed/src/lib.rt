@@ -1,0 +1,181 @@
+// Feeds: one call for the head, and one for each record and for the end. Both take any words, and look at none past the record.
+mod words;
+
+use group::Answer;
+use words::Body;
+use words::Opening;
+ghost use mathlib.Core.Path.{_≡_};
+ghost use Prim.Native.Nat.{_<_, _≤_};
+ghost use Rattle.feed.specs.Answers as answers;
+ghost use Rattle.feed.specs.Answers.{bodyAnswer, recordAnswer};
+ghost use Rattle.feed.specs.Head.{headDepth, headWidth, badGeometry, headed};
+ghost use Rattle.feed.specs.Words.{wordsTaken, updateBody, queryBody};
+ghost use Rattle.feed.specs.Record as spec;
+ghost use Rattle.feed.specs.Record.{outcomeOf, carriedUpdate, queried, recorded};
+
+// What a record or the end did.
+pub enum Recorded {
+    Updated,
+    Estimate { value: u64 },
+    Ended,
+    Rejected { status: u8, position: u64 },
+}
+
+// The number, place and figure of a record.
+pub fn answer(r: Recorded) -> Answer
+    ensures { λ a. ⌜ a ≡ recordAnswer r ⌝ }
+{
+    match r {
+        Recorded::Updated => row::answer(0, 0),
+        Recorded::Estimate { value } => row::answer(0, value),
+        Recorded::Ended => row::answer(0, 0),
+        Recorded::Rejected { status, position } => Answer {
+            status,
+            position,
+            value: 0,
+        },
+    }
+}
+
+// The depth and the width that a head's payload gives.
+pub fn head_depth(payload: u32) -> usize
+    ensures { λ r. ⌜ r ≡ headDepth payload ⌝ }
+{
+    (payload % 16) as usize
+}
+
+pub fn head_width(payload: u32) -> usize
+    ensures { λ r. ⌜ r ≡ headWidth payload ⌝ }
+{
+    1 << (payload / 16 % 32)
+}
+
+fn bad_geometry(payload: u32) -> u8
+    ensures { λ r. ⌜ r ≡ badGeometry payload ⌝ }
+{
+    if !row::valid_depth(head_depth(payload)) {
+        return 1;
+    }
+    if !row::valid_width(head_width(payload)) {
+        return 2;
+    }
+    0
+}
+
+fn faulty(status: u8, position: usize) -> Answer
+    ensures { λ r. ⌜ r ≡ answers.faulty status position ⌝ }
+{
+    Answer {
+        status,
+        position: position as u64,
+        value: 0,
+    }
+}
+
+// The head of a feed. The value of an accepted head is its payload.
+pub fn head(words: &[u32]) -> Answer
+    ensures { λ r. ⌜ r ≡ headed (now (words .entry)) ⌝ }
+{
+    let s = word::below(words, 0, word::HEAD, 512);
+    if s.status != 0 {
+        return faulty(s.status, s.position);
+    }
+    let payload = word::payload(words, 0);
+    let bad = bad_geometry(payload);
+    if bad != 0 {
+        return faulty(bad, 0);
+    }
+    row::answer(0, payload as u64)
+}
+
+// The number of words that a record or the end takes.
+pub fn words_taken(words: &[u32]) -> usize
+    ensures { λ r. ⌜ r ≡ wordsTaken (now (words .entry)) ⌝ }
+{
+    let n = words::key_words(word::payload(words, 0) as usize);
+    if word::is_due(words, 0, words::UPDATE) {
+        return 1 + n + 2;
+    }
+    if word::is_due(words, 0, words::QUERY) {
+        return 1 + n;
+    }
+    1
+}
+
+fn rejection(a: Answer) -> Recorded
+    ensures { λ r. ⌜ r ≡ spec.rejection a ⌝ }
+{
+    Recorded::Rejected {
+        status: a.status,
+        position: a.position,
+    }
+}
+
+// A rejection by a faulty word.
+fn refused(b: Body) -> Recorded
+    ensures { λ r. ⌜ r ≡ spec.rejection (bodyAnswer b) ⌝ }
+{
+    match b {
+        Body::Sound { amount: _ } => rejection(faulty(0, 0)),
+        Body::Refused { status, position } => Recorded::Rejected { status, position },
+    }
+}
+
+// An update by record, with a key of n bytes.
+fn update(d: usize, w: usize, memory: &mut [u8], n: usize, words: &[u32]) -> Recorded
+    requires { ⌜ n ≤ 64 ⌝ }
+    ensures { λ r. ⌜ r ≡ carriedUpdate d w (now (memory .entry)) n (now (words .entry)) (updateBody n (now (words .entry))) .outcome ⌝ }
+    ensures { λ r. ⌜ now (memory .exit) ≡ carriedUpdate d w (now (memory .entry)) n (now (words .entry)) (updateBody n (now (words .entry))) .memory ⌝ }
+{
+    let b = words::update_body(words, n);
+    let Body::Sound { amount } = b else {
+        return refused(b);
+    };
+    let key = words::key_of(words, n);
+    let a = meter::update(d, w, memory, &key[0..n], amount);
+    if a.status != 0 {
+        return rejection(a);
+    }
+    Recorded::Updated
+}
+
+// A query, with a key of n bytes.
+fn query(d: usize, w: usize, memory: &[u8], n: usize, words: &[u32]) -> Recorded
+    requires { ⌜ n ≤ 64 ⌝ }
+    ensures { λ r. ⌜ r ≡ queried d w (now (memory .entry)) n (now (words .entry)) (queryBody n (now (words .entry))) ⌝ }
+{
+    let b = words::query_body(words, n);
+    let Body::Sound { amount: _ } = b else {
+        return refused(b);
+    };
+    let key = words::key_of(words, n);
+    let a = meter::estimate(d, w, memory, &key[0..n]);
+    if a.status != 0 {
+        return rejection(a);
+    }
+    Recorded::Estimate { value: a.value }
+}
+
+// One update or query, or the end, after so many words of the feed.
+pub fn record(d: usize, w: usize, memory: &mut [u8], before: u64, words: &[u32]) -> Recorded
+    ensures { λ r. ⌜ r ≡ recorded d w (now (memory .entry)) before (now (words .entry)) .outcome ⌝ }
+    ensures { λ r. ⌜ now (memory .exit) ≡ recorded d w (now (memory .entry)) before (now (words .entry)) .memory ⌝ }
+{
+    let bad = row::bad_shape(d, w, memory.len());
+    if bad != 0 {
+        return Recorded::Rejected {
+            status: bad,
+            position: 0,
+        };
+    }
+    let first = words::first_word(before, words);
+    match first {
+        Opening::Update { length } => update(d, w, memory, length, words),
+        Opening::Query { length } => query(d, w, memory, length, words),
+        Opening::End => Recorded::Ended,
+        Opening::Refused { status } => Recorded::Rejected {
+            status,
+            position: 0,
+        },
+    }
+}

@@ -1,0 +1,207 @@
+// The words of a record. A record's key words are looked at only after its kind and key length pass.
+use word::Step;
+use word::below;
+use word::go;
+use word::is_due;
+use word::payload;
+use word::tested;
+ghost use mathlib.Core.Path.{_≡_};
+ghost use Prim.Native.Nat.{_+_, _-_, _*_, _^_, _<_, _≤_};
+ghost use lib.ListN.{take};
+ghost use Rattle.feed.specs.Words.{opensKey, opened, keyWords, keyPayload, keyWord, checkKey, checkAmount, keyByte, keyOf, amountOf, updateStep, bodyOf, updateBody, queryBody};
+
+// The kinds of a record's words.
+pub const UPDATE: u32 = 5;
+
+pub const QUERY: u32 = 6;
+
+pub const KEY: u32 = 7;
+
+pub const AMOUNT: u32 = 8;
+
+// What a first word opens.
+pub enum Opening {
+    Update { length: usize },
+    Query { length: usize },
+    End,
+    Refused { status: u8 },
+}
+
+// The words after the first: the amount of an update, 0 for a query.
+pub enum Body {
+    Sound { amount: u32 },
+    Refused { status: u8, position: u64 },
+}
+
+// A record is opened only if its key has 1 to 64 bytes.
+fn opens_key(n: u32, o: Opening) -> Opening
+    ensures { λ r. ⌜ r ≡ opensKey n o ⌝ }
+{
+    let bad = row::bad_key(n as usize);
+    if bad != 0 {
+        return Opening::Refused { status: bad };
+    }
+    o
+}
+
+// The first word of a record, or the end after so many words.
+pub fn first_word(before: u64, words: &[u32]) -> Opening
+    ensures { λ r. ⌜ r ≡ opened before (now (words .entry)) ⌝ }
+{
+    let n = payload(words, 0);
+    if is_due(words, 0, UPDATE) {
+        return opens_key(n, Opening::Update { length: n as usize });
+    }
+    if is_due(words, 0, QUERY) {
+        return opens_key(n, Opening::Query { length: n as usize });
+    }
+    if !is_due(words, 0, word::END) {
+        return Opening::Refused {
+            status: word::BAD_WORD,
+        };
+    }
+    if n as u64 != before % 268435456 {
+        return Opening::Refused {
+            status: group::BAD_PAYLOAD,
+        };
+    }
+    Opening::End
+}
+
+// The number of words of a key, three bytes a word.
+pub fn key_words(n: usize) -> usize
+    requires { ⌜ n < 2 ^ 32 ⌝ }
+    ensures { λ r. ⌜ r ≡ keyWords n ⌝ }
+{
+    (n + 2) / 3
+}
+
+// What the payload of a key's last word is a multiple of.
+fn unused(n: usize) -> u32
+    requires { ⌜ 1 ≤ n ⌝ }
+    ensures { λ r. ⌜ r ≡ 2 ^ (8 * (3 - n)) ⌝ }
+    ensures { λ r. ⌜ 1 ≤ r ⌝ }
+{
+    if n == 1 {
+        return 65536;
+    }
+    if n == 2 {
+        return 256;
+    }
+    1
+}
+
+// Whether a key word may have this payload, with n bytes of the key left.
+fn key_payload(n: usize, v: u32) -> bool
+    requires { ⌜ 1 ≤ n ⌝ }
+    ensures { λ r. ⌜ r ≡ keyPayload n v ⌝ }
+{
+    if v >= 16777216 {
+        return false;
+    }
+    v % unused(n) == 0
+}
+
+// The key word at a position, with n bytes of the key left.
+fn key_word(words: &[u32], p: usize, n: usize) -> Step
+    requires { ⌜ 1 ≤ n ⌝ }
+    ensures { λ r. ⌜ r ≡ keyWord n (now (words .entry)) p ⌝ }
+{
+    let holds = key_payload(n, payload(words, p));
+    tested(words, p, KEY, holds, group::BAD_PAYLOAD)
+}
+
+// The key words of a record.
+pub fn check_key(words: &[u32], n: usize) -> Step
+    requires { ⌜ n < 2 ^ 32 ⌝ }
+    ensures { λ r. ⌜ r ≡ checkKey (keyWords n) n (now (words .entry)) 1 ⌝ }
+{
+    let mut at = 1;
+    for i in 0..key_words(n) {
+        let s = key_word(words, at, n - 3 * i);
+        if s.status != 0 {
+            return s;
+        }
+        at = s.position;
+    }
+    go(at)
+}
+
+// Two words with 16 bits of an amount each.
+pub fn check_amount(words: &[u32], p: usize) -> Step
+    ensures { λ r. ⌜ r ≡ checkAmount (now (words .entry)) p ⌝ }
+{
+    let s = below(words, p, AMOUNT, 65536);
+    if s.status != 0 {
+        return s;
+    }
+    below(words, s.position, AMOUNT, 65536)
+}
+
+// The words after an update's first.
+pub fn check_update(words: &[u32], n: usize) -> Step
+    requires { ⌜ n < 2 ^ 32 ⌝ }
+    ensures { λ r. ⌜ r ≡ updateStep n (now (words .entry)) ⌝ }
+{
+    let s = check_key(words, n);
+    if s.status != 0 {
+        return s;
+    }
+    check_amount(words, s.position)
+}
+
+// The amount of an update, high part first.
+fn amount_of(words: &[u32], n: usize) -> u32
+    requires { ⌜ n < 2 ^ 32 ⌝ }
+    ensures { λ r. ⌜ r ≡ amountOf n (now (words .entry)) ⌝ }
+{
+    let p = key_words(n);
+    payload(words, 1 + p) % 65536 * 65536 + payload(words, 2 + p) % 65536
+}
+
+fn body_of(s: Step, amount: u32) -> Body
+    ensures { λ r. ⌜ r ≡ bodyOf s amount ⌝ }
+{
+    if s.status != 0 {
+        return Body::Refused {
+            status: s.status,
+            position: s.position as u64,
+        };
+    }
+    Body::Sound { amount }
+}
+
+pub fn update_body(words: &[u32], n: usize) -> Body
+    requires { ⌜ n < 2 ^ 32 ⌝ }
+    ensures { λ r. ⌜ r ≡ updateBody n (now (words .entry)) ⌝ }
+{
+    let s = check_update(words, n);
+    body_of(s, amount_of(words, n))
+}
+
+pub fn query_body(words: &[u32], n: usize) -> Body
+    requires { ⌜ n < 2 ^ 32 ⌝ }
+    ensures { λ r. ⌜ r ≡ queryBody n (now (words .entry)) ⌝ }
+{
+    body_of(check_key(words, n), 0)
+}
+
+// Byte i of a record's key; the earliest byte of a word is the highest.
+fn key_byte(words: &[u32], i: usize) -> u8
+    ensures { λ r. ⌜ r ≡ keyByte (now (words .entry)) i ⌝ }
+{
+    let shift = 8 * (2 - (i % 3) as u32);
+    ((payload(words, 1 + i / 3) >> shift) % 256) as u8
+}
+
+// The key of a record, followed by zeros.
+pub fn key_of(words: &[u32], n: usize) -> [u8; 64]
+    requires { ⌜ n ≤ 64 ⌝ }
+    ensures { λ r. ⌜ take n r ≡ keyOf n (now (words .entry)) ⌝ }
+{
+    let mut key = [0u8; 64];
+    for i in 0..n {
+        key[i] = key_byte(words, i);
+    }
+    key
+}
