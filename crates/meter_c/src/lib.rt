@@ -5,6 +5,9 @@ ghost use Rattle.group.specs.Pack.{packed, unpacked};
 ghost use Rattle.meter.specs.Meter.{cleared, updated, estimated, widest, united};
 ghost use Rattle.image.specs.Write.{written};
 ghost use Rattle.image.specs.Read.{taken};
+ghost use Rattle.feed.specs.Answers.{recordAnswer};
+ghost use Rattle.feed.specs.Head.{headed};
+ghost use Rattle.feed.specs.Record.{recorded};
 
 // Document 01's place and figure written where the host wants them, and its number.
 fn give(a: Answer, place: &mut u64, figure: &mut u64) -> u32
@@ -165,4 +168,35 @@ pub extern "C" fn meter_image_read(
     ensures { λ _. ⌜ now (memory .exit) ≡ taken d w (now (memory .entry)) (now (words .entry)) .memory ⌝ }
 {
     give(image::read(d, w, memory, words), place, figure)
+}
+
+#[no_mangle]
+pub extern "C" fn meter_feed_head(words: &[u32], place: &mut u64, figure: &mut u64) -> u32
+    ensures { λ r. ⌜ r ≡ headed (now (words .entry)) .status ⌝ }
+    ensures { λ _. ⌜ now (place .exit) ≡ headed (now (words .entry)) .position ⌝ }
+    ensures { λ _. ⌜ now (figure .exit) ≡ headed (now (words .entry)) .value ⌝ }
+{
+    give(feed::head(words), place, figure)
+}
+
+#[no_mangle]
+pub extern "C" fn meter_feed_record(
+    d: usize,
+    w: usize,
+    memory: &mut [u8],
+    before: u64,
+    words: &[u32],
+    place: &mut u64,
+    figure: &mut u64,
+) -> u32
+    ensures { λ r. ⌜ r ≡ recordAnswer (recorded d w (now (memory .entry)) before (now (words .entry)) .outcome) .status ⌝ }
+    ensures { λ _. ⌜ now (place .exit) ≡ recordAnswer (recorded d w (now (memory .entry)) before (now (words .entry)) .outcome) .position ⌝ }
+    ensures { λ _. ⌜ now (figure .exit) ≡ recordAnswer (recorded d w (now (memory .entry)) before (now (words .entry)) .outcome) .value ⌝ }
+    ensures { λ _. ⌜ now (memory .exit) ≡ recorded d w (now (memory .entry)) before (now (words .entry)) .memory ⌝ }
+{
+    give(
+        feed::answer(feed::record(d, w, memory, before, words)),
+        place,
+        figure,
+    )
 }
