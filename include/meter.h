@@ -72,6 +72,17 @@ uint32_t meter_image_write(size_t d, size_t w, const uint8_t *memory, size_t mem
 uint32_t meter_image_read(size_t d, size_t w, uint8_t *memory, size_t memory_len, const uint32_t *words, size_t words_len,
                           uint64_t *place, uint64_t *figure);
 
+/* The head of a feed, the first of the lent words; no word after it is looked at. The figure of an accepted head is its payload:
+ * d in the low four bits, log2 w in the next five. Gives 0, 1, 2, 8 and 9. */
+uint32_t meter_feed_head(const uint32_t *words, size_t words_len, uint64_t *place, uint64_t *figure);
+
+/* Carries out one record or the end of a feed, which starts at the first of the lent words; no word after it is looked at. Before
+ * is how many words of the feed came before. The figure is the estimate for an asking record, else 0. An update record takes
+ * 3 + n words and an asking record 1 + n, n being the key length divided by 3, rounded up; the end takes one. Gives 0 to 6, 8
+ * and 9. */
+uint32_t meter_feed_record(size_t d, size_t w, uint8_t *memory, size_t memory_len, uint64_t before, const uint32_t *words,
+                           size_t words_len, uint64_t *place, uint64_t *figure);
+
 #ifdef __cplusplus
 }
 #endif

@@ -1,6 +1,5 @@
 //! The functions of include/meter.h. Nothing checks these lines against it: change both together.
 
-#[allow(dead_code)]
 extern "C" {
     pub fn meter_clear(d: usize, w: usize, memory: *mut u8, memory_len: usize, place: *mut u64, figure: *mut u64) -> u32;
     pub fn meter_update(
@@ -52,6 +51,18 @@ extern "C" {
         w: usize,
         memory: *mut u8,
         memory_len: usize,
+        words: *const u32,
+        words_len: usize,
+        place: *mut u64,
+        figure: *mut u64,
+    ) -> u32;
+    pub fn meter_feed_head(words: *const u32, words_len: usize, place: *mut u64, figure: *mut u64) -> u32;
+    pub fn meter_feed_record(
+        d: usize,
+        w: usize,
+        memory: *mut u8,
+        memory_len: usize,
+        before: u64,
         words: *const u32,
         words_len: usize,
         place: *mut u64,

@@ -245,3 +245,26 @@ pub fn image_read(d: usize, w: usize, memory: &mut [u8], words: &[u32]) -> Answe
         )
     })
 }
+
+/// The head of a feed: the first of the words. The figure is its payload, d in the low four bits and log2 w in the next five.
+pub fn feed_head(words: &[u32]) -> Answer {
+    call(|place, figure| unsafe { ffi::meter_feed_head(words.as_ptr(), words.len(), place, figure) })
+}
+
+/// Carries out the record or the end of a feed that the words start with, after so many words of the feed. The figure of an asking
+/// record is the estimate.
+pub fn feed_record(d: usize, w: usize, memory: &mut [u8], before: u64, words: &[u32]) -> Answer {
+    call(|place, figure| unsafe {
+        ffi::meter_feed_record(
+            d,
+            w,
+            memory.as_mut_ptr(),
+            memory.len(),
+            before,
+            words.as_ptr(),
+            words.len(),
+            place,
+            figure,
+        )
+    })
+}

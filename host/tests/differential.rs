@@ -3,8 +3,8 @@
 
 mod common;
 
-use common::{amount, key, lend_bytes, lend_words, memory, seed, some_image, Lent, Rng};
-use reference::Memory;
+use common::{amount, damage, key, lend_bytes, lend_words, memory, record, seed, some_image, Lent, Rng};
+use reference::{Memory, Record};
 use std::collections::BTreeMap;
 use std::time::Instant;
 
@@ -19,6 +19,8 @@ const POSSIBLE: &[(&str, &[u32])] = &[
     ("unpack", &[0, 9]),
     ("image_write", &[0, 1, 2, 3, 5, 7]),
     ("image_read", &[0, 1, 2, 3, 8, 9, 10]),
+    ("feed_head", &[0, 1, 2, 8, 9]),
+    ("feed_record", &[0, 1, 2, 3, 4, 5, 6, 8, 9]),
 ];
 
 /// How often each call gave each number.
@@ -26,6 +28,10 @@ const POSSIBLE: &[(&str, &[u32])] = &[
 struct Tally {
     calls: u64,
     given: BTreeMap<(&'static str, u32), u64>,
+    /// The same of those at a word after the first.
+    later: BTreeMap<(&'static str, u32), u64>,
+    /// Of feed records, by what they are, where their words pass.
+    records: BTreeMap<(&'static str, u32), u64>,
 }
 
 impl Tally {
@@ -37,6 +43,9 @@ impl Tally {
         );
         self.calls += 1;
         *self.given.entry((call, proved.number)).or_default() += 1;
+        if proved.place > 0 {
+            *self.later.entry((call, proved.number)).or_default() += 1;
+        }
     }
 
     /// Prints the counts; fails where a possible number was never given, or one that is not possible was.
@@ -51,6 +60,21 @@ impl Tally {
                 let given = self.given.contains_key(&(*call, n));
                 assert_eq!(given, numbers.contains(&n), "{call} and number {n}");
             }
+        }
+        println!("  at a word after the first: {:?}", self.later);
+        for known in [("image_read", 8), ("image_read", 9), ("feed_record", 8), ("feed_record", 9)] {
+            assert!(self.later.contains_key(&known), "{known:?} at a later word");
+        }
+        println!("  records whose words pass: {:?}", self.records);
+        for known in [
+            ("update", 0),
+            ("update", 5),
+            ("update", 6),
+            ("asking", 0),
+            ("asking", 5),
+            ("end", 0),
+        ] {
+            assert!(self.records.contains_key(&known), "{known:?}");
         }
     }
 }
@@ -188,6 +212,29 @@ impl List {
         assert_eq!(proved_merges, model_merges, "unpack: the merge bytes");
     }
 
+    fn feed_head(&mut self, words: &[u32]) {
+        let lent = lend_words(words);
+        self.tally
+            .compare("feed_head", meter::feed_head(lent.get()), reference::feed_head(words));
+        assert!(lent.guards_stand() && lent.get() == words, "feed_head: the words");
+    }
+
+    fn feed_record(&mut self, d: usize, w: usize, p: &mut Pair, before: u64, words: &[u32]) {
+        let lent = lend_words(words);
+        let a = meter::feed_record(d, w, p.proved.get_mut(), before, lent.get());
+        let (model, record) = reference::feed_record(d, w, &mut p.model, before, words);
+        self.tally.compare("feed_record", a, model);
+        let kind = match record {
+            Some(Record::Update(..)) => "update",
+            Some(Record::Ask(_)) => "asking",
+            Some(Record::End) => "end",
+            None => "none",
+        };
+        *self.tally.records.entry((kind, a.number)).or_default() += 1;
+        assert!(lent.guards_stand() && lent.get() == words, "feed_record: the words");
+        p.compare("feed_record");
+    }
+
     /// A list of calls on three meters of one geometry.
     fn run(&mut self, d: usize, w: usize, calls: usize) {
         let mut meters: Vec<Pair> = (0..3).map(|_| Pair::new(&memory(&mut self.rng, d, w))).collect();
@@ -205,7 +252,7 @@ impl List {
             let (td, tw) = told(&mut self.rng, d, w);
             let some_key = self.rng.below(keys.len());
             let some_key = keys[some_key].clone();
-            match self.rng.below(24) {
+            match self.rng.below(32) {
                 0 => self.clear(td, tw, &mut target),
                 1..=11 => {
                     let amount = amount(&mut self.rng);
@@ -218,6 +265,16 @@ impl List {
                 21..=22 => {
                     let words = some_image(&mut self.rng, d, w, &mut source.model);
                     self.image_read(td, tw, &mut target, &words)
+                }
+                23 => {
+                    let mut words = vec![0x1000_0000 | self.rng.below(16) as u32 | self.rng.below(32) as u32 * 16];
+                    damage(&mut self.rng, &mut words);
+                    self.feed_head(&words)
+                }
+                24..=30 => {
+                    let before = self.rng.next() >> self.rng.below(64);
+                    let words = record(&mut self.rng, before, &some_key);
+                    self.feed_record(td, tw, &mut target, before, &words)
                 }
                 _ => target = Pair::new(&memory(&mut self.rng, d, w)),
             }
@@ -300,4 +357,6 @@ fn nothing_lent() {
     assert_eq!(meter::unite(1, 32, &mut [0; 36], &[]).number, 3);
     assert_eq!(meter::image_write(1, 32, &[0; 36], &mut []).number, 7);
     assert_eq!(meter::image_read(1, 32, &mut [0; 36], &[]).number, 8);
+    assert_eq!(meter::feed_head(&[]).number, 8);
+    assert_eq!(meter::feed_record(1, 32, &mut [0; 36], 0, &[]).number, 8);
 }

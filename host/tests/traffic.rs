@@ -4,7 +4,7 @@
 
 mod common;
 
-use common::{amount, memory, seed, Rng};
+use common::{amount, memory, record_words, seed, Rng};
 use std::collections::BTreeMap;
 
 /// The traffic of a list of calls: pairs of key and amount, those of one key added up.
@@ -54,7 +54,7 @@ struct Seen {
     levels: [u64; 4],
 }
 
-fn check(d: usize, w: usize, m: &Meter, keys: &[Vec<u8>], seen: &mut Seen) {
+fn check(d: usize, w: usize, m: &mut Meter, keys: &[Vec<u8>], seen: &mut Seen) {
     let totals = totals(d, w, &m.book);
     let l = level(&totals);
     seen.levels[l] += 1;
@@ -63,6 +63,8 @@ fn check(d: usize, w: usize, m: &Meter, keys: &[Vec<u8>], seen: &mut Seen) {
     for key in keys {
         let answer = meter::estimate(d, w, &m.memory, key);
         assert_eq!(answer.number, 0, "every key is accepted");
+        let asked = meter::feed_record(d, w, &mut m.memory, 0, &record_words(key, None));
+        assert_eq!(asked, answer, "an asking record gives the estimate");
         let figure = answer.figure as u128;
         let least = m.book.get(key).copied().unwrap_or(0);
         let most = (0..d).map(|r| totals[r][l][reference::slot(r, key, w) >> l]).min().unwrap();
@@ -117,6 +119,9 @@ fn call(rng: &mut Rng, d: usize, w: usize, meters: &mut [Meter], keys: &[Vec<u8>
             seen.images += 1;
             ok
         }
+        // A feed's end and an asking record change nothing.
+        12 => meter::feed_record(d, w, &mut m.memory, 5, &[0x4000_0005]).number == 0,
+        13 => meter::feed_record(d, w, &mut m.memory, 5, &record_words(key, None)).number == 0,
         // Refused calls with anything at all.
         7 => meter::unite(d, w, &mut m.memory, &before[1..]).number == 0,
         8 => meter::clear(d, w + 1, &mut m.memory).number == 0,
@@ -130,7 +135,11 @@ fn call(rng: &mut Rng, d: usize, w: usize, meters: &mut [Meter], keys: &[Vec<u8>
         11 => meter::image_read(d, w, &mut m.memory, &[0x1000_0051, 0x2000_0000]).number == 0,
         _ => {
             let amount = if rng.once_in(3) { amount(rng) } else { rng.below(100) as u32 };
-            let answer = meter::update(d, w, &mut m.memory, key, amount);
+            let answer = if rng.once_in(3) {
+                meter::feed_record(d, w, &mut m.memory, rng.next(), &record_words(key, Some(amount)))
+            } else {
+                meter::update(d, w, &mut m.memory, key, amount)
+            };
             match answer.number {
                 0 => *m.book.entry(key.clone()).or_default() += amount as u128,
                 6 => seen.full += 1,
@@ -175,7 +184,7 @@ fn estimates_lie_between_the_two_figures() {
         let doubling = rng.once_in(4);
         for _ in 0..if doubling { 3 * calls } else { calls } {
             let at = call(&mut rng, d, w, &mut meters, &keys, doubling, &mut seen);
-            check(d, w, &meters[at], &keys, &mut seen);
+            check(d, w, &mut meters[at], &keys, &mut seen);
         }
     }
     println!(

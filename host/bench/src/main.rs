@@ -296,6 +296,76 @@ fn whole(d: usize, w: usize, all_levels: bool) -> [(usize, Vec<f64>); 3] {
     [(repeat, unions), (repeat, writes), (repeat, reads)]
 }
 
+/// Records of a feed, one call each: their words side by side, and where each starts.
+fn records(calls: &Calls, asking: bool) -> (Vec<u32>, Vec<usize>) {
+    let (mut words, mut starts) = (Vec::new(), Vec::new());
+    for (key, amount) in calls.each() {
+        starts.push(words.len());
+        words.push(if asking { 6 << 28 } else { 5 << 28 } | key.len() as u32);
+        for part in key.chunks(3) {
+            let byte = |i: usize| part.get(i).copied().unwrap_or(0) as u32;
+            words.push(7 << 28 | byte(0) << 16 | byte(1) << 8 | byte(2));
+        }
+        if !asking {
+            words.extend([8 << 28 | amount >> 16, 8 << 28 | amount & 0xffff]);
+        }
+    }
+    (words, starts)
+}
+
+/// Update and asking records, Zipf keys of 13 bytes.
+fn feeds() {
+    heading("feed record, 13 bytes, Zipf, calls a second");
+    let calls = Calls::new(13, true);
+    let (updates, update_starts) = records(&calls, false);
+    let (asks, ask_starts) = records(&calls, true);
+    for (d, w) in [(1, 1_024), (4, 1_024), (4, 65_536), (8, 65_536)] {
+        let (a, b) = (RefCell::new(vec![0; size(d, w)]), RefCell::new(vec![0; size(d, w)]));
+        let times = time(vec![
+            (&mut || a.borrow_mut().fill(0), &mut || {
+                let mut m = a.borrow_mut();
+                for &at in &update_starts {
+                    black_box(meter::feed_record(d, w, &mut m, at as u64, &updates[at..]));
+                }
+            }),
+            (&mut || b.borrow_mut().fill(0), &mut || {
+                let mut m = b.borrow_mut();
+                for &at in &update_starts {
+                    black_box(plain::feed_record(d, w, &mut m, at as u64, &updates[at..]));
+                }
+            }),
+        ]);
+        let (mut a, mut b) = (a.into_inner(), b.into_inner());
+        assert!(
+            a == b && a.iter().any(|&x| x > 0),
+            "update records: the proved memory and the C version's"
+        );
+        line(&format!("update, d {d}, w {w}"), CALLS, &times);
+        for &at in &ask_starts {
+            let answer = meter::feed_record(d, w, &mut a, at as u64, &asks[at..]);
+            assert_eq!(
+                answer,
+                plain::feed_record(d, w, &mut b, at as u64, &asks[at..]),
+                "asking records"
+            );
+            assert_eq!(answer.number, 0, "asking records");
+        }
+        let times = time(vec![
+            (&mut || {}, &mut || {
+                for &at in &ask_starts {
+                    black_box(meter::feed_record(d, w, &mut a, at as u64, &asks[at..]));
+                }
+            }),
+            (&mut || {}, &mut || {
+                for &at in &ask_starts {
+                    black_box(plain::feed_record(d, w, &mut b, at as u64, &asks[at..]));
+                }
+            }),
+        ]);
+        line(&format!("asking, d {d}, w {w}"), CALLS, &times);
+    }
+}
+
 fn kind(all_levels: bool) -> &'static str {
     if all_levels {
         "all levels"
@@ -340,6 +410,7 @@ fn growth() {
 fn main() {
     println!("Median of {ROUNDS} rounds; {CALLS} calls a round on {KEYS} keys.");
     keyed();
+    feeds();
     whole_meters();
     growth();
 }
