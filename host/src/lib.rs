@@ -146,7 +146,8 @@ pub fn size(d: usize, w: usize) -> Option<usize> {
 // slice are valid together, also of an empty one, whose pointer is not null and is not followed. A `&mut` slice overlaps no other.
 
 fn call(f: impl FnOnce(*mut u64, *mut u64) -> u32) -> Answer {
-    let (mut place, mut figure) = (0, 0);
+    // Both are written by every call, whatever they were.
+    let (mut place, mut figure) = (u64::MAX, u64::MAX);
     let number = f(&mut place, &mut figure);
     Answer { number, place, figure }
 }
@@ -209,7 +210,8 @@ pub fn pack(merges: [u8; 4]) -> Answer {
 
 /// The four merge bytes of a layout code; all 0 when turned away.
 pub fn unpack(code: u32) -> (Answer, [u8; 4]) {
-    let mut merges = [0; 4];
+    // All four are written, also when turned away.
+    let mut merges = [0xff; 4];
     let answer = call(|place, figure| unsafe { ffi::meter_unpack(code, merges.as_mut_ptr(), place, figure) });
     (answer, merges)
 }
