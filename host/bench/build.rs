@@ -24,6 +24,15 @@ fn main() {
         objects.push(object);
     }
     run(Command::new("ar").arg("crs").arg(out.join("libplain.a")).args(&objects));
+    for (name, command) in [("CC_VERSION", &cc), ("RUSTC_VERSION", &env::var_os("RUSTC").unwrap())] {
+        let text = Command::new(command)
+            .arg("--version")
+            .output()
+            .expect("a compiler's version")
+            .stdout;
+        let text = String::from_utf8_lossy(&text).lines().next().unwrap_or("").to_string();
+        println!("cargo:rustc-env={name}={text}");
+    }
     println!("cargo:rustc-link-search=native={}", out.display());
     println!("cargo:rustc-link-lib=static=plain");
     println!("cargo:rerun-if-changed={}", c.display());

@@ -1,4 +1,4 @@
-//! The proved meter beside the same rule in plain C and a Count-Min with counters of 64 bits, in one run: `cargo run --release -p bench`.
+//! The proved meter beside the same rule in plain C and a Count-Min with counters of 64 bits, in one run: `bench/run`.
 //!
 //! Each case is measured five times for each, turn by turn, and the median is printed. Outputs are compared as it goes. Memories are
 //! cleared, or copied from the same start, before each measured run, and that is not measured.
@@ -408,6 +408,18 @@ fn growth() {
 }
 
 fn main() {
+    let cpus = std::fs::read_to_string("/proc/cpuinfo").unwrap_or_default();
+    let mut models = cpus
+        .lines()
+        .filter(|l| l.starts_with("model name"))
+        .map(|l| l.split_once(": ").map_or("", |x| x.1));
+    let model = models.next().unwrap_or("an unknown processor");
+    println!(
+        "{model}, {} processors. C: {}, -O3. Rust: {}.",
+        1 + models.count(),
+        env!("CC_VERSION"),
+        env!("RUSTC_VERSION")
+    );
     println!("Median of {ROUNDS} rounds; {CALLS} calls a round on {KEYS} keys.");
     keyed();
     feeds();
