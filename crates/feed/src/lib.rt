@@ -6,6 +6,7 @@ use words::Body;
 use words::Opening;
 ghost use mathlib.Core.Path.{_≡_};
 ghost use Prim.Native.Nat.{_<_, _≤_};
+ghost use lib.ListN.{length};
 ghost use Rattle.feed.specs.Answers as answers;
 ghost use Rattle.feed.specs.Answers.{bodyAnswer, recordAnswer};
 ghost use Rattle.feed.specs.Head.{headDepth, headWidth, badGeometry, headed};
@@ -38,19 +39,19 @@ pub fn answer(r: Recorded) -> Answer
 }
 
 // The depth and the width that a head's payload gives.
-pub fn head_depth(payload: u32) -> usize
+pub fn head_depth(payload: u64) -> usize
     ensures { λ r. ⌜ r ≡ headDepth payload ⌝ }
 {
     (payload % 16) as usize
 }
 
-pub fn head_width(payload: u32) -> usize
+pub fn head_width(payload: u64) -> usize
     ensures { λ r. ⌜ r ≡ headWidth payload ⌝ }
 {
     1 << (payload / 16 % 32)
 }
 
-fn bad_geometry(payload: u32) -> u8
+fn bad_geometry(payload: u64) -> u8
     ensures { λ r. ⌜ r ≡ badGeometry payload ⌝ }
 {
     if !row::valid_depth(head_depth(payload)) {
@@ -80,12 +81,12 @@ pub fn head(words: &[u32]) -> Answer
     if s.status != 0 {
         return faulty(s.status, s.position);
     }
-    let payload = word::payload(words, 0);
+    let payload = word::payload(words, 0) as u64;
     let bad = bad_geometry(payload);
     if bad != 0 {
         return faulty(bad, 0);
     }
-    row::answer(0, payload as u64)
+    row::answer(0, payload)
 }
 
 // The number of words that a record or the end takes.
@@ -160,6 +161,7 @@ fn query(d: usize, w: usize, memory: &[u8], n: usize, words: &[u32]) -> Recorded
 pub fn record(d: usize, w: usize, memory: &mut [u8], before: u64, words: &[u32]) -> Recorded
     ensures { λ r. ⌜ r ≡ recorded d w (now (memory .entry)) before (now (words .entry)) .outcome ⌝ }
     ensures { λ r. ⌜ now (memory .exit) ≡ recorded d w (now (memory .entry)) before (now (words .entry)) .memory ⌝ }
+    ensures { λ r. ⌜ recordAnswer r .position ≤ length (now (words .entry)) ⌝ }
 {
     let bad = row::bad_shape(d, w, memory.len());
     if bad != 0 {

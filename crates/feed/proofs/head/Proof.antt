@@ -27,6 +27,9 @@ returns c = let s = c .before .before .before .below in
 payload-requires : tie.Need-payload-requires
 payload-requires c κs = search needs
 
+cast-payload : tie.Need-cast-payload
+cast-payload c = search needs
+
 bad-geometry-requires : tie.Need-bad-geometry-requires
 bad-geometry-requires c κs = search needs
 
@@ -42,9 +45,6 @@ returns-2 c = let k = c .before .before .before .before in
     let f : ℕ → Step = λ p. stop (badGeometry (payload (k .before .before .before .before .args .words .now) 0)) 0 in
     let e = turn (s .result) _ f (s .ensures) (k .if1 .left) in
     rw (e, ← g, ne-eqb (c .before .before .bad-geometry .result) 0 (c .before .if2 .taken)) (c .faulty2 .ensures)
-
-cast-answer : tie.Need-cast-answer
-cast-answer c = search needs
 
 answer-requires : tie.Need-answer-requires
 answer-requires c κs = search needs
@@ -67,9 +67,9 @@ head-spec =
     faulty-requires
     returns
     payload-requires
+    cast-payload
     bad-geometry-requires
     faulty-requires-2
     returns-2
-    cast-answer
     answer-requires
     returns-3)

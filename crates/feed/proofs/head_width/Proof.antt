@@ -6,9 +6,6 @@ use borrow.Author.Needs.{needs}
 use Rattle.feed.proofs.head_width.Statement.{statement}
 use Rattle.feed.proofs.head_width.Tie as tie
 
-cast-result : tie.Need-cast-result
-cast-result c = search needs
-
 shl-result : tie.Need-shl-result
 shl-result c = search needs
 
@@ -17,4 +14,4 @@ unfolding headWidth
 returns c = one-shl (c .args .payload / 16 % 32) (omega arith)
 
 pub head-width-spec : {M : Type 1} → statement M
-head-width-spec = tie.close (tie.spec cast-result shl-result returns)
+head-width-spec = tie.close (tie.spec shl-result returns)

@@ -1,3 +1,4 @@
+use Rattle.feed.proofs.Places.{all-of}
 use Rattle.feed.proofs.Laws.{is-end}
 use Rattle.feed.specs.declared.words.Opening.the-variants as opening
 use mathlib.Core.Path.{_≡_, refl, sym, ap, _∙_}
@@ -27,7 +28,7 @@ returns : tie.Need-returns
 returns c = let a = c .before .before .before .before .args in
     let s = c .before .bad-shape in
     let e = record-bad (a .d) (a .w) (a .memory .now) (a .before) (a .words .now) (s .result) (sym (s .ensures)) (c .if1 .taken) in
-    rw e (refl, refl)
+    all-of (a .d) (a .w) (a .memory .now) (a .before) (a .words .now) _ _ _ e refl refl
 
 first-word-requires : tie.Need-first-word-requires
 first-word-requires c κs = search needs
@@ -63,7 +64,8 @@ returns-2 : tie.Need-returns-2
 unfolding carried
 returns-2 c = let f = c .before .before .before .before .before .before .before in
     let a = f .before .before .before .before .before .args in
-    rw (opened-is f ∙ ap (carried (a .d) (a .w) (a .memory .now) (a .words .now)) (c .before .before .before .before .before .first .given .1)) (c .before .before .update .ensures)
+    let e = opened-is f ∙ ap (carried (a .d) (a .w) (a .memory .now) (a .words .now)) (c .before .before .before .before .before .first .given .1) in
+    all-of (a .d) (a .w) (a .memory .now) (a .before) (a .words .now) _ _ _ e (c .before .before .update .ensures .0) (c .before .before .update .ensures .1)
 
 same-length-2 : tie.Need-same-length-2
 same-length-2 c = search needs
@@ -72,19 +74,22 @@ returns-3 : tie.Need-returns-3
 unfolding carried
 returns-3 c = let f = c .before .before .before .before .before in
     let a = f .before .before .before .before .before .args in
-    rw (opened-is f ∙ ap (carried (a .d) (a .w) (a .memory .now) (a .words .now)) (c .before .before .before .first2 .given .1)) (c .query .ensures, refl)
+    let e = opened-is f ∙ ap (carried (a .d) (a .w) (a .memory .now) (a .words .now)) (c .before .before .before .first2 .given .1) in
+    all-of (a .d) (a .w) (a .memory .now) (a .before) (a .words .now) _ _ _ e (c .query .ensures) refl
 
 returns-4 : tie.Need-returns-4
 unfolding carried
 returns-4 c = let f = c .before .before in
     let a = f .before .before .before .before .before .args in
-    rw (opened-is f ∙ ap (carried (a .d) (a .w) (a .memory .now) (a .words .now)) (is-end (f .first-word .result) (c .before .match .keys3))) (refl, refl)
+    let e = opened-is f ∙ ap (carried (a .d) (a .w) (a .memory .now) (a .words .now)) (is-end (f .first-word .result) (c .before .match .keys3)) in
+    all-of (a .d) (a .w) (a .memory .now) (a .before) (a .words .now) _ _ _ e refl refl
 
 returns-5 : tie.Need-returns-5
 unfolding carried
 returns-5 c = let f = c .before .before .before in
     let a = f .before .before .before .before .before .args in
-    rw (opened-is f ∙ ap (carried (a .d) (a .w) (a .memory .now) (a .words .now)) (c .before .first3 .given .1)) (refl, refl)
+    let e = opened-is f ∙ ap (carried (a .d) (a .w) (a .memory .now) (a .words .now)) (c .before .first3 .given .1) in
+    all-of (a .d) (a .w) (a .memory .now) (a .before) (a .words .now) _ _ _ e refl refl
 
 pub record-spec : {M : Type 1} → statement M
 record-spec =
