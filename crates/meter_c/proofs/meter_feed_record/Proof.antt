@@ -33,7 +33,7 @@ returns c =
     let a = c .before .before .before .answer .ensures ∙ ap recordAnswer (r .0) in
     let g = c .give .ensures in (
       g .0 ∙ ap (λ (x : Answer). x .status) a,
-      (g .1 .0 ∙ ap (λ (x : Answer). x .position) a, (g .1 .1 ∙ ap (λ (x : Answer). x .value) a, r .1)),
+      (g .1 .0 ∙ ap (λ (x : Answer). x .position) a, (g .1 .1 ∙ ap (λ (x : Answer). x .value) a, r .1 .0)),
     )
 
 pub meter-feed-record-spec : {M : Type 1} → statement M
