@@ -1,12 +1,11 @@
 //! The proved meter beside the same rule in plain C and a Count-Min with counters of 64 bits, in one run: `bench/run`.
 //!
-//! Each case is measured five times for each, turn by turn, and the median is printed. Outputs are compared as it goes. Memories are
-//! cleared, or copied from the same start, before each measured run, and that is not measured.
+//! Each case is measured five times for each, turn by turn, by processor time, and the median is printed. Outputs are compared as
+//! it goes. Memories are cleared, or copied from the same start, before each measured run, and that is not measured.
 
 use bench::{plain, CountMin};
 use std::cell::RefCell;
 use std::hint::black_box;
-use std::time::Instant;
 
 const ROUNDS: usize = 5;
 const KEYS: usize = 100_000;
@@ -67,10 +66,29 @@ impl Calls {
     }
 }
 
+/// The processor time of this thread, so that other programs on the machine count as little as can be.
+fn processor_seconds() -> f64 {
+    #[repr(C)]
+    struct Timespec {
+        seconds: i64,
+        nanoseconds: i64,
+    }
+    extern "C" {
+        fn clock_gettime(clock: i32, time: *mut Timespec) -> i32;
+    }
+    const CLOCK_THREAD_CPUTIME_ID: i32 = 3;
+    let mut t = Timespec {
+        seconds: 0,
+        nanoseconds: 0,
+    };
+    assert_eq!(unsafe { clock_gettime(CLOCK_THREAD_CPUTIME_ID, &mut t) }, 0, "a clock");
+    t.seconds as f64 + t.nanoseconds as f64 * 1e-9
+}
+
 fn seconds(f: impl FnOnce()) -> f64 {
-    let start = Instant::now();
+    let start = processor_seconds();
     f();
-    start.elapsed().as_secs_f64()
+    processor_seconds() - start
 }
 
 fn median(mut times: Vec<f64>) -> f64 {
@@ -230,7 +248,7 @@ fn filled(d: usize, w: usize, all_levels: bool) -> Vec<u8> {
 fn whole(d: usize, w: usize, all_levels: bool) -> [(usize, Vec<f64>); 3] {
     let start = filled(d, w, all_levels);
     let source = filled(d, w, all_levels);
-    let repeat = (65_536 * 8 / (d * w)).max(1) * 2;
+    let repeat = (65_536 * 8 / (d * w)).max(1) * 4;
 
     let mut a: Vec<Vec<u8>> = vec![start.clone(); repeat];
     let mut b = a.clone();
