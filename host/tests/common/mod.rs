@@ -192,10 +192,10 @@ pub fn damage(rng: &mut Rng, words: &mut Vec<u32>) {
             0 => words.truncate(at),
             1 => words.push(rng.pick(&[words[n - 1], 0x3000_0000, 0x4000_0000 | at as u32])),
             2 => words[at] ^= 1 << rng.below(32),
-            3 => words[at] = words[at] & 0x0fff_ffff | (rng.below(16) as u32) << 28,
+            3 => words[at] = (words[at] & 0x0fff_ffff) | (rng.below(16) as u32) << 28,
             4 => {
                 let limits = [255, 256, 65_535, 65_536, 456_975, 456_976, 0xff_ffff, 0xfff_ffff];
-                words[at] = words[at] & 0xf000_0000 | rng.pick(&limits)
+                words[at] = (words[at] & 0xf000_0000) | rng.pick(&limits)
             }
             5 => drop(words.remove(at)),
             6 => words.insert(at, words[at]),
@@ -228,7 +228,7 @@ pub fn record_words(key: &[u8], amount: Option<u32>) -> Vec<u32> {
     }
     if let Some(amount) = amount {
         words.push(8 << 28 | amount >> 16);
-        words.push(8 << 28 | amount & 0xffff);
+        words.push(8 << 28 | (amount & 0xffff));
     }
     words
 }
