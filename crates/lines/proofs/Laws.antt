@@ -1,16 +1,17 @@
 -- Laws of words and decimal numbers that the code's proofs use, and what decimal digits are worth.
+use mathlib.Core.Logic.{⊎-elim}
 use mathlib.Core.Path.{_≡_, refl, sym, ap, _∙_}
-use mathlib.Core.Bool.{Bool, not, _||_}
-use mathlib.Core.List.{List, [], _∷_, _++_}
+use mathlib.Core.Bool.{Bool, false, not, _||_}
+use mathlib.Core.List.{List, [], _∷_, _++_, append-assoc}
 use Prim.Native.Nat.{ℕ, zero, suc, _+_, _-_, _*_, _/_, _%_, _^_, _≤_, _<_}
 use native.Mathlib.Nat.{add-zero, zero-add, div-lt-iff-lt-mul, pow-suc}
 use native.Mathlib.Numerals.{add-one, sub-one}
 use native.Mathlib.Omega.{arith}
 use native.Mathlib.Decide.{decLt}
-use borrow.Author.Tests.{lt-ltb, le-ltb}
+use borrow.Author.Tests.{lt-ltb, le-ltb, ne-eqb}
 use lib.Dec.{eqb}
 use lib.ListN.{length, getD, take, drop, set}
-use lib.Seq.{paste-suc}
+use lib.Seq.{paste-suc, take-suc, take-suc-set}
 use types.Run.{OneOf}
 use denote.Enum.Declared.{tagOf}
 use Rattle.feed.specs.declared.Recorded.{Recorded}
@@ -19,7 +20,7 @@ use Rattle.feed.proofs.Recorded as the-recorded
 use Rattle.lines.specs.declared.Line.{Line}
 use Rattle.lines.specs.declared.Line.the-variants as line
 use Rattle.lines.proofs.Line as the-line
-use Rattle.lines.specs.Line.{lineOf, continues, updatedWord, text}
+use Rattle.lines.specs.Line.{lineOf, continues, isEnd, updatedWord, text}
 use Rattle.lines.specs.Text.{digitsBefore, decimal, numberAfter}
 use Rattle.lines.specs.Words.{wordAt, wordsFrom}
 
@@ -41,6 +42,15 @@ pub copy-more : (s d : List ℕ) (i : ℕ) → i < length s → i < length d →
 copy-more s d i h k =
     let k0 : 0 + i < length d = omega arith in
     simp (zero-add, add-one) (simp zero-add at (paste-suc d 0 s i 0 k0 h))
+
+-- a turn of a copy behind the first bytes of a buffer
+pub append-turn : (out before s : List ℕ) (at i : ℕ) → at + i < length out → i < length s → take (at + i) out ≡ before ++ take i s
+    → take (at + (i + 1)) (set out (at + i) (getD s i 0)) ≡ before ++ take (i + 1) s
+append-turn out before s at i h k e =
+    let n : at + (i + 1) ≡ suc (at + i) = omega arith in
+    rw (n, add-one)
+    (take-suc-set out (at + i) (getD s i 0) h ∙ ap (λ (l : List ℕ). l ++ (getD s i 0 ∷ [])) e ∙ append-assoc before (take i s) (getD s i 0 ∷ [])
+    ∙ ap (λ (l : List ℕ). before ++ l) (sym (take-suc s i 0 k)))
 
 -- a number of more than one digit, and the last digit of one
 pub digits-more : (k n : ℕ) (text : List ℕ) → 1 ≤ k → 10 ≤ n → digitsBefore k n text ≡ digitsBefore (k - 1) (n / 10) ((48 + n % 10) ∷ text)
@@ -126,3 +136,18 @@ by-tag (line.Stopped s i) = refl
 
 pub tag-continues : (l : Line) (t : ℕ) → OneOf (t ∷ []) (tagOf the-line.the-type l) → continuing t ≡ continues l
 tag-continues l t h = sym (by-tag l ∙ ap continuing h)
+
+-- the end's tag, and those of the other lines
+pub tag-end : (l : Line) → isEnd l ≡ eqb (tagOf the-line.the-type l) 3
+unfolding isEnd
+tag-end (line.Geometry d w) = refl
+tag-end line.Updated = refl
+tag-end (line.Estimate v) = refl
+tag-end (line.End n) = refl
+tag-end (line.Refused s) = refl
+tag-end (line.Stopped s i) = refl
+
+pub not-end : (t : ℕ) → OneOf (0 ∷ 1 ∷ 2 ∷ 4 ∷ 5 ∷ []) t → eqb t 3 ≡ false
+not-end t h =
+    ne-eqb t 3
+    (λ e. ⊎-elim (λ k. omega arith) (λ k. ⊎-elim (λ m. omega arith) (λ m. ⊎-elim (λ n. omega arith) (λ n. ⊎-elim (λ o. omega arith) (λ o. omega arith) n) m) k) h)

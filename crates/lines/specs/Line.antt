@@ -1,5 +1,5 @@
 -- The program's lines. Document 01, 'The program's lines'.
-use Prim.Native.Nat.{ℕ, _+_}
+use Prim.Native.Nat.{ℕ, _+_, _≤_, _<_}
 use mathlib.Core.Bool.{Bool, true, false, cond, _||_}
 use mathlib.Core.List.{List, [], _∷_, _++_}
 use lib.Dec.{eqb, leb}
@@ -89,3 +89,21 @@ continues (line.Refused s) = true
 continues (line.Geometry d w) = true
 continues (line.End n) = false
 continues (line.Stopped s i) = false
+
+-- whether a line is the end's
+unfoldable pub isEnd : Line → Bool
+isEnd (line.End n) = true
+isEnd line.Updated = false
+isEnd (line.Estimate v) = false
+isEnd (line.Refused s) = false
+isEnd (line.Geometry d w) = false
+isEnd (line.Stopped s i) = false
+
+-- bounds of the geometry that a line gives
+abbrev pub Bounded : Line → Type 0
+Bounded (line.Geometry d w) = (d < 16) × (w ≤ mostSlots)
+Bounded line.Updated = Unit
+Bounded (line.Estimate v) = Unit
+Bounded (line.End n) = Unit
+Bounded (line.Refused s) = Unit
+Bounded (line.Stopped s i) = Unit

@@ -14,7 +14,7 @@ ghost use Prim.Native.Nat.{_+_, _^_, _<_, _≤_};
 ghost use Rattle.feed.specs.Answers.{recordAnswer};
 ghost use Rattle.lines.specs.Text.{content};
 ghost use Rattle.lines.specs.Line as spec;
-ghost use Rattle.lines.specs.Line.{headLine, lineOf};
+ghost use Rattle.lines.specs.Line.{headLine, lineOf, isEnd, Bounded};
 
 // The largest width that the program lends memory for.
 pub const MOST_SLOTS: usize = 4096;
@@ -31,6 +31,7 @@ pub enum Line {
 // The line of a head's answer.
 pub fn head_line(a: Answer) -> Line
     ensures { λ l. ⌜ l ≡ headLine a ⌝ }
+    ensures { λ l. ⌜ Bounded l ⌝ }
 {
     if a.status != 0 {
         return Line::Stopped {
@@ -65,6 +66,17 @@ pub fn continues(l: Line) -> bool
             status: _,
             index: _,
         } => false,
+    }
+}
+
+// Whether a line is the end's.
+pub fn is_end(l: Line) -> bool
+    ensures { λ r. ⌜ r ≡ isEnd l ⌝ }
+{
+    if let Line::End { records: _ } = l {
+        true
+    } else {
+        false
     }
 }
 

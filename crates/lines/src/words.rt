@@ -2,7 +2,7 @@
 ghost use mathlib.Core.Path.{_≡_};
 ghost use mathlib.Core.List.{_++_};
 ghost use Prim.Native.Nat.{_+_, _*_, _≤_, _<_, min};
-ghost use lib.ListN.{length, drop};
+ghost use lib.ListN.{length, take, drop};
 ghost use Rattle.lines.specs.Words.{wordAt, wordsFrom, wholeWords};
 
 fn word_of(a: u8, b: u8, c: u8, d: u8) -> u32
@@ -30,6 +30,7 @@ fn least(a: usize, b: usize) -> usize
 pub fn assemble(bytes: &[u8], words: &mut [u32]) -> usize
     ensures { λ n. ⌜ n ≡ wholeWords (length (now (words .entry))) (now (bytes .entry)) ⌝ }
     ensures { λ n. ⌜ now (words .exit) ≡ wordsFrom n (now (bytes .entry)) 0 ++ drop n (now (words .entry)) ⌝ }
+    ensures { λ n. ⌜ (n ≤ length (now (words .exit))) × (n ≡ length (take n (now (words .exit)))) ⌝ }
 {
     let n = least(words.len(), bytes.len() / 4);
     for i in 0..n {

@@ -1,3 +1,4 @@
+use Rattle.lines.proofs.Laws.{append-turn}
 use Prim.Native.Nat.{ℕ, suc, _+_, _-_, _≤_}
 use mathlib.Core.List.{append-assoc, append-nil}
 use lib.Seq.{take-all, take-suc, take-suc-set}
@@ -40,16 +41,12 @@ loop-less c = search needs
 loop-again : tie.Need-loop-again Inv-loop μ-loop
 loop-again c = let l = c .before .before .loop in
     let a = c .before .before .before .before .args in
-    let n = a .t .length in
-    let s = a .s .now in
-    let at : n + (l .i + 1) ≡ suc (n + l .i) = omega arith in
-    let e = take-suc-set (l .bytes) (n + l .i) (getD s (l .i) 0) (omega arith) in (
+    let s = a .s .now in (
       omega arith,
       refl,
       l .inv .2,
-      length-set (l .bytes) (n + l .i) (getD s (l .i) 0) ∙ l .inv .3,
-      rw (at, add-one) (e ∙ ap (λ (k : List ℕ). k ++ (getD s (l .i) 0 ∷ [])) (l .inv .4) ∙ append-assoc (take n (a .t .bytes)) (take (l .i) s) (getD s (l .i) 0 ∷ [])
-          ∙ ap (λ (k : List ℕ). take n (a .t .bytes) ++ k) (sym (take-suc s (l .i) 0 (omega arith)))),
+      length-set (l .bytes) (a .t .length + l .i) (getD s (l .i) 0) ∙ l .inv .3,
+      append-turn (l .bytes) (take (a .t .length) (a .t .bytes)) s (a .t .length) (l .i) (omega arith) (omega arith) (l .inv .4),
     )
 
 add-t15 : tie.Need-add-t15 Inv-loop μ-loop

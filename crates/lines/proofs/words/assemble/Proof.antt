@@ -1,3 +1,4 @@
+use lib.Seq.{length-take-le}
 use mathlib.Core.Path.{_≡_, refl, sym, ap, _∙_}
 use mathlib.Core.List.{_++_}
 use Prim.Native.Nat.{_-_, _/_, _*_, _≤_, min}
@@ -59,7 +60,8 @@ returns c = let l = c .before .loop in
     let n = c .before .before .least .result in
     let a = c .before .before .before .before .before .args in
     let e : l .i ≡ n = omega arith in
-    (l .inv .1, l .inv .3 ∙ rw (e, take-all n (wordsFrom n (a .bytes .now) 0) (rw words-length (omega arith))))
+    let m : n ≤ length (l .words) = omega arith in
+    (l .inv .1, (l .inv .3 ∙ rw (e, take-all n (wordsFrom n (a .bytes .now) 0) (rw words-length (omega arith))), (m, sym (length-take-le n (l .words) m))))
 
 pub assemble-spec : {M : Type 1} → statement M
 assemble-spec =

@@ -1,0 +1,78 @@
+use Rattle.lines.proofs.Laws.{append-turn}
+use mathlib.Core.Path.{_≡_, refl, sym, ap, ap₂, _∙_}
+use mathlib.Core.List.{List, [], _∷_, _++_, append-assoc, append-nil}
+use Prim.Native.Nat.{ℕ, suc, _+_, _-_, _≤_}
+use native.Mathlib.Nat.{add-zero}
+use native.Mathlib.Omega.{arith}
+use native.Mathlib.Numerals.{add-one}
+use lib.ListN.{length, take, drop, getD, set, length-set}
+use lib.Seq.{take-suc, take-suc-set}
+use borrow.Author.Needs.{needs}
+use Rattle.run_feed.proofs.output.append.Statement.{statement}
+use Rattle.run_feed.proofs.output.append.Tie as tie
+
+abbrev Inv-loop : tie.InvT-loop
+Inv-loop out₀ at bytes n i₀ out i = (i ≤ n) × (n ≤ 64) × (length bytes ≡ 64) × (at + n ≤ length out₀) × (length out ≡ length out₀) × (take (at + i) out ≡ take at out₀ ++ take i bytes)
+
+abbrev μ-loop : tie.MeasureT-loop
+μ-loop out₀ at bytes n i₀ out i = n - i
+
+loop-holds : tie.Need-loop-holds Inv-loop μ-loop
+loop-holds c = let a = c .before .args in
+    let long : length (a .t .bytes) ≡ 64 = search needs in
+    (omega arith, c .before .pre .1, long, c .before .pre .0, refl, rw (add-zero, append-nil))
+
+array-read-out : tie.Need-array-read-out Inv-loop μ-loop
+array-read-out c = search needs
+
+add-out : tie.Need-add-out Inv-loop μ-loop
+add-out c = search needs
+
+slice-write-out : tie.Need-slice-write-out Inv-loop μ-loop
+slice-write-out c = search needs
+
+add-i : tie.Need-add-i Inv-loop μ-loop
+add-i c = search needs
+
+loop-less : tie.Need-loop-less Inv-loop μ-loop
+loop-less c = search needs
+
+loop-again : tie.Need-loop-again Inv-loop μ-loop
+loop-again c = let l = c .before .loop in
+    let a = c .before .before .before .args in
+    let x = a .t .bytes in (
+      omega arith,
+      l .inv .1,
+      l .inv .2,
+      l .inv .3,
+      length-set (l .out) (a .at + l .i) (getD x (l .i) 0) ∙ l .inv .4,
+      append-turn (l .out) (take (a .at) (a .out .now)) x (a .at) (l .i) (omega arith) (omega arith) (l .inv .5),
+    )
+
+add-result : tie.Need-add-result Inv-loop μ-loop
+add-result c = search needs
+
+same-length : tie.Need-same-length Inv-loop μ-loop
+same-length c = search needs
+
+returns : tie.Need-returns Inv-loop μ-loop
+returns c = let l = c .before .loop in
+    let e : l .i ≡ c .before .before .before .args .t .length = omega arith in
+    (refl, rw e at (l .inv .5))
+
+pub append-spec : {M : Type 1} → statement M
+append-spec =
+    tie.close
+    (tie.spec
+    Inv-loop
+    μ-loop
+    loop-holds
+    array-read-out
+    add-out
+    slice-write-out
+    add-i
+    loop-less
+    loop-again
+    add-result
+    same-length
+    returns)

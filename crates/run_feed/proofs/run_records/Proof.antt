@@ -1,0 +1,90 @@
+use Prim.Native.Nat.{_-_}
+use mathlib.Core.Path.{_≡_, refl, sym, _∙_}
+use Prim.Native.Nat.{ℕ, _+_, _*_, _^_, _≤_, _<_}
+use native.Mathlib.Omega.{arith}
+use lib.ListN.{length}
+use borrow.Author.Needs.{needs}
+use Rattle.run_feed.specs.Buffers.{Within}
+use Rattle.run_feed.proofs.run_records.Statement.{statement}
+use Rattle.run_feed.proofs.run_records.Tie as tie
+
+abbrev Inv-loop : tie.InvT-loop
+Inv-loop memory₀ d w input₀ output₀ s₀ turns₀ memory input output s turns = Within (s .input) input × (100 ≤ length input) × (s .out ≤ length output) × (64 ≤ length output) × (s .words + 25 * turns ≤ 25 * 2 ^ 58 + 1)
+    × (s .records + turns ≤ 2 ^ 58) × (length memory ≡ length memory₀) × (length input ≡ length input₀) × (length output ≡ length output₀)
+
+abbrev μ-loop : tie.MeasureT-loop
+μ-loop memory₀ d w input₀ output₀ s₀ turns₀ memory input output s turns = turns
+
+loop-holds : tie.Need-loop-holds Inv-loop μ-loop
+loop-holds c = let p = c .before .before .before .pre in
+    (p .0, p .1 .0, p .1 .1 .0, p .1 .1 .1 .0, omega (arith, p .1 .1 .1 .1 .0), omega (arith, p .1 .1 .1 .1 .1), refl, refl, refl)
+
+same-length : tie.Need-same-length Inv-loop μ-loop
+same-length c = search needs
+
+same-length-2 : tie.Need-same-length-2 Inv-loop μ-loop
+same-length-2 c = search needs
+
+same-length-3 : tie.Need-same-length-3 Inv-loop μ-loop
+same-length-3 c = search needs
+
+returns : tie.Need-returns Inv-loop μ-loop
+returns c = let l = c .before .before .before .loop in (l .inv .0, (l .inv .1, (l .inv .2, l .inv .3)))
+
+step-requires : tie.Need-step-requires Inv-loop μ-loop
+step-requires c κs = let l = c .before .before .before .before .before .before .loop in (l .inv .0, (l .inv .1, (l .inv .2, (l .inv .3, (omega arith, omega arith)))))
+
+sub-turns : tie.Need-sub-turns Inv-loop μ-loop
+sub-turns c = search needs
+
+loop-less : tie.Need-loop-less Inv-loop μ-loop
+loop-less c = search needs
+
+loop-again : tie.Need-loop-again Inv-loop μ-loop
+loop-again c = let l = c .before .before .before .before .before .before .before .before .before .before .before .before .before .loop in
+    let s = c .before .before .before .before .before .before .step in
+    let m : length (s .last .0) ≡ length (l .memory) = search needs in
+    let i : length (s .last .1 .1 .1 .0) ≡ length (l .input) = search needs in
+    let o : length (s .last .1 .1 .1 .1 .0) ≡ length (l .output) = search needs in (
+      s .ensures .0,
+      omega (arith, i, l .inv .1),
+      s .ensures .1 .0,
+      omega (arith, o, l .inv .3),
+      omega (arith, s .ensures .1 .1 .0, l .inv .4),
+      omega (arith, s .ensures .1 .1 .1, l .inv .5),
+      m ∙ l .inv .6,
+      i ∙ l .inv .7,
+      o ∙ l .inv .8,
+    )
+
+same-length-4 : tie.Need-same-length-4 Inv-loop μ-loop
+same-length-4 c = search needs
+
+same-length-5 : tie.Need-same-length-5 Inv-loop μ-loop
+same-length-5 c = search needs
+
+same-length-6 : tie.Need-same-length-6 Inv-loop μ-loop
+same-length-6 c = search needs
+
+returns-2 : tie.Need-returns-2 Inv-loop μ-loop
+returns-2 c = let l = c .before .loop in (l .inv .0, (l .inv .1, (l .inv .2, l .inv .3)))
+
+pub run-records-spec : {M : Type 1} → statement M
+run-records-spec =
+    tie.close
+    (tie.spec
+    Inv-loop
+    μ-loop
+    loop-holds
+    same-length
+    same-length-2
+    same-length-3
+    returns
+    step-requires
+    sub-turns
+    loop-less
+    loop-again
+    same-length-4
+    same-length-5
+    same-length-6
+    returns-2)

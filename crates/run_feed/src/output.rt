@@ -1,0 +1,40 @@
+// Standard output, gathered and written in blocks.
+use libc::STDOUT_FILENO;
+use lines::Text;
+ghost use mathlib.Core.Path.{_≡_};
+ghost use mathlib.Core.List.{_++_};
+ghost use Prim.Native.Nat.{_+_, _≤_};
+ghost use lib.ListN.{length, take};
+ghost use Rattle.lines.specs.Text.{content};
+
+// The text behind the first bytes of the buffer. Gives the number of bytes that are now to be written.
+fn append(out: &mut [u8], at: usize, t: Text) -> usize
+    requires { ⌜ at + t .length ≤ length (now out) ⌝ ∗ ⌜ t .length ≤ 64 ⌝ }
+    ensures { λ r. ⌜ r ≡ at + t .length ⌝ }
+    ensures { λ r. ⌜ take r (now (out .exit)) ≡ take at (now (out .entry)) ++ content t ⌝ }
+{
+    let bytes = t.bytes;
+    let n = t.length;
+    for i in 0..n {
+        out[at + i] = bytes[i];
+    }
+    at + n
+}
+
+pub fn flush(out: &[u8], at: usize)
+    requires { ⌜ at ≤ length (now out) ⌝ }
+{
+    io::write_all(STDOUT_FILENO, &out[..at]);
+}
+
+// A line behind those at hand, which are written first if there is no space for it.
+pub fn put(out: &mut [u8], at: usize, t: Text) -> usize
+    requires { ⌜ at ≤ length (now out) ⌝ ∗ ⌜ t .length ≤ 64 ⌝ ∗ ⌜ 64 ≤ length (now out) ⌝ }
+    ensures { λ r. ⌜ r ≤ length (now (out .exit)) ⌝ }
+{
+    if out.len() - at < 64 {
+        flush(out, at);
+        return append(out, 0, t);
+    }
+    append(out, at, t)
+}

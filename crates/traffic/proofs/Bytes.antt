@@ -1,0 +1,134 @@
+-- A memory that holds a traffic, byte by byte: its bytes are bytes, its merge bytes are valid, and it is one memory.
+use mathlib.Core.Path.{_≡_, refl, sym, ap, _∙_}
+use mathlib.Core.Bool.{Bool, true, false, cond}
+use mathlib.Core.List.{List, [], _∷_}
+use Prim.Native.Nat.{ℕ, zero, suc, _+_, _-_, _*_, _/_, _%_, _≤_, _<_}
+use native.Mathlib.Nat.{zero-mul, suc-mul, mod-lt, div-lt-iff-lt-mul, div-add-mod'}
+use native.Mathlib.Decide.{decLt}
+use native.Mathlib.Omega.{arith}
+use borrow.Author.Tests.{lt-ltb, le-ltb}
+use lib.Dec.{ltb}
+use lib.ListN.{length, getD, take, drop, length-drop, List·getD-eq-default}
+use lib.Seq.{getD-take, getD-drop, drop-drop, ext-getD, length-take-le}
+use Rattle.layout.specs.Layout.{valid, marks}
+use Rattle.layout.proofs.Laws.{marks-in}
+use Rattle.block.specs.Block.{Block, shape, word}
+use Rattle.group.specs.declared.Group.{Group}
+use Rattle.group.specs.Group.{bytes, encode}
+use Rattle.group.proofs.Laws.{encode-valid}
+use Rattle.group.proofs.Bytes.{Bytes}
+use Rattle.row.specs.Geometry.{validWidth, stride, size}
+use Rattle.row.specs.Rows.{ofGroups, groupAt}
+use Rattle.row.proofs.Widths.{wide, stride-is}
+use Rattle.meter.specs.Meter.{rowOf}
+use Rattle.image.specs.Write.{allValid, validRows}
+use Rattle.traffic.specs.Traffic.{Pair, blockTotal}
+use Rattle.traffic.specs.Canon.{canon, Holds, byteIn, byteAt, memoryOf}
+
+-- the bytes of a group that a block makes
+byte-lt : (n v i : ℕ) → getD (bytes n v) i 0 < 256
+unfolding bytes
+byte-lt zero v i = omega arith
+byte-lt (suc n) v zero = mod-lt v (omega arith)
+byte-lt (suc n) v (suc i) = byte-lt n (v / 256) i
+
+-- bytes that depend on their places
+each-at : (f : ℕ → ℕ) (n k i : ℕ) → i < n → getD (ofGroups f n k) i 0 ≡ f (k + i)
+unfolding ofGroups
+each-at f zero k i h = absurd (omega arith)
+each-at f (suc n) k zero h = ap f (omega arith)
+each-at f (suc n) k (suc i) h = each-at f n (k + 1) i (omega arith) ∙ ap f (omega arith)
+
+each-length : (f : ℕ → ℕ) (n k : ℕ) → length (ofGroups f n k) ≡ n
+unfolding ofGroups
+each-length f zero k = refl
+each-length f (suc n) k = ap suc (each-length f n (k + 1))
+
+-- byte j of a row, by its groups
+in-row : (w : ℕ) (row : List ℕ) (groups : ℕ → Group) → validWidth w ≡ true → ((g : ℕ) → g < w / 8 → groupAt w row g ≡ groups g)
+    → (j : ℕ) → j < stride w → getD row j 0 ≡ byteIn w groups j
+unfolding byteIn groupAt
+in-row w row groups v same j h =
+    let eights = wide w v .eights in
+    elim (decLt j w) [
+      | yes l ↦
+          let e : 8 * (j / 8) + j % 8 ≡ j = omega arith in
+          rw (lt-ltb j w l)
+          (ap (λ (k : ℕ). getD row k 0) (sym e)
+          ∙ sym (getD-drop (8 * (j / 8)) row (j % 8) 0)
+          ∙ sym (getD-take 8 (drop (8 * (j / 8)) row) (j % 8) 0 (omega arith))
+          ∙ ap (λ (x : Group). getD (x .counts) (j % 8) 0) (same (j / 8) (omega arith)))
+      | no l ↦
+          let e : w + (j - w) ≡ j = omega arith in
+          rw (le-ltb j w (omega arith))
+          (ap (λ (k : ℕ). getD row k 0) (sym e) ∙ ap (λ (x : Group). x .merge) (same (j - w) (omega (arith, stride-is w))))
+    ]
+
+module _ (d w : ℕ) (vw : validWidth w ≡ true) (memory : List ℕ) (ps : List Pair) (holds : Holds d w memory ps) where
+  stride-pos : 0 < stride w
+  stride-pos = omega (arith, stride-is w, wide w vw .low)
+
+  pub byte-is : (i : ℕ) → i < size d w → getD memory i 0 ≡ byteAt w ps i
+  unfolding byteAt size rowOf
+  byte-is i h =
+      let s = stride w in
+      let r = i / s in
+      let j = i % s in
+      let p : r < d = div-lt-iff-lt-mul {k = s} {x = i} {y = d} stride-pos .1 h in
+      let l : j < s = mod-lt i stride-pos in
+      ap (λ (k : ℕ). getD memory k 0) (sym (div-add-mod' i s))
+      ∙ sym (getD-drop (r * s) memory j 0)
+      ∙ sym (getD-take s (drop (r * s) memory) j 0 l)
+      ∙ in-row w (rowOf w memory r) (λ g. encode (canon (blockTotal w r ps) 3 g)) vw (λ g q. holds .groups r g p q) j l
+
+  pub memory-is : memory ≡ memoryOf d w ps
+  unfolding memoryOf
+  memory-is =
+      ext-getD 0 memory (ofGroups (byteAt w ps) (size d w) 0) (holds .long ∙ sym (each-length (byteAt w ps) (size d w) 0))
+      (λ i h.
+      let k : i < size d w = omega (arith, holds .long) in
+      byte-is i k ∙ ap (byteAt w ps) (omega arith) ∙ sym (each-at (byteAt w ps) (size d w) 0 i k))
+
+  in-lt : (b : ℕ → Block 3) (j : ℕ) → byteIn w (λ g. encode (b g)) j < 256
+  unfolding byteIn encode
+  in-lt b j = go (ltb j w)
+    where
+      go : (c : Bool) → cond c (getD (bytes 8 (word (b (j / 8)))) (j % 8) 0) (marks (shape (b (j - w)))) < 256
+      go true = byte-lt 8 (word (b (j / 8))) (j % 8)
+      go false = marks-in (shape (b (j - w)))
+
+  pub all-bytes : Bytes memory
+  unfolding byteAt
+  all-bytes i =
+      elim (decLt i (size d w)) [
+        | yes h ↦ rw (byte-is i h) (in-lt (λ g. canon (blockTotal w (i / stride w) ps) 3 g) (i % stride w))
+        | no h ↦ rw (List·getD-eq-default memory 0 {n = i} (omega (arith, holds .long))) (omega arith)
+      ]
+
+-- merge bytes that are valid group by group are valid for the image
+list-valid : (ms : List ℕ) → ((i : ℕ) → i < length ms → valid 3 (getD ms i 0) ≡ true) → allValid ms ≡ true
+unfolding allValid
+list-valid [] h = refl
+list-valid (m ∷ ms) h = rw (h 0 (omega arith), list-valid ms (λ i p. h (suc i) (omega arith)))
+
+rows-valid : (n w : ℕ) (memory : List ℕ) → n * stride w ≤ length memory
+    → ((r g : ℕ) → r < n → g < w / 8 → valid 3 (groupAt w (rowOf w memory r) g .merge) ≡ true) → validRows n w memory ≡ true
+unfolding validRows groupAt rowOf
+rows-valid zero w memory l h = refl
+rows-valid (suc n) w memory l h =
+    let s = stride w in
+    let room : n * s + s ≤ length memory = omega (arith, suc-mul n s) in
+    let row = take s memory in
+    let long : length row ≡ s = length-take-le s memory (omega arith) in
+    let first : (i : ℕ) → i < length (drop w row) → valid 3 (getD (drop w row) i 0) ≡ true = λ i p.
+    rw (getD-drop w row i 0) (rw (zero-mul s) at (h 0 i (omega arith) (omega (arith, length-drop w row, stride-is w)))) in
+    let next : (r g : ℕ) → r < n → g < w / 8 → valid 3 (groupAt w (rowOf w (drop s memory) r) g .merge) ≡ true = λ r g p q.
+    let e : s + r * s ≡ suc r * s = omega (arith, suc-mul r s) in
+    rw (drop-drop (r * s) s memory, e) (h (suc r) g (omega arith) q) in
+    rw (list-valid (drop w row) first, rows-valid n w (drop s memory) (omega (arith, length-drop s memory)) next)
+
+pub holds-valid : (d w : ℕ) (memory : List ℕ) (ps : List Pair) → Holds d w memory ps → validRows d w memory ≡ true
+unfolding size
+holds-valid d w memory ps holds =
+    rows-valid d w memory (omega (arith, holds .long))
+    (λ r g p q. rw (holds .groups r g p q) (encode-valid (canon (blockTotal w r ps) 3 g)))

@@ -1,0 +1,265 @@
+-- Laws of the block that totals leave, for any level: what adding and uniting do to it, and what its counters are.
+use mathlib.Core.Path.{_≡_, refl, sym, ap, _∙_}
+use mathlib.Core.Bool.{Bool, true, false, cond, _&&_}
+use Prim.Native.Nat.{ℕ, zero, suc, _+_, _-_, _*_, _/_, _%_, _^_, _≤_, _<_, max}
+use mathlib.Core.Logic.{_⊎_, inl, inr, ⊎-elim}
+use native.Mathlib.Nat.{add-comm, mod-lt}
+use native.Mathlib.Numerals.{add-one}
+use native.Mathlib.Decide.{decLt, ℕ-discrete}
+use native.Mathlib.Omega.{arith}
+use borrow.Author.Tests.{lt-ltb, le-ltb, ltb-true, eq-eqb, ne-eqb}
+use lib.Dec.{ltb, eqb}
+use lib.Pow.{pow-pos, mod-pow-add, shr-shr}
+use Rattle.layout.specs.Layout.{widest}
+use Rattle.block.specs.Block.{Block, counter, split, cap, Fits, shape, counterAt, total}
+use Rattle.block.specs.Sum.{Sum, fits, over, sumTotal, held, join, add, unite}
+use Rattle.block.proofs.Laws.{cap-double}
+use Rattle.traffic.specs.Canon.{small, canon}
+
+-- a block's total is the sum of its halves'
+abbrev pub Adds : (ℕ → ℕ → ℕ) → Type 0
+Adds t = (n i : ℕ) → t (suc n) i ≡ t n (2 * i) + t n (2 * i + 1)
+
+-- a half is too large
+abbrev pub Large : (ℕ → ℕ → ℕ) → ℕ → ℕ → Type 0
+Large t n i = t n (2 * i) < cap n → t n (2 * i + 1) < cap n → ⊥
+
+-- what an addition or a union should leave of a block with these totals
+unfoldable pub canonSum : (ℕ → ℕ → ℕ) → (n : ℕ) → ℕ → Sum n
+canonSum t n i = cond (small t n i) (fits (canon t n i)) (over (t n i))
+
+module _ (t : ℕ → ℕ → ℕ) where
+  canon-split : (n i : ℕ) → t n (2 * i) < cap n → t n (2 * i + 1) < cap n → canon t (suc n) i ≡ split (canon t n (2 * i)) (canon t n (2 * i + 1))
+  unfolding canon small
+  canon-split n i p q = rw (lt-ltb (t n (2 * i)) (cap n) p, lt-ltb (t n (2 * i + 1)) (cap n) q)
+
+  canon-merged : (n i : ℕ) → Large t n i → canon t (suc n) i ≡ counter (t (suc n) i)
+  unfolding canon small
+  canon-merged n i h = go (ltb (t n (2 * i)) (cap n)) (ltb (t n (2 * i + 1)) (cap n)) refl refl
+    where
+      go : (a b : Bool) → ltb (t n (2 * i)) (cap n) ≡ a → ltb (t n (2 * i + 1)) (cap n) ≡ b
+          → cond (a && b) (split (canon t n (2 * i)) (canon t n (2 * i + 1))) (counter (t (suc n) i)) ≡ counter (t (suc n) i)
+      go true true e f = absurd (h (ltb-true (t n (2 * i)) (cap n) e) (ltb-true (t n (2 * i + 1)) (cap n) f))
+      go true false e f = refl
+      go false b e f = refl
+
+  -- the two cases of a block above level 0
+  pub canon-cases : (n i : ℕ) (P : Block (suc n) → Type 0)
+      → (t n (2 * i) < cap n → t n (2 * i + 1) < cap n → P (split (canon t n (2 * i)) (canon t n (2 * i + 1))))
+      → (Large t n i → P (counter (t (suc n) i)))
+      → P (canon t (suc n) i)
+  canon-cases n i P f g =
+      elim (decLt (t n (2 * i)) (cap n)) [
+        | yes p ↦ elim (decLt (t n (2 * i + 1)) (cap n)) [
+          | yes q ↦ rw (canon-split n i p q) (f p q)
+          | no q ↦ rw (canon-merged n i (λ p q′. q q′)) (g (λ p q′. q q′))
+        ]
+        | no p ↦ rw (canon-merged n i (λ p′ q. p p′)) (g (λ p′ q. p p′))
+      ]
+
+  -- the two cases of what an addition leaves
+  sum-fits : (n i : ℕ) → t n i < cap n → canonSum t n i ≡ fits (canon t n i)
+  unfolding canonSum small
+  sum-fits n i p = rw (lt-ltb (t n i) (cap n) p)
+
+  sum-over : (n i : ℕ) → cap n ≤ t n i → canonSum t n i ≡ over (t n i)
+  unfolding canonSum small
+  sum-over n i p = rw (le-ltb (t n i) (cap n) p)
+
+  pub sum-cases : (n i : ℕ) (P : Sum n → Type 0) → (t n i < cap n → P (fits (canon t n i))) → (cap n ≤ t n i → P (over (t n i))) → P (canonSum t n i)
+  sum-cases n i P f g = elim (decLt (t n i) (cap n)) [
+    | yes p ↦ rw (sum-fits n i p) (f p)
+    | no p ↦ rw (sum-over n i (omega arith)) (g (omega arith))
+  ]
+
+  -- a merged block is one counter, or over
+  sum-merged : (n i : ℕ) → Large t n i → canonSum t (suc n) i ≡ held (suc n) (t (suc n) i)
+  unfolding canonSum small held
+  sum-merged n i h = rw (canon-merged n i h)
+
+  -- every counter holds its value
+  pub canon-fits : (n i : ℕ) → t n i < cap n → Fits (canon t n i)
+  unfolding canon Fits
+  canon-fits zero i h = h
+  canon-fits (suc n) i h = canon-cases n i Fits (λ p q. (canon-fits n (2 * i) p, canon-fits n (2 * i + 1) q)) (λ l. h)
+
+  module _ (adds : Adds t) where
+    canon-total : (n i : ℕ) → total (canon t n i) ≡ t n i
+    unfolding canon total
+    canon-total zero i = refl
+    canon-total (suc n) i =
+        canon-cases n i (λ b. total b ≡ t (suc n) i) (λ p q. omega (arith, canon-total n (2 * i), canon-total n (2 * i + 1), adds n i)) (λ l. refl)
+
+    sum-total : (n i : ℕ) → sumTotal (canonSum t n i) ≡ t n i
+    unfolding sumTotal
+    sum-total n i = sum-cases n i (λ x. sumTotal x ≡ t n i) (λ p. canon-total n i) (λ p. refl)
+
+    -- two halves joined
+    pub join-canon : (n i : ℕ) → join (canonSum t n (2 * i)) (canonSum t n (2 * i + 1)) ≡ canonSum t (suc n) i
+    unfolding join
+    join-canon n i =
+        elim (decLt (t n (2 * i)) (cap n)) [
+          | yes p ↦ elim (decLt (t n (2 * i + 1)) (cap n)) [
+            | yes q ↦
+                rw (sum-fits n (2 * i) p, sum-fits n (2 * i + 1) q, sum-fits (suc n) i (omega (arith, cap-double n, adds n i)))
+                (ap fits (sym (canon-split n i p q)))
+            | no q ↦
+                rw (sum-fits n (2 * i) p, sum-over n (2 * i + 1) (omega arith), sum-merged n i (λ p q′. q q′), canon-total n (2 * i), adds n i)
+          ]
+          | no p ↦ rw (sum-over n (2 * i) (omega arith), sum-merged n i (λ p′ q. p p′), sum-total n (2 * i + 1), adds n i)
+        ]
+
+-- the half of a block that a slot is in
+pub half : (s n : ℕ) → s / 2 ^ suc n ≡ s / 2 ^ n / 2
+half s n = rw (← add-one n) (sym (shr-shr s n 1))
+
+low : (s n : ℕ) → s % 2 ^ suc n ≡ s / 2 ^ n % 2 * 2 ^ n + s % 2 ^ n
+low s n = rw (← add-one n, add-comm n 1) (mod-pow-add s 1 n)
+
+record InLeft (s n i : ℕ) : Type 0 where
+  is : s / 2 ^ n ≡ 2 * i
+  test : ltb (s % 2 ^ suc n) (2 ^ n) ≡ true
+  place : s % 2 ^ suc n ≡ s % 2 ^ n
+
+record InRight (s n i : ℕ) : Type 0 where
+  is : s / 2 ^ n ≡ 2 * i + 1
+  test : ltb (s % 2 ^ suc n) (2 ^ n) ≡ false
+  place : s % 2 ^ suc n - 2 ^ n ≡ s % 2 ^ n
+
+by-half : (s n i : ℕ) → s / 2 ^ suc n ≡ i → InLeft s n i ⊎ InRight s n i
+by-half s n i e =
+    let h : s / 2 ^ n / 2 ≡ i = sym (half s n) ∙ e in
+    let l : s % 2 ^ n < 2 ^ n = mod-lt s (pow-pos n) in
+    elim (decLt 0 (s / 2 ^ n % 2)) [
+      | yes p ↦
+          let odd : s / 2 ^ n % 2 ≡ 1 = omega arith in
+          let at : s % 2 ^ suc n ≡ 2 ^ n + s % 2 ^ n = rw odd at (low s n) ∙ omega arith in
+          inr (record { is = omega arith; test = le-ltb (s % 2 ^ suc n) (2 ^ n) (omega arith); place = omega arith })
+      | no p ↦
+          let even : s / 2 ^ n % 2 ≡ 0 = omega arith in
+          let at : s % 2 ^ suc n ≡ s % 2 ^ n = rw even at (low s n) ∙ omega arith in
+          inl (record { is = omega arith; test = lt-ltb (s % 2 ^ suc n) (2 ^ n) (omega arith); place = at })
+    ]
+
+-- an amount more at a slot
+module _ (t t′ : ℕ → ℕ → ℕ) (adds′ : Adds t′) (s a : ℕ) (plus : (n i : ℕ) → t′ n i ≡ cond (eqb (s / 2 ^ n) i) a 0 + t n i) where
+  plus-at : (n i : ℕ) → s / 2 ^ n ≡ i → t′ n i ≡ t n i + a
+  plus-at n i e = plus n i ∙ rw (eq-eqb (s / 2 ^ n) i e) (omega arith)
+
+  pub plus-off : (n i : ℕ) → (s / 2 ^ n ≡ i → ⊥) → t′ n i ≡ t n i
+  plus-off n i e = plus n i ∙ rw (ne-eqb (s / 2 ^ n) i e) (omega arith)
+
+  plus-more : (n i : ℕ) → t n i ≤ t′ n i
+  plus-more n i = omega (arith, plus n i)
+
+  -- a block that the slot is not in
+  pub canon-off : (n i : ℕ) → (s / 2 ^ n ≡ i → ⊥) → canon t′ n i ≡ canon t n i
+  unfolding canon small
+  canon-off zero i e = ap counter (plus-off 0 i e)
+  canon-off (suc n) i e =
+      let l : s / 2 ^ n ≡ 2 * i → ⊥ = λ h. e (half s n ∙ omega arith) in
+      let r : s / 2 ^ n ≡ 2 * i + 1 → ⊥ = λ h. e (half s n ∙ omega arith) in
+      rw (plus-off n (2 * i) l, plus-off n (2 * i + 1) r, canon-off n (2 * i) l, canon-off n (2 * i + 1) r, plus-off (suc n) i e)
+
+  sum-off : (n i : ℕ) → (s / 2 ^ n ≡ i → ⊥) → t n i < cap n → fits (canon t n i) ≡ canonSum t′ n i
+  sum-off n i e p = rw (sum-fits t′ n i (omega (arith, plus-off n i e)), canon-off n i e)
+
+  -- an addition to the block with the old totals leaves the block with the new, or is over exactly where the new total is
+  pub add-canon : (n i : ℕ) → s / 2 ^ n ≡ i → add (canon t n i) (s % 2 ^ n) a ≡ canonSum t′ n i
+  unfolding add canon canonSum small held
+  add-canon zero i e = rw (plus-at 0 i e)
+  add-canon (suc n) i e =
+      canon-cases t n i (λ b. add b (s % 2 ^ suc n) a ≡ canonSum t′ (suc n) i)
+      (λ p q. ⊎-elim
+      (λ x.
+      rw (x .test, x .place, add-canon n (2 * i) (x .is), sum-off n (2 * i + 1) (λ h. omega (arith, x .is)) q) (join-canon t′ adds′ n i))
+      (λ x. rw (x .test, x .place, add-canon n (2 * i + 1) (x .is), sum-off n (2 * i) (λ h. omega (arith, x .is)) p) (join-canon t′ adds′ n i))
+      (by-half s n i e))
+      (λ l. rw (← plus-at (suc n) i e)
+      (sym (sum-merged t′ n i (λ p q. l (omega (arith, plus-more n (2 * i))) (omega (arith, plus-more n (2 * i + 1)))))))
+
+-- the sums of two totals
+module _ (t u v : ℕ → ℕ → ℕ) (adds-t : Adds t) (adds-u : Adds u) (adds-v : Adds v) (sum : (n i : ℕ) → v n i ≡ t n i + u n i) where
+  -- a union of blocks with these totals leaves the block with the sums, or is over exactly where the sum is
+  pub unite-canon : (n i : ℕ) → unite (canon t n i) (canon u n i) ≡ canonSum v n i
+  unfolding unite canon canonSum small held total
+  unite-canon zero i = rw (sum 0 i)
+  unite-canon (suc n) i =
+      canon-cases t n i (λ b. unite b (canon u (suc n) i) ≡ canonSum v (suc n) i)
+      (λ p q. canon-cases u n i (λ b. unite (split (canon t n (2 * i)) (canon t n (2 * i + 1))) b ≡ canonSum v (suc n) i)
+      (λ p′ q′. rw (unite-canon n (2 * i), unite-canon n (2 * i + 1)) (join-canon v adds-v n i))
+      (λ l. rw (canon-total t adds-t n (2 * i), canon-total t adds-t n (2 * i + 1), ← adds-t n i, ← sum (suc n) i)
+      (sym (sum-merged v n i (λ x y. l (omega (arith, sum n (2 * i))) (omega (arith, sum n (2 * i + 1))))))))
+      (λ l. rw (canon-total u adds-u (suc n) i, ← sum (suc n) i)
+      (sym (sum-merged v n i (λ x y. l (omega (arith, sum n (2 * i))) (omega (arith, sum n (2 * i + 1)))))))
+
+module _ (t : ℕ → ℕ → ℕ) where
+  -- a slot's counter holds the total of the block of its level that the slot is in
+  pub counter-is : (n i s : ℕ) → s / 2 ^ n ≡ i
+      → counterAt (canon t n i) (s % 2 ^ n) .value ≡ t (counterAt (canon t n i) (s % 2 ^ n) .level) (s / 2 ^ counterAt (canon t n i) (s % 2 ^ n) .level)
+  unfolding canon counterAt
+  counter-is zero i s e = ap (t 0) (sym e)
+  counter-is (suc n) i s e =
+      canon-cases t n i (λ b. counterAt b (s % 2 ^ suc n) .value ≡ t (counterAt b (s % 2 ^ suc n) .level) (s / 2 ^ counterAt b (s % 2 ^ suc n) .level))
+      (λ p q. ⊎-elim
+      (λ x. rw (x .test, x .place) (counter-is n (2 * i) s (x .is)))
+      (λ x. rw (x .test, x .place) (counter-is n (2 * i + 1) s (x .is)))
+      (by-half s n i e))
+      (λ l. ap (t (suc n)) (sym e))
+
+  -- a counter above level 0 has a half that is too large
+  pub record Cause (w j : ℕ) : Type 0 where
+    pub index : ℕ
+    pub inside : (index + 1) * 2 ^ j ≤ w
+    pub large : cap j ≤ t j index
+
+  pub widest-cause : (n i j w : ℕ) → (i + 1) * 2 ^ n ≤ w → widest (shape (canon t n i)) ≡ suc j → Cause w j
+  unfolding canon shape widest
+  widest-cause zero i j w b = λ e. absurd (omega arith)
+  widest-cause (suc n) i j w b =
+      let double : 2 ^ suc n ≡ 2 * 2 ^ n = omega arith in
+      let twice : (i + 1) * 2 ^ suc n ≡ 2 * ((i + 1) * 2 ^ n) = ap (λ (x : ℕ). (i + 1) * x) double ∙ omega arith in
+      let lb : (2 * i + 1) * 2 ^ n ≤ w = omega arith in
+      let rb : (2 * i + 1 + 1) * 2 ^ n ≤ w = omega arith in
+      canon-cases t n i (λ x. widest (shape x) ≡ suc j → Cause w j)
+      (λ p q e. elim (ℕ-discrete (widest (shape (canon t n (2 * i)))) (suc j)) [
+        | yes f ↦ widest-cause n (2 * i) j w lb f
+        | no f ↦ widest-cause n (2 * i + 1) j w rb (omega arith)
+      ])
+      (λ l e.
+      let same : j ≡ n = omega arith in
+      rw same
+      (elim (decLt (t n (2 * i)) (cap n)) [
+        | yes p ↦ record { index = 2 * i + 1; inside = rb; large = elim (decLt (t n (2 * i + 1)) (cap n)) [ yes q ↦ absurd (l p q) | no q ↦ omega arith ] }
+        | no p ↦ record { index = 2 * i; inside = lb; large = omega arith }
+      ]))
+
+  -- a block that is too large for its level has a wider counter around it
+  pub wider : (n s j : ℕ) → j < n → cap j ≤ t j (s / 2 ^ j) → suc j ≤ widest (shape (canon t n (s / 2 ^ n)))
+  unfolding shape widest
+  wider zero s j h l = absurd (omega arith)
+  wider (suc n) s j h l =
+      canon-cases t n (s / 2 ^ suc n) (λ x. suc j ≤ widest (shape x))
+      (λ p q.
+      elim (ℕ-discrete j n) [
+        | yes e ↦ ⊎-elim
+            (λ x. absurd (omega (arith, rw (e, x .is) at l)))
+            (λ x. absurd (omega (arith, rw (e, x .is) at l)))
+            (by-half s n (s / 2 ^ suc n) refl)
+        | no e ↦ ⊎-elim
+            (λ x. omega (arith, rw (x .is) at (wider n s j (omega arith) l)))
+            (λ x. omega (arith, rw (x .is) at (wider n s j (omega arith) l)))
+            (by-half s n (s / 2 ^ suc n) refl)
+      ])
+      (λ l. h)
+
+-- a counter's level is at most the widest
+pub level-le : {n : ℕ} (b : Block n) (k : ℕ) → counterAt b k .level ≤ widest (shape b)
+unfolding counterAt shape widest
+level-le (counter v) k = omega arith
+level-le (split {n} l r) k = go (ltb k (2 ^ n)) (level-le l k) (level-le r (k - 2 ^ n))
+  where
+    go : (b : Bool) → counterAt l k .level ≤ widest (shape l) → counterAt r (k - 2 ^ n) .level ≤ widest (shape r)
+        → cond b (counterAt l k) (counterAt r (k - 2 ^ n)) .level ≤ max (widest (shape l)) (widest (shape r))
+    go true p q = omega arith
+    go false p q = omega arith

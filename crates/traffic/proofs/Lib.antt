@@ -1,0 +1,10 @@
+pub mod Example
+pub mod Canon
+pub mod Totals
+pub mod Gather
+pub mod Answers
+pub mod Steps
+pub mod Bytes
+pub mod Records
+pub mod Refused
+pub mod Theorem

@@ -1,0 +1,5 @@
+pub mod Traffic
+pub mod Calls
+pub mod Canon
+pub mod Claim
+pub mod Example
