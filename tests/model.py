@@ -175,11 +175,16 @@ def replaced(words, i, w):
     return words[:i] + [w] + words[i + 1 :]
 
 
+def key_at(s):
+    """A key that lands in a slot of row 0, of 32."""
+    return next(key for key in (b"k%d" % i for i in range(10000)) if slot(0, key, 32) == s)
+
+
 def cases():
     """Each case's name and bytes."""
     start = head(2, 64)
     seven = b"1234567"  # a key of three words, two bytes of the last unused
-    first = start + update(b"AB", 7) + ask(b"AB")  # 8 words
+    first = start + update(b"AB", 7) + ask(b"AB")  # 7 words
     whole = ended(first)
 
     yield "listing", to_bytes(ended(head(1, 32) + update(b"A", 300) + ask(b"A")))
@@ -190,6 +195,8 @@ def cases():
     for n in range(4):
         yield "input_of_%d_bytes" % n, to_bytes(start)[:n]
     yield "head_alone", to_bytes(start)
+    for n in (1, 2, 3):
+        yield "head_and_%d_bytes" % n, to_bytes(ended(start))[: 4 + n]
     for kind in [0] + list(range(2, 16)):
         yield "head_kind_%d" % kind, to_bytes([word(kind, start[0] % 2**28)] + whole[1:])
     for d in (0, 9, 15):
@@ -213,7 +220,7 @@ def cases():
         yield "first_word_kind_%d" % kind, to_bytes(ended(first + [word(kind, 1)]))
     yield "second_head", to_bytes(first + whole)
     for name, kind in (("update", 5), ("ask", 6)):
-        for n in (0, 65, 2**27, 2**28 - 1):
+        for n in (0, 65, 257, 2**27 + 1, 2**28 - 1):
             yield "%s_key_length_%d" % (name, n), to_bytes(ended(first + [word(kind, n)]))
         yield "%s_key_length_65_of_65_bytes" % name, to_bytes(
             ended(first + {5: update(b"k" * 65, 1), 6: ask(b"k" * 65)}[kind])
@@ -248,16 +255,16 @@ def cases():
     yield "fault_before_missing_word", to_bytes(first + double[:2])
 
     # the end
-    for n in (0, 7, 9, 2**27, 2**28 - 1):
+    for n in (0, 6, 8, 2**27 + 7, 2**28 - 1):
         yield "end_number_%d" % n, to_bytes(first + [word(4, n)])
-    yield "end_number_wrong_and_more", to_bytes(first + [word(4, 7)] + whole)
+    yield "end_number_wrong_and_more", to_bytes(first + [word(4, 6)] + whole)
     for n in (1, 2, 3, 4, 7, 100, 70000):
         yield "end_and_%d_bytes" % n, to_bytes(whole) + bytes(n)
-    yield "end_twice", to_bytes(whole + [word(4, 9)])
+    yield "end_twice", to_bytes(whole + [word(4, 8)])
     yield "end_and_record", to_bytes(whole + ask(b"AB"))
     yield "end_missing", to_bytes(first)
     for n in (1, 2, 3):
-        yield "end_missing_%d_bytes" % n, to_bytes(first) + to_bytes([word(4, 8)])[:n]
+        yield "end_missing_%d_bytes" % n, to_bytes(first) + to_bytes([word(4, 7)])[:n]
 
     # keys and amounts
     for n in (1, 2, 3, 4, 5, 6, 63, 64):
@@ -277,6 +284,13 @@ def cases():
     for amount in (255, 0, 1, 65279, 1, 2**32 - 65537, 1, 2**32 - 1, 2**32 - 1, 5):
         grown += update(b"A", amount) + ask(b"A")
     yield "one_key_through_all_levels", to_bytes(ended(grown))
+    for level in range(3):
+        limit = 2 ** (8 * 2**level)
+        for name, s, other in (("right", 0, 2**level), ("left", 7, 7 - 2**level)):
+            key, beside = key_at(s), key_at(other)
+            words = head(1, 32) + update(beside, 5) + update(key, limit - 1) + ask(key) + ask(beside)
+            words += update(key, 1) + ask(key) + ask(beside)
+            yield "sibling_%s_of_level_%d" % (name, level), to_bytes(ended(words))
     draw = random.Random(1)
     for d, w, keys, top in ((1, 32, 9, 8), (1, 32, 40, 32), (2, 32, 60, 20), (4, 64, 200, 32), (8, 4096, 300, 32)):
         words = head(d, w)
@@ -298,10 +312,12 @@ def cases():
     yield "long", to_bytes(ended(long[0]))
     yield "long_with_fault", to_bytes(ended(long[1] + replaced(update(seven, 1), 5, word(8, 2**16))))
     yield "long_cut", to_bytes(long[2] + update(seven, 1))[:-1]
-    short = head(1, 32)
-    for i in range(9000):
-        short += ask(b"A")
-    yield "long_of_short_records", to_bytes(ended(short))
+    yield "long_of_short_records", to_bytes(ended(head(1, 32) + 9000 * ask(b"A")))
+    exact = to_bytes(ended(head(1, 32) + 712 * ask(bytes(64)) + 3 * ask(b"A")))
+    assert len(exact) == 65536
+    yield "65536_bytes", exact
+    yield "65536_bytes_and_1", exact + b"\0"
+    yield "65536_bytes_less_1", exact[:-1]
 
 
 def many(n):
