@@ -1,3 +1,4 @@
 pub mod Widths
+pub mod Unmerged
 pub mod Lists
 pub mod Groups

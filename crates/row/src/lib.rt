@@ -7,8 +7,8 @@ use group::hash::Hash;
 ghost use mathlib.Core.Path.{_≡_};
 ghost use mathlib.Core.Bool.{true};
 ghost use mathlib.Core.List.{_++_};
-ghost use Prim.Native.Nat.{_+_, _*_, _/_, _<_, _≤_, max};
-ghost use lib.ListN.{length, take, drop};
+ghost use Prim.Native.Nat.{ℕ, _+_, _*_, _/_, _<_, _≤_, max};
+ghost use lib.ListN.{length, getD, take, drop};
 ghost use Rattle.row.specs.Geometry.{validDepth, validWidth};
 ghost use Rattle.row.specs.Geometry as geometry;
 ghost use Rattle.row.specs.Order.{badKey, badShape, answerOf};
@@ -232,8 +232,38 @@ pub fn united_at(row: &[u8], source: &[u8], w: usize, g: usize) -> Outcome
     group::unite(load(row, w, g), load(source, w, g))
 }
 
-// Whether a row takes a source row.
+fn wide(byte: u8) -> u32
+    ensures { λ r. ⌜ (r ≡ byte) × (r < 256) ⌝ }
+{
+    byte as u32
+}
+
+// Whether no group of a row is merged. One sum over the merge bytes tells, with no test on the way.
+fn is_unmerged(row: &[u8], w: usize) -> bool
+    requires { ⌜ validWidth w ≡ true ⌝ ∗ ⌜ length (now row) ≡ geometry.stride w ⌝ }
+    ensures { λ r. ⌜ (r ≡ true → (g : ℕ) → g < w / 8 → getD (now (row .entry)) (w + g) 0 ≡ 0) ⌝ }
+{
+    let mut sum = 0u32;
+    for g in 0..w / 8 {
+        sum += wide(row[w + g]);
+    }
+    sum == 0
+}
+
+// Whether a row takes a source row. Unmerged groups do.
 pub fn unite_status(row: &[u8], source: &[u8], w: usize) -> u8
+    requires { ⌜ validWidth w ≡ true ⌝ ∗ ⌜ length (now row) ≡ geometry.stride w ⌝ ∗ ⌜ length (now source) ≡ geometry.stride w ⌝ }
+    ensures { λ r. ⌜ r ≡ uniteStatus w (now (source .entry)) (now (row .entry)) ⌝ }
+{
+    if is_unmerged(row, w) {
+        if is_unmerged(source, w) {
+            return 0;
+        }
+    }
+    merged_status(row, source, w)
+}
+
+fn merged_status(row: &[u8], source: &[u8], w: usize) -> u8
     requires { ⌜ validWidth w ≡ true ⌝ ∗ ⌜ length (now row) ≡ geometry.stride w ⌝ ∗ ⌜ length (now source) ≡ geometry.stride w ⌝ }
     ensures { λ r. ⌜ r ≡ uniteStatus w (now (source .entry)) (now (row .entry)) ⌝ }
 {

@@ -1,67 +1,31 @@
-use Rattle.row.specs.Row.{unitedStatus, uniteStatus}
-use Rattle.row.proofs.Lists.{status-start, status-turn, status-end}
-use Rattle.group.specs.declared.Outcome.{Outcome}
-use mathlib.Core.Path.{_≡_, refl, sym, ap, _∙_}
-use Prim.Native.Nat.{_-_, _/_, _≤_}
-use native.Mathlib.Omega.{arith}
+use mathlib.Core.Path.{sym}
+use Rattle.group.proofs.Bytes.{Bytes}
+use Rattle.row.proofs.Unmerged.{unmerged-status}
 use borrow.Author.Needs.{needs}
-use Rattle.row.proofs.Widths.{group-in}
-use Rattle.row.specs.Order.{earlier, earliest}
-use Rattle.row.specs.Rows.{ofGroups}
 use Rattle.row.proofs.unite_status.Statement.{statement}
 use Rattle.row.proofs.unite_status.Tie as tie
 
-abbrev Inv-loop : tie.InvT-loop
-Inv-loop row source w status₀ g₀ g-end status g = (g ≤ g-end) × (g-end ≡ w / 8) × (earlier status (earliest (ofGroups (unitedStatus w source row) (g-end - g) g)) ≡ uniteStatus w source row)
+is-unmerged-requires : tie.Need-is-unmerged-requires
+is-unmerged-requires c κs = search needs
 
-abbrev μ-loop : tie.MeasureT-loop
-μ-loop row source w status₀ g₀ g-end status g = g-end - g
+is-unmerged-requires-2 : tie.Need-is-unmerged-requires-2
+is-unmerged-requires-2 c κs = search needs
 
-loop-holds : tie.Need-loop-holds Inv-loop μ-loop
-unfolding uniteStatus
-loop-holds c = (omega arith, refl, status-start (unitedStatus (c .before .before .args .w) (c .before .before .args .source .now) (c .before .before .args .row .now)) (c .before .before .args .w / 8))
+returns : tie.Need-returns
+returns c = let k = c .before .before .before .before in
+    let s = k .before .before in
+    let a = s .args in
+    let b : Bytes (a .row .now) = λ i. k .before .shared-slice-known .given i .fits in
+    let d : Bytes (a .source .now) = λ i. k .shared-slice-known2 .given i .fits in
+    sym (unmerged-status (a .w) (a .row .now) (a .source .now) (s .pre .0) (s .pre .1 .0) (s .pre .1 .1) b d (c .before .before .before .is-unmerged .ensures (c .before .before .if1 .taken)) (c .before .is-unmerged2 .ensures (c .if2 .taken)))
 
-united-at-requires : tie.Need-united-at-requires Inv-loop μ-loop
-united-at-requires c κs = let s = c .before .before .before .before in
-    let i = group-in (s .args .w) (c .before .loop .g) (s .pre .0) (omega arith) in
-    (i .0, (omega arith, omega arith))
+merged-status-requires : tie.Need-merged-status-requires
+merged-status-requires c κs = search needs
 
-earlier-requires : tie.Need-earlier-requires Inv-loop μ-loop
-earlier-requires c κs = search needs
-
-add-g : tie.Need-add-g Inv-loop μ-loop
-add-g c = search needs
-
-loop-less : tie.Need-loop-less Inv-loop μ-loop
-loop-less c = search needs
-
-loop-again : tie.Need-loop-again Inv-loop μ-loop
-unfolding unitedStatus
-loop-again c = let a = c .before .before .before .before .before .before .args in
-    let l = c .before .before .before .loop in (
-      omega arith,
-      l .inv .1,
-      rw (c .earlier .ensures)
-          (status-turn (unitedStatus (a .w) (a .source .now) (a .row .now)) (a .w / 8) (l .g) (l .status) (c .before .united-at .result .status) (omega arith)
-          (ap (λ (o : Outcome). o .status) (c .before .united-at .ensures))
-          ∙ l .inv .2),
-    )
-
-returns : tie.Need-returns Inv-loop μ-loop
-returns c = let a = c .before .before .before .before .args in
-    let l = c .before .loop in
-    sym (status-end (unitedStatus (a .w) (a .source .now) (a .row .now)) (a .w / 8) (l .g) (l .status) (omega arith)) ∙ l .inv .2
+returns-2 : tie.Need-returns-2
+returns-2 c = search needs
 
 pub unite-status-spec : {M : Type 1} → statement M
 unite-status-spec =
     tie.close
-    (tie.spec
-    Inv-loop
-    μ-loop
-    loop-holds
-    united-at-requires
-    earlier-requires
-    add-g
-    loop-less
-    loop-again
-    returns)
+    (tie.spec is-unmerged-requires is-unmerged-requires-2 returns merged-status-requires returns-2)

@@ -1,0 +1,67 @@
+use Rattle.row.specs.Row.{unitedStatus, uniteStatus}
+use Rattle.row.proofs.Lists.{status-start, status-turn, status-end}
+use Rattle.group.specs.declared.Outcome.{Outcome}
+use mathlib.Core.Path.{_≡_, refl, sym, ap, _∙_}
+use Prim.Native.Nat.{_-_, _/_, _≤_}
+use native.Mathlib.Omega.{arith}
+use borrow.Author.Needs.{needs}
+use Rattle.row.proofs.Widths.{group-in}
+use Rattle.row.specs.Order.{earlier, earliest}
+use Rattle.row.specs.Rows.{ofGroups}
+use Rattle.row.proofs.merged_status.Statement.{statement}
+use Rattle.row.proofs.merged_status.Tie as tie
+
+abbrev Inv-loop : tie.InvT-loop
+Inv-loop row source w status₀ g₀ g-end status g = (g ≤ g-end) × (g-end ≡ w / 8) × (earlier status (earliest (ofGroups (unitedStatus w source row) (g-end - g) g)) ≡ uniteStatus w source row)
+
+abbrev μ-loop : tie.MeasureT-loop
+μ-loop row source w status₀ g₀ g-end status g = g-end - g
+
+loop-holds : tie.Need-loop-holds Inv-loop μ-loop
+unfolding uniteStatus
+loop-holds c = (omega arith, refl, status-start (unitedStatus (c .before .before .args .w) (c .before .before .args .source .now) (c .before .before .args .row .now)) (c .before .before .args .w / 8))
+
+united-at-requires : tie.Need-united-at-requires Inv-loop μ-loop
+united-at-requires c κs = let s = c .before .before .before .before in
+    let i = group-in (s .args .w) (c .before .loop .g) (s .pre .0) (omega arith) in
+    (i .0, (omega arith, omega arith))
+
+earlier-requires : tie.Need-earlier-requires Inv-loop μ-loop
+earlier-requires c κs = search needs
+
+add-g : tie.Need-add-g Inv-loop μ-loop
+add-g c = search needs
+
+loop-less : tie.Need-loop-less Inv-loop μ-loop
+loop-less c = search needs
+
+loop-again : tie.Need-loop-again Inv-loop μ-loop
+unfolding unitedStatus
+loop-again c = let a = c .before .before .before .before .before .before .args in
+    let l = c .before .before .before .loop in (
+      omega arith,
+      l .inv .1,
+      rw (c .earlier .ensures)
+          (status-turn (unitedStatus (a .w) (a .source .now) (a .row .now)) (a .w / 8) (l .g) (l .status) (c .before .united-at .result .status) (omega arith)
+          (ap (λ (o : Outcome). o .status) (c .before .united-at .ensures))
+          ∙ l .inv .2),
+    )
+
+returns : tie.Need-returns Inv-loop μ-loop
+returns c = let a = c .before .before .before .before .args in
+    let l = c .before .loop in
+    sym (status-end (unitedStatus (a .w) (a .source .now) (a .row .now)) (a .w / 8) (l .g) (l .status) (omega arith)) ∙ l .inv .2
+
+pub merged-status-spec : {M : Type 1} → statement M
+merged-status-spec =
+    tie.close
+    (tie.spec
+    Inv-loop
+    μ-loop
+    loop-holds
+    united-at-requires
+    earlier-requires
+    add-g
+    loop-less
+    loop-again
+    returns)
