@@ -2,7 +2,7 @@
 use mathlib.Core.Path.{_≡_, refl, sym, ap, _∙_}
 use mathlib.Core.Bool.{Bool, true, false, cond}
 use mathlib.Core.List.{List}
-use Prim.Native.Nat.{ℕ, zero, suc, _+_, _-_, _%_, _^_, _≤_, _<_}
+use Prim.Native.Nat.{ℕ, zero, suc, _+_, _-_, _^_, _≤_, _<_}
 use native.Mathlib.Decide.{decLt}
 use native.Mathlib.Omega.{arith}
 use lib.Dec.{eqb}
@@ -11,7 +11,7 @@ use Rattle.group.specs.declared.Answer.{Answer}
 use Rattle.row.specs.Order.{badShape, answerOf, finish}
 use Rattle.meter.specs.Meter.{updated, estimated}
 use Rattle.word.specs.declared.Step.{Step}
-use Rattle.word.specs.Word.{endKind, go, stop, next, payload, isDue, tested, below}
+use Rattle.word.specs.Word.{go, stop, next, isDue, tested, below}
 use Rattle.word.proofs.Laws.{due-in}
 use Rattle.feed.specs.declared.words.Opening.{Opening}
 use Rattle.feed.specs.declared.words.Opening.the-variants as opening
@@ -19,7 +19,7 @@ use Rattle.feed.specs.declared.words.Body.the-variants as body
 use Rattle.feed.specs.declared.Recorded.{Recorded}
 use Rattle.feed.specs.declared.Recorded.the-variants as case
 use Rattle.feed.specs.Answers.{recordAnswer}
-use Rattle.feed.specs.Words.{updateKind, queryKind, opensKey, opened, keyWords, keyWord, checkKey, checkAmount, keyOf, amountOf, updateStep, queryStep, bodyOf, updateBody, queryBody}
+use Rattle.feed.specs.Words.{opened, keyWords, keyWord, checkKey, checkAmount, keyOf, amountOf, updateStep, queryStep, bodyOf, updateBody, queryBody}
 use Rattle.feed.specs.Record.{Carried, outcomeOf, carriedUpdate, queried, carried, carriedAfter, recorded}
 
 -- a step inside so many words

@@ -8,7 +8,7 @@ use native.Mathlib.Nat.{mod-eq-of-lt, one-mul, mul-le-mul-right, suc-mul, add-mu
 use native.Mathlib.Numerals.{add-one, sub-one}
 use native.Mathlib.Omega.{arith}
 use borrow.Rule.Slice.PartMut.{putMid, post-is}
-use borrow.Author.Tests.{eq-eqb, ne-eqb, ltb-true, eqb-true}
+use borrow.Author.Tests.{eqb-true}
 use lib.Dec.{eqb, ltb}
 use lib.ListN.{length, getD, take, drop, set, length-append, drop-of-length-le, take-append-drop}
 use lib.Pow.{pow-mono, pow-pos}
@@ -26,8 +26,7 @@ use Rattle.row.specs.Rows.{groupAt, withGroup}
 use Rattle.group.specs.Status.{invalidMerge, accepted, rejected}
 use Rattle.group.specs.Pack.{fourCode, packed}
 use Rattle.group.proofs.Packing.{four-below}
-use Rattle.word.specs.declared.Step.{Step}
-use Rattle.word.specs.Word.{isDue, next, below, payload}
+use Rattle.word.specs.Word.{next, below, payload}
 use Rattle.image.specs.Image.{word, countKind, logFrom, parts, wordsOf, levelAt, isFirst, slotWords, slotsWords, groupWords, groupsWords, fourWords, rowWords, rowsWords, layoutAt}
 use Rattle.image.specs.Write.{allValid, validRows, slotSize, slotsSize, groupSize}
 use Rattle.image.specs.Read.{checkParts, checkSlot, checkSlots, checkGroups, checkFour, checkFours, valueFrom, firstBits, readSlot, readSlots, mergesAt, readGroup, readGroups, afterGroups, afterFours, readFours, readRows}

@@ -1,9 +1,9 @@
 -- Reading an image. Document 01, 'Images and feeds' and 'Turned away, in checking order'.
 use Prim.Native.Nat.{ℕ, zero, suc, _+_, _-_, _*_, _/_, _%_, _^_}
-use mathlib.Core.Bool.{Bool, cond, _&&_}
+use mathlib.Core.Bool.{cond}
 use mathlib.Core.List.{List, [], _∷_, _++_}
-use lib.Dec.{eqb, ltb}
-use lib.ListN.{length, getD, take, drop, replicate}
+use lib.Dec.{eqb}
+use lib.ListN.{length, take, drop, replicate}
 use Rattle.group.specs.declared.Group.{Group}
 use Rattle.group.specs.Status.{badPayload, accepted, rejected}
 use Rattle.group.specs.Group.{changed}
@@ -11,7 +11,7 @@ use Rattle.group.specs.Pack.{unpacked}
 use Rattle.row.specs.Geometry.{stride}
 use Rattle.row.specs.Order.{badShape, Done}
 use Rattle.row.specs.Rows.{withGroup}
-use Rattle.word.specs.Word.{headKind, endKind, badWord, go, stop, next, payload, isDue, tested, below}
+use Rattle.word.specs.Word.{headKind, endKind, badWord, go, stop, next, payload, tested, below}
 use Rattle.image.specs.Image.{layoutKind, countKind, headPayload, wordsOf, levelAt, isFirst}
 use Rattle.image.specs.Write.{slotSize, groupSize}
 use Rattle.word.specs.declared.Step.{Step}

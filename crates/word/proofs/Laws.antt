@@ -1,12 +1,11 @@
 -- Laws of words.
 use mathlib.Core.Path.{_≡_, refl, sym}
-use mathlib.Core.Bool.{Bool, true, false, _&&_}
+use mathlib.Core.Bool.{Bool, true, false, _&&_, true≢false}
 use mathlib.Core.List.{List}
 use Prim.Native.Nat.{ℕ, _/_, _^_, _<_}
 use lib.Dec.{eqb, ltb}
 use lib.ListN.{length, getD}
 use borrow.Author.Tests.{ltb-true, eq-eqb, ne-eqb}
-use mathlib.Core.Bool.{true≢false}
 use Rattle.word.specs.declared.Step.{Step}
 use Rattle.word.specs.Word.{isDue, next}
 

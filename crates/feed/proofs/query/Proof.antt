@@ -1,14 +1,11 @@
 use Rattle.group.specs.declared.Answer.{Answer}
 use Rattle.feed.specs.declared.Recorded.{Recorded}
 use Rattle.feed.specs.declared.Recorded.the-variants as case
-use Rattle.feed.proofs.Laws.{lent, outcome-rejected, outcome-accepted}
-use mathlib.Core.Path.{_≡_, refl, sym, ap, _∙_}
-use borrow.Author.Tests.{eq-eqb, ne-eqb}
+use Rattle.feed.proofs.Laws.{lent, outcome-rejected, outcome-accepted, query-refused, query-sound}
+use mathlib.Core.Path.{_≡_, sym, ap, _∙_}
 use Rattle.feed.specs.Words.{queryBody, keyOf}
 use Rattle.feed.specs.Record.{rejection, outcomeOf, queried}
-use Rattle.feed.proofs.Laws.{query-refused, query-sound}
 use Rattle.meter.specs.Meter.{estimated}
-use Prim.Native.Nat.{ℕ}
 use borrow.Author.Needs.{needs}
 use Rattle.feed.proofs.query.Statement.{statement}
 use Rattle.feed.proofs.query.Tie as tie

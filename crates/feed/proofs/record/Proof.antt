@@ -1,14 +1,8 @@
 use Rattle.feed.proofs.Places.{all-of}
-use Rattle.feed.proofs.Laws.{is-end}
-use Rattle.feed.specs.declared.words.Opening.the-variants as opening
+use Rattle.feed.proofs.Laws.{is-end, lengthIn, opened-short, record-good, record-bad}
 use mathlib.Core.Path.{_≡_, refl, sym, ap, _∙_}
-use mathlib.Core.List.{List}
-use Prim.Native.Nat.{ℕ, _≤_}
-use Rattle.feed.specs.declared.Recorded.{Recorded}
-use Rattle.feed.specs.declared.words.Opening.{Opening}
-use Rattle.feed.specs.Words.{opened}
-use Rattle.feed.specs.Record.{Carried, carried, recorded}
-use Rattle.feed.proofs.Laws.{lengthIn, opened-short, record-good, record-bad}
+use Prim.Native.Nat.{_≤_}
+use Rattle.feed.specs.Record.{carried, recorded}
 use borrow.Author.Needs.{needs}
 use Rattle.feed.proofs.record.Statement.{statement}
 use Rattle.feed.proofs.record.Tie as tie

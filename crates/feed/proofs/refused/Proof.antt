@@ -1,8 +1,6 @@
-use mathlib.Core.Path.{_≡_, _∙_, sym, ap}
+use mathlib.Core.Path.{_∙_, sym, ap}
 use Rattle.feed.specs.Record.{rejection}
-use mathlib.Core.Path.{_≡_, _∙_, sym}
 use Rattle.feed.proofs.Laws.{sound-answer}
-use mathlib.Core.Path.{sym, ap, _∙_}
 use borrow.Author.Needs.{needs}
 use Rattle.feed.proofs.refused.Statement.{statement}
 use Rattle.feed.proofs.refused.Tie as tie

@@ -1,14 +1,10 @@
 use Rattle.group.specs.declared.Answer.{Answer}
 use Rattle.feed.specs.declared.Recorded.the-variants as case
-use Rattle.feed.specs.Record.{Carried}
-use Rattle.feed.proofs.Laws.{lent, outcome-rejected, outcome-accepted}
+use Rattle.feed.specs.Record.{Carried, rejection, outcomeOf, carriedUpdate}
+use Rattle.feed.proofs.Laws.{lent, outcome-rejected, outcome-accepted, update-refused}
 use mathlib.Core.Path.{_≡_, refl, sym, ap, _∙_}
 use mathlib.Core.List.{List}
-use borrow.Author.Tests.{eq-eqb, ne-eqb}
-use Rattle.feed.specs.declared.words.Body.the-variants as body
 use Rattle.feed.specs.Words.{updateBody, keyOf}
-use Rattle.feed.specs.Record.{rejection, outcomeOf, carriedUpdate}
-use Rattle.feed.proofs.Laws.{update-refused}
 use Rattle.meter.specs.Meter.{updated}
 use Rattle.row.specs.Order.{Done}
 use Prim.Native.Nat.{ℕ}

@@ -1,6 +1,6 @@
 use Prim.Native.Nat.{ℕ, _+_}
 use mathlib.Core.Bool.{true, false}
-use mathlib.Core.Path.{_≡_, sym, ap, ap₂, _∙_}
+use mathlib.Core.Path.{_≡_, sym, ap, _∙_}
 use Rattle.word.specs.Word.{payload, isDue}
 use Rattle.feed.specs.Words.{wordsTaken, keyWords, updateKind, queryKind}
 use borrow.Author.Needs.{needs}

@@ -1,8 +1,7 @@
-use native.Mathlib.Omega.{arith}
-use Prim.Native.Nat.{ℕ, _+_, _^_, _<_}
-use mathlib.Core.Path.{_≡_, refl, sym, ap, _∙_}
+use Prim.Native.Nat.{_+_, _^_, _<_}
+use mathlib.Core.Path.{sym}
 use Rattle.feed.specs.Answers.{recordAnswer}
-use Rattle.lines.specs.Line.{lineOf, rejectedLine}
+use Rattle.lines.specs.Line.{lineOf}
 use Rattle.lines.proofs.Laws.{updated-line, ended-line}
 use borrow.Author.Needs.{needs}
 use Rattle.lines.proofs.line_of.Statement.{statement}

@@ -1,6 +1,5 @@
 use Rattle.lines.proofs.Laws.{text-updated}
-use mathlib.Core.Path.{sym}
-use mathlib.Core.Path.{_≡_, _∙_}
+use mathlib.Core.Path.{sym, _∙_}
 use native.Mathlib.Omega.{arith}
 use Rattle.lines.specs.Line.{text}
 use borrow.Author.Needs.{needs}

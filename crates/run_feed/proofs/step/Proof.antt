@@ -1,7 +1,5 @@
-use lib.ListN.{length}
-use mathlib.Core.Path.{_≡_}
 use native.Mathlib.Omega.{arith}
-use Prim.Native.Nat.{ℕ, _+_, _^_, _<_, _≤_}
+use Prim.Native.Nat.{_^_, _<_}
 use borrow.Author.Needs.{needs}
 use Rattle.run_feed.proofs.step.Statement.{statement}
 use Rattle.run_feed.proofs.step.Tie as tie

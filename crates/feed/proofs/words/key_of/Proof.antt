@@ -1,15 +1,13 @@
 use lib.Seq.{take-suc-set}
-use Rattle.feed.specs.Words.{keyByte}
+use Rattle.feed.specs.Words.{keyByte, keyOf, keyFrom}
 use native.Mathlib.Nat.{zero-add}
 use native.Mathlib.Numerals.{add-one}
-use lib.ListN.{set, length-set, getD}
+use lib.ListN.{length-set, length, take}
 use mathlib.Core.Path.{_≡_, refl, sym, ap, ap₂, _∙_}
 use mathlib.Core.List.{List, [], _∷_, _++_}
-use Prim.Native.Nat.{ℕ, _-_, _*_, _+_, _≤_, _<_}
+use Prim.Native.Nat.{ℕ, _-_, _+_, _≤_}
 use native.Mathlib.Omega.{arith}
 use borrow.Author.Needs.{needs}
-use lib.ListN.{length, take}
-use Rattle.feed.specs.Words.{keyOf, keyFrom}
 use Rattle.feed.proofs.Laws.{key-more}
 use Rattle.feed.proofs.words.key_of.Statement.{statement}
 use Rattle.feed.proofs.words.key_of.Tie as tie

@@ -1,4 +1,3 @@
-use mathlib.Core.Path.{sym}
 use Prim.Native.Nat.{ℕ, _%_}
 use lib.Dec.{eqb}
 use mathlib.Core.Path.{ap}

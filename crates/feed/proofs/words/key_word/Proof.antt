@@ -1,7 +1,6 @@
 use mathlib.Core.Path.{_∙_, ap}
 use Rattle.word.specs.Word.{tested}
-use Rattle.group.specs.Status.{badPayload}
-use Rattle.feed.specs.Words.{keyKind, keyWord, keyPayload}
+use Rattle.feed.specs.Words.{keyWord, keyPayload}
 use borrow.Author.Needs.{needs}
 use Rattle.feed.proofs.words.key_word.Statement.{statement}
 use Rattle.feed.proofs.words.key_word.Tie as tie

@@ -1,5 +1,4 @@
 use borrow.Author.Tests.{eq-eqb, ne-eqb}
-use Rattle.row.specs.Order.{badKey}
 use Rattle.feed.specs.Words.{opensKey}
 use borrow.Author.Needs.{needs}
 use Rattle.feed.proofs.words.opens_key.Statement.{statement}

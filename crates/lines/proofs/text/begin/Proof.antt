@@ -1,4 +1,3 @@
-use native.Mathlib.Omega.{arith}
 use native.Mathlib.Nat.{zero-add}
 use lib.ListN.{length}
 use mathlib.Core.Path.{_∙_}

@@ -1,11 +1,10 @@
-use lib.Seq.{length-take-le}
+use lib.Seq.{length-take-le, take-all}
 use mathlib.Core.Path.{_≡_, refl, sym, ap, _∙_}
 use mathlib.Core.List.{_++_}
-use Prim.Native.Nat.{_-_, _/_, _*_, _≤_, min}
+use Prim.Native.Nat.{_-_, _/_, _≤_, min}
 use native.Mathlib.Nat.{zero-add}
 use native.Mathlib.Omega.{arith}
 use lib.ListN.{length, take, drop, length-set, getD}
-use lib.Seq.{take-all}
 use borrow.Author.Needs.{needs}
 use Rattle.lines.specs.Words.{wordsFrom, wordAt}
 use Rattle.lines.proofs.Laws.{words-length, words-at, copy-more}

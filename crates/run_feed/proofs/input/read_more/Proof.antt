@@ -1,10 +1,8 @@
-use mathlib.Core.Path.{_≡_, sym, _∙_}
-use borrow.Rule.Slice.PartMut.{putMid}
-use borrow.Rule.Slice.PartMut.{take-put, same-len-mid, mid-len}
+use mathlib.Core.Path.{_≡_}
+use borrow.Rule.Slice.PartMut.{putMid, take-put}
 use native.Mathlib.Omega.{arith}
-use borrow.Rule.Slice.PartMut.{take-put}
-use Prim.Native.Nat.{_-_, _+_, _≤_}
-use lib.ListN.{length, length-drop}
+use Prim.Native.Nat.{_-_}
+use lib.ListN.{length}
 use borrow.Author.Needs.{needs}
 use Rattle.run_feed.proofs.input.read_more.Statement.{statement}
 use Rattle.run_feed.proofs.input.read_more.Tie as tie

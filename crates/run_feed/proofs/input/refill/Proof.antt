@@ -1,8 +1,6 @@
-use Rattle.run_feed.specs.Buffers.{unused}
-use mathlib.Core.Path.{_≡_, _∙_, ap, sym}
+use mathlib.Core.Path.{_∙_}
 use native.Mathlib.Omega.{arith}
-use Prim.Native.Nat.{ℕ, _-_}
-use lib.ListN.{take, drop}
+use Prim.Native.Nat.{_-_}
 use borrow.Author.Needs.{needs}
 use Rattle.run_feed.proofs.input.refill.Statement.{statement}
 use Rattle.run_feed.proofs.input.refill.Tie as tie

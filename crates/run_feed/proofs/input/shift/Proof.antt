@@ -1,9 +1,9 @@
 use mathlib.Core.Path.{_≡_, refl, sym, ap, ap₂, _∙_}
 use mathlib.Core.List.{List, [], _∷_, _++_}
-use Prim.Native.Nat.{ℕ, suc, _+_, _-_, _≤_}
+use Prim.Native.Nat.{ℕ, _+_, _-_, _≤_}
 use native.Mathlib.Omega.{arith}
 use native.Mathlib.Numerals.{add-one}
-use lib.ListN.{length, take, drop, getD, set, length-set, length-drop}
+use lib.ListN.{length, take, drop, getD, length-set, length-drop}
 use lib.Seq.{take-suc, take-suc-set, drop-set-lt, getD-drop, drop-drop}
 use borrow.Author.Needs.{needs}
 use Rattle.run_feed.proofs.input.shift.Statement.{statement}

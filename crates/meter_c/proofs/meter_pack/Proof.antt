@@ -1,0 +1,29 @@
+use borrow.Author.Needs.{needs}
+use mathlib.Core.Path.{ap, _∙_}
+use Rattle.group.specs.declared.Answer.{Answer}
+use Rattle.meter_c.proofs.meter_pack.Statement.{statement}
+use Rattle.meter_c.proofs.meter_pack.Tie as tie
+use Rattle.meter_c.proofs.meter_pack.Reads as reads
+use Rattle.meter_c.proofs.meter_pack.Lts as lts
+use Rattle.group.proofs.pack.Reads as pack-reads
+use Rattle.meter_c.proofs.give.Reads as give-reads
+
+-- src/lib.rt:74:10
+pack-requires : tie.Need-pack-requires
+pack-requires c κs = search needs
+
+-- src/lib.rt:74:5
+give-requires : tie.Need-give-requires
+give-requires c κs = search needs
+
+-- src/lib.rt:68:1
+returns : tie.Need-returns
+returns c =
+    let a = c .before .before .before .pack .ensures in
+    let g = c .give .ensures in (
+      g .0 ∙ ap (λ (x : Answer). x .status) a,
+      (g .1 .0 ∙ ap (λ (x : Answer). x .position) a, g .1 .1 ∙ ap (λ (x : Answer). x .value) a),
+    )
+
+pub meter-pack-spec : {M : Type 1} → statement M
+meter-pack-spec = tie.close (tie.spec pack-requires give-requires returns)

@@ -1,0 +1,32 @@
+use borrow.Author.Needs.{needs}
+use mathlib.Core.Path.{ap, _∙_}
+use Rattle.group.specs.declared.Unpacked.{Unpacked}
+use Rattle.meter_c.proofs.meter_unpack.Statement.{statement}
+use Rattle.meter_c.proofs.meter_unpack.Tie as tie
+use Rattle.meter_c.proofs.meter_unpack.Reads as reads
+use Rattle.meter_c.proofs.meter_unpack.Lts as lts
+use Rattle.group.proofs.unpack.Reads as unpack-reads
+use Rattle.meter_c.proofs.give.Reads as give-reads
+
+-- src/lib.rt:84:9
+unpack-requires : tie.Need-unpack-requires
+unpack-requires c κs = search needs
+
+-- src/lib.rt:87:5
+give-requires : tie.Need-give-requires
+give-requires c κs = search needs
+
+-- src/lib.rt:77:1
+returns : tie.Need-returns
+returns c =
+    let a = c .before .before .before .before .unpack .ensures in
+    let g = c .give .ensures in (
+      g .0 ∙ ap (λ (u : Unpacked). u .answer .status) a,
+      (
+        g .1 .0 ∙ ap (λ (u : Unpacked). u .answer .position) a,
+        (g .1 .1 ∙ ap (λ (u : Unpacked). u .answer .value) a, ap (λ (u : Unpacked). u .merges) a),
+      ),
+    )
+
+pub meter-unpack-spec : {M : Type 1} → statement M
+meter-unpack-spec = tie.close (tie.spec unpack-requires give-requires returns)

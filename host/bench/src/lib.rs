@@ -1,0 +1,161 @@
+//! The two meters that the proved one is compared with: the same rule in plain C, and a Count-Min with counters of 64 bits.
+
+use meter::Answer;
+
+mod ffi {
+    extern "C" {
+        pub fn salsa_clear(d: usize, w: usize, memory: *mut u8, memory_len: usize, place: *mut u64, figure: *mut u64) -> u32;
+        pub fn salsa_update(
+            d: usize,
+            w: usize,
+            memory: *mut u8,
+            memory_len: usize,
+            key: *const u8,
+            key_len: usize,
+            amount: u32,
+            place: *mut u64,
+            figure: *mut u64,
+        ) -> u32;
+        pub fn salsa_estimate(
+            d: usize,
+            w: usize,
+            memory: *const u8,
+            memory_len: usize,
+            key: *const u8,
+            key_len: usize,
+            place: *mut u64,
+            figure: *mut u64,
+        ) -> u32;
+        pub fn salsa_unite(
+            d: usize,
+            w: usize,
+            memory: *mut u8,
+            memory_len: usize,
+            source: *const u8,
+            source_len: usize,
+            place: *mut u64,
+            figure: *mut u64,
+        ) -> u32;
+        pub fn salsa_image_write(
+            d: usize,
+            w: usize,
+            memory: *const u8,
+            memory_len: usize,
+            words: *mut u32,
+            words_len: usize,
+            place: *mut u64,
+            figure: *mut u64,
+        ) -> u32;
+        pub fn salsa_image_read(
+            d: usize,
+            w: usize,
+            memory: *mut u8,
+            memory_len: usize,
+            words: *const u32,
+            words_len: usize,
+            place: *mut u64,
+            figure: *mut u64,
+        ) -> u32;
+        pub fn salsa_feed_record(
+            d: usize,
+            w: usize,
+            memory: *mut u8,
+            memory_len: usize,
+            before: u64,
+            words: *const u32,
+            words_len: usize,
+            place: *mut u64,
+            figure: *mut u64,
+        ) -> u32;
+        pub fn countmin_update(d: usize, w: usize, counters: *mut u64, key: *const u8, key_len: usize, amount: u32);
+        pub fn countmin_estimate(d: usize, w: usize, counters: *const u64, key: *const u8, key_len: usize) -> u64;
+        pub fn countmin_unite(d: usize, w: usize, counters: *mut u64, source: *const u64);
+    }
+}
+
+fn call(f: impl FnOnce(*mut u64, *mut u64) -> u32) -> Answer {
+    let (mut place, mut figure) = (0, 0);
+    let number = f(&mut place, &mut figure);
+    Answer { number, place, figure }
+}
+
+/// The same rule in plain C, in the shape of the proved calls.
+pub mod plain {
+    use super::{call, ffi};
+    use meter::Answer;
+
+    pub fn clear(d: usize, w: usize, memory: &mut [u8]) -> Answer {
+        call(|p, f| unsafe { ffi::salsa_clear(d, w, memory.as_mut_ptr(), memory.len(), p, f) })
+    }
+
+    pub fn update(d: usize, w: usize, memory: &mut [u8], key: &[u8], amount: u32) -> Answer {
+        call(|p, f| unsafe { ffi::salsa_update(d, w, memory.as_mut_ptr(), memory.len(), key.as_ptr(), key.len(), amount, p, f) })
+    }
+
+    pub fn estimate(d: usize, w: usize, memory: &[u8], key: &[u8]) -> Answer {
+        call(|p, f| unsafe { ffi::salsa_estimate(d, w, memory.as_ptr(), memory.len(), key.as_ptr(), key.len(), p, f) })
+    }
+
+    pub fn unite(d: usize, w: usize, memory: &mut [u8], source: &[u8]) -> Answer {
+        call(|p, f| unsafe { ffi::salsa_unite(d, w, memory.as_mut_ptr(), memory.len(), source.as_ptr(), source.len(), p, f) })
+    }
+
+    pub fn image_write(d: usize, w: usize, memory: &[u8], words: &mut [u32]) -> Answer {
+        call(|p, f| unsafe { ffi::salsa_image_write(d, w, memory.as_ptr(), memory.len(), words.as_mut_ptr(), words.len(), p, f) })
+    }
+
+    pub fn image_read(d: usize, w: usize, memory: &mut [u8], words: &[u32]) -> Answer {
+        call(|p, f| unsafe { ffi::salsa_image_read(d, w, memory.as_mut_ptr(), memory.len(), words.as_ptr(), words.len(), p, f) })
+    }
+
+    pub fn feed_record(d: usize, w: usize, memory: &mut [u8], before: u64, words: &[u32]) -> Answer {
+        call(|p, f| unsafe {
+            ffi::salsa_feed_record(
+                d,
+                w,
+                memory.as_mut_ptr(),
+                memory.len(),
+                before,
+                words.as_ptr(),
+                words.len(),
+                p,
+                f,
+            )
+        })
+    }
+}
+
+/// A Count-Min with counters of 64 bits, d rows of w.
+pub struct CountMin {
+    d: usize,
+    w: usize,
+    counters: Vec<u64>,
+}
+
+impl CountMin {
+    pub fn new(d: usize, w: usize) -> CountMin {
+        assert!((1..=8).contains(&d) && w.is_power_of_two() && (2..=65_536).contains(&w));
+        CountMin {
+            d,
+            w,
+            counters: vec![0; d * w],
+        }
+    }
+
+    pub fn clear(&mut self) {
+        self.counters.fill(0);
+    }
+
+    pub fn update(&mut self, key: &[u8], amount: u32) {
+        unsafe { ffi::countmin_update(self.d, self.w, self.counters.as_mut_ptr(), key.as_ptr(), key.len(), amount) }
+    }
+
+    pub fn estimate(&self, key: &[u8]) -> u64 {
+        unsafe { ffi::countmin_estimate(self.d, self.w, self.counters.as_ptr(), key.as_ptr(), key.len()) }
+    }
+
+    pub fn unite(&mut self, source: &CountMin) {
+        assert!(self.d == source.d && self.w == source.w);
+        unsafe { ffi::countmin_unite(self.d, self.w, self.counters.as_mut_ptr(), source.counters.as_ptr()) }
+    }
+}

@@ -1,0 +1,446 @@
+//! The proved meter beside the same rule in plain C and a Count-Min with counters of 64 bits, in one run: `bench/run`.
+//!
+//! Each case is measured five times for each, turn by turn, by processor time, and the median is printed. Outputs are compared as
+//! it goes. Memories are cleared, or copied from the same start, before each measured run, and that is not measured.
+
+use bench::{plain, CountMin};
+use std::cell::RefCell;
+use std::hint::black_box;
+
+const ROUNDS: usize = 5;
+const KEYS: usize = 100_000;
+const CALLS: usize = 200_000;
+
+/// SplitMix64.
+struct Rng(u64);
+
+impl Rng {
+    fn next(&mut self) -> u64 {
+        self.0 = self.0.wrapping_add(0x9e37_79b9_7f4a_7c15);
+        let mut z = self.0;
+        z = (z ^ (z >> 30)).wrapping_mul(0xbf58_476d_1ce4_e5b9);
+        z = (z ^ (z >> 27)).wrapping_mul(0x94d0_49bb_1331_11eb);
+        z ^ (z >> 31)
+    }
+
+    fn below(&mut self, n: usize) -> usize {
+        (self.next() % n as u64) as usize
+    }
+}
+
+/// Calls to measure: keys of one length side by side, and an amount for each, a packet's bytes.
+struct Calls {
+    length: usize,
+    keys: Vec<u8>,
+    amounts: Vec<u32>,
+}
+
+impl Calls {
+    fn new(length: usize, zipf: bool) -> Calls {
+        let mut rng = Rng(7);
+        let names: Vec<Vec<u8>> = (0..KEYS).map(|_| (0..length).map(|_| rng.next() as u8).collect()).collect();
+        // Zipf with exponent 1, by its distribution function.
+        let mut sums = Vec::with_capacity(KEYS);
+        let mut sum = 0.0;
+        for rank in 1..=KEYS {
+            sum += 1.0 / rank as f64;
+            sums.push(sum);
+        }
+        let mut keys = Vec::with_capacity(CALLS * length);
+        let mut amounts = Vec::with_capacity(CALLS);
+        for _ in 0..CALLS {
+            let at = if zipf {
+                let x = (rng.next() >> 11) as f64 / (1u64 << 53) as f64 * sum;
+                sums.partition_point(|&s| s < x).min(KEYS - 1)
+            } else {
+                rng.below(KEYS)
+            };
+            keys.extend(&names[at]);
+            amounts.push(64 + rng.below(1437) as u32);
+        }
+        Calls { length, keys, amounts }
+    }
+
+    fn each(&self) -> impl Iterator<Item = (&[u8], u32)> {
+        self.keys.chunks_exact(self.length).zip(self.amounts.iter().copied())
+    }
+}
+
+/// The processor time of this thread, so that other programs on the machine count as little as can be.
+fn processor_seconds() -> f64 {
+    #[repr(C)]
+    struct Timespec {
+        seconds: i64,
+        nanoseconds: i64,
+    }
+    extern "C" {
+        fn clock_gettime(clock: i32, time: *mut Timespec) -> i32;
+    }
+    const CLOCK_THREAD_CPUTIME_ID: i32 = 3;
+    let mut t = Timespec {
+        seconds: 0,
+        nanoseconds: 0,
+    };
+    assert_eq!(unsafe { clock_gettime(CLOCK_THREAD_CPUTIME_ID, &mut t) }, 0, "a clock");
+    t.seconds as f64 + t.nanoseconds as f64 * 1e-9
+}
+
+fn seconds(f: impl FnOnce()) -> f64 {
+    let start = processor_seconds();
+    f();
+    processor_seconds() - start
+}
+
+fn median(mut times: Vec<f64>) -> f64 {
+    times.sort_by(f64::total_cmp);
+    times[times.len() / 2]
+}
+
+/// Measures each in turn, five times: what it has to do before, and what is measured.
+type Measured<'a> = (&'a mut dyn FnMut(), &'a mut dyn FnMut());
+
+fn time(mut runs: Vec<Measured>) -> Vec<f64> {
+    let mut times = vec![Vec::new(); runs.len()];
+    for round in 0..ROUNDS {
+        for i in 0..runs.len() {
+            let at = (i + round) % runs.len();
+            (runs[at].0)();
+            times[at].push(seconds(|| (runs[at].1)()));
+        }
+    }
+    times.into_iter().map(median).collect()
+}
+
+fn rate(calls: usize, time: f64) -> String {
+    let r = calls as f64 / time;
+    if r >= 1e5 {
+        format!("{:.2} M", r / 1e6)
+    } else if r >= 1e3 {
+        format!("{:.1} k", r / 1e3)
+    } else {
+        format!("{r:.1}")
+    }
+}
+
+fn heading(first: &str) {
+    println!("\n| {first} | proved | plain C | Count-Min | time, proved to C | time, proved to Count-Min |");
+    println!("|---|---|---|---|---|---|");
+}
+
+fn line(name: &str, calls: usize, times: &[f64]) {
+    let count_min = times.get(2);
+    println!(
+        "| {name} | {} | {} | {} | {:.2} | {} |",
+        rate(calls, times[0]),
+        rate(calls, times[1]),
+        count_min.map_or("–".into(), |t| rate(calls, *t)),
+        times[0] / times[1],
+        count_min.map_or("–".into(), |t| format!("{:.2}", times[0] / t)),
+    );
+}
+
+fn size(d: usize, w: usize) -> usize {
+    meter::size(d, w).expect("a meter")
+}
+
+/// Updates and estimates.
+fn keyed() {
+    let mut updates = Vec::new();
+    let mut estimates = Vec::new();
+    for zipf in [false, true] {
+        for length in [4, 13, 37] {
+            let calls = Calls::new(length, zipf);
+            for d in [1, 4, 8] {
+                for w in [1_024, 65_536] {
+                    let name = format!("d {d}, w {w}, {length} bytes, {}", if zipf { "Zipf" } else { "uniform" });
+                    let a_cell = RefCell::new(vec![0; size(d, w)]);
+                    let b_cell = RefCell::new(vec![0; size(d, w)]);
+                    let c_cell = RefCell::new(CountMin::new(d, w));
+                    let times = time(vec![
+                        (&mut || a_cell.borrow_mut().fill(0), &mut || {
+                            let mut m = a_cell.borrow_mut();
+                            for (key, amount) in calls.each() {
+                                black_box(meter::update(d, w, &mut m, key, amount));
+                            }
+                        }),
+                        (&mut || b_cell.borrow_mut().fill(0), &mut || {
+                            let mut m = b_cell.borrow_mut();
+                            for (key, amount) in calls.each() {
+                                black_box(plain::update(d, w, &mut m, key, amount));
+                            }
+                        }),
+                        (&mut || c_cell.borrow_mut().clear(), &mut || {
+                            let mut m = c_cell.borrow_mut();
+                            for (key, amount) in calls.each() {
+                                m.update(key, amount);
+                            }
+                        }),
+                    ]);
+                    let (a, b, c) = (a_cell.into_inner(), b_cell.into_inner(), c_cell.into_inner());
+                    assert!(a == b, "{name}: the proved memory and the C version's");
+                    updates.push((name.clone(), times));
+
+                    for (key, _) in calls.each() {
+                        let figure = meter::estimate(d, w, &a, key);
+                        assert_eq!(figure, plain::estimate(d, w, &b, key), "{name}: estimates");
+                        assert!(
+                            figure.number == 0 && figure.figure >= c.estimate(key),
+                            "{name}: Count-Min's estimate"
+                        );
+                    }
+                    let times = time(vec![
+                        (&mut || {}, &mut || {
+                            for (key, _) in calls.each() {
+                                black_box(meter::estimate(d, w, &a, key));
+                            }
+                        }),
+                        (&mut || {}, &mut || {
+                            for (key, _) in calls.each() {
+                                black_box(plain::estimate(d, w, &b, key));
+                            }
+                        }),
+                        (&mut || {}, &mut || {
+                            for (key, _) in calls.each() {
+                                black_box(c.estimate(key));
+                            }
+                        }),
+                    ]);
+                    estimates.push((name, times));
+                }
+            }
+        }
+    }
+    heading("update, calls a second");
+    for (name, times) in &updates {
+        line(name, CALLS, times);
+    }
+    heading("estimate, calls a second");
+    for (name, times) in &estimates {
+        line(name, CALLS, times);
+    }
+}
+
+/// A meter with nothing merged, or with every layout, whose union with itself is accepted.
+fn filled(d: usize, w: usize, all_levels: bool) -> Vec<u8> {
+    let mut rng = Rng(11);
+    let mut memory = vec![0; size(d, w)];
+    if !all_levels {
+        for row in memory.chunks_mut(w / 8 * 9) {
+            row[..w].fill_with(|| (rng.next() % 128) as u8);
+        }
+        return memory;
+    }
+    let merges: Vec<u8> = (0..26).map(|code| meter::unpack(code).1[3]).collect();
+    for row in memory.chunks_mut(w / 8 * 9) {
+        for g in 0..w / 8 {
+            let merge = merges[rng.below(26)];
+            row[8 * g..8 * g + 8].copy_from_slice(&rng.next().to_le_bytes());
+            if merge == 0x7f {
+                row[8 * g + 7] /= 2;
+            }
+            row[w + g] = merge;
+        }
+    }
+    memory
+}
+
+/// A union, an image written and an image read, of meters of one kind; how often, and the times of all.
+fn whole(d: usize, w: usize, all_levels: bool) -> [(usize, Vec<f64>); 3] {
+    let start = filled(d, w, all_levels);
+    let source = filled(d, w, all_levels);
+    let repeat = (65_536 * 8 / (d * w)).max(1) * 4;
+
+    let mut a: Vec<Vec<u8>> = vec![start.clone(); repeat];
+    let mut b = a.clone();
+    let cells = (RefCell::new(&mut a), RefCell::new(&mut b));
+    let restore = |m: &mut Vec<Vec<u8>>| m.iter_mut().for_each(|m| m.copy_from_slice(&start));
+    let mut count_min = CountMin::new(d, w);
+    let count_source = CountMin::new(d, w);
+    let unions = time(vec![
+        (&mut || restore(*cells.0.borrow_mut()), &mut || {
+            for m in cells.0.borrow_mut().iter_mut() {
+                black_box(meter::unite(d, w, m, &source));
+            }
+        }),
+        (&mut || restore(*cells.1.borrow_mut()), &mut || {
+            for m in cells.1.borrow_mut().iter_mut() {
+                black_box(plain::unite(d, w, m, &source));
+            }
+        }),
+        (&mut || {}, &mut || {
+            for _ in 0..repeat {
+                count_min.unite(black_box(&count_source));
+            }
+        }),
+    ]);
+    assert!(a == b, "union: the proved memory and the C version's");
+    assert!(a[0] != start, "union: accepted");
+
+    let room = d * w + d * w / 32 + 2;
+    let (mut x, mut y) = (vec![0; room], vec![0; room]);
+    let writes = time(vec![
+        (&mut || {}, &mut || {
+            for _ in 0..repeat {
+                black_box(meter::image_write(d, w, black_box(&start), &mut x));
+            }
+        }),
+        (&mut || {}, &mut || {
+            for _ in 0..repeat {
+                black_box(plain::image_write(d, w, black_box(&start), &mut y));
+            }
+        }),
+    ]);
+    let count = meter::image_write(d, w, &start, &mut x);
+    assert!(
+        count.number == 0 && count == plain::image_write(d, w, &start, &mut y) && x == y,
+        "images"
+    );
+
+    let image = &x[..count.figure as usize];
+    let (mut p, mut q) = (vec![0; size(d, w)], vec![0; size(d, w)]);
+    let reads = time(vec![
+        (&mut || {}, &mut || {
+            for _ in 0..repeat {
+                black_box(meter::image_read(d, w, &mut p, black_box(image)));
+            }
+        }),
+        (&mut || {}, &mut || {
+            for _ in 0..repeat {
+                black_box(plain::image_read(d, w, &mut q, black_box(image)));
+            }
+        }),
+    ]);
+    assert!(p == start && q == start, "image read: the memory is restored");
+    [(repeat, unions), (repeat, writes), (repeat, reads)]
+}
+
+/// Records of a feed, one call each: their words side by side, and where each starts.
+fn records(calls: &Calls, asking: bool) -> (Vec<u32>, Vec<usize>) {
+    let (mut words, mut starts) = (Vec::new(), Vec::new());
+    for (key, amount) in calls.each() {
+        starts.push(words.len());
+        words.push(if asking { 6 << 28 } else { 5 << 28 } | key.len() as u32);
+        for part in key.chunks(3) {
+            let byte = |i: usize| part.get(i).copied().unwrap_or(0) as u32;
+            words.push(7 << 28 | byte(0) << 16 | byte(1) << 8 | byte(2));
+        }
+        if !asking {
+            words.extend([8 << 28 | amount >> 16, 8 << 28 | amount & 0xffff]);
+        }
+    }
+    (words, starts)
+}
+
+/// Update and asking records, Zipf keys of 13 bytes.
+fn feeds() {
+    heading("feed record, 13 bytes, Zipf, calls a second");
+    let calls = Calls::new(13, true);
+    let (updates, update_starts) = records(&calls, false);
+    let (asks, ask_starts) = records(&calls, true);
+    for (d, w) in [(1, 1_024), (4, 1_024), (4, 65_536), (8, 65_536)] {
+        let (a, b) = (RefCell::new(vec![0; size(d, w)]), RefCell::new(vec![0; size(d, w)]));
+        let times = time(vec![
+            (&mut || a.borrow_mut().fill(0), &mut || {
+                let mut m = a.borrow_mut();
+                for &at in &update_starts {
+                    black_box(meter::feed_record(d, w, &mut m, at as u64, &updates[at..]));
+                }
+            }),
+            (&mut || b.borrow_mut().fill(0), &mut || {
+                let mut m = b.borrow_mut();
+                for &at in &update_starts {
+                    black_box(plain::feed_record(d, w, &mut m, at as u64, &updates[at..]));
+                }
+            }),
+        ]);
+        let (mut a, mut b) = (a.into_inner(), b.into_inner());
+        assert!(
+            a == b && a.iter().any(|&x| x > 0),
+            "update records: the proved memory and the C version's"
+        );
+        line(&format!("update, d {d}, w {w}"), CALLS, &times);
+        for &at in &ask_starts {
+            let answer = meter::feed_record(d, w, &mut a, at as u64, &asks[at..]);
+            assert_eq!(
+                answer,
+                plain::feed_record(d, w, &mut b, at as u64, &asks[at..]),
+                "asking records"
+            );
+            assert_eq!(answer.number, 0, "asking records");
+        }
+        let times = time(vec![
+            (&mut || {}, &mut || {
+                for &at in &ask_starts {
+                    black_box(meter::feed_record(d, w, &mut a, at as u64, &asks[at..]));
+                }
+            }),
+            (&mut || {}, &mut || {
+                for &at in &ask_starts {
+                    black_box(plain::feed_record(d, w, &mut b, at as u64, &asks[at..]));
+                }
+            }),
+        ]);
+        line(&format!("asking, d {d}, w {w}"), CALLS, &times);
+    }
+}
+
+fn kind(all_levels: bool) -> &'static str {
+    if all_levels {
+        "all levels"
+    } else {
+        "nothing merged"
+    }
+}
+
+fn whole_meters() {
+    heading("d 8, w 65,536, calls a second");
+    for all_levels in [false, true] {
+        let results = whole(8, 65_536, all_levels);
+        for (call, (repeat, times)) in ["union", "image written", "image read"].iter().zip(&results) {
+            line(&format!("{call}, {}", kind(all_levels)), *repeat, times);
+        }
+    }
+}
+
+/// The cost of a call by the width: time for one group.
+fn growth() {
+    println!("\n| nanoseconds a group, d 8, proved (plain C) | w 1,024 | w 4,096 | w 16,384 | w 65,536 |");
+    println!("|---|---|---|---|---|");
+    let mut rows: Vec<Vec<String>> = vec![Vec::new(); 6];
+    for w in [1_024, 4_096, 16_384, 65_536] {
+        for all_levels in [false, true] {
+            for (i, (repeat, times)) in whole(8, w, all_levels).iter().enumerate() {
+                let groups = (repeat * w) as f64;
+                rows[3 * all_levels as usize + i].push(format!(
+                    "{:.1} ({:.1})",
+                    times[0] * 1e9 / groups,
+                    times[1] * 1e9 / groups
+                ));
+            }
+        }
+    }
+    for (i, row) in rows.iter().enumerate() {
+        let call = ["union", "image written", "image read"][i % 3];
+        println!("| {call}, {} | {} |", kind(i >= 3), row.join(" | "));
+    }
+}
+
+fn main() {
+    let cpus = std::fs::read_to_string("/proc/cpuinfo").unwrap_or_default();
+    let mut models = cpus
+        .lines()
+        .filter(|l| l.starts_with("model name"))
+        .map(|l| l.split_once(": ").map_or("", |x| x.1));
+    let model = models.next().unwrap_or("an unknown processor");
+    println!(
+        "{model}, {} processors. C: {}, -O3. Rust: {}.",
+        1 + models.count(),
+        env!("CC_VERSION"),
+        env!("RUSTC_VERSION")
+    );
+    println!("Median of {ROUNDS} rounds; {CALLS} calls a round on {KEYS} keys.");
+    keyed();
+    feeds();
+    whole_meters();
+    growth();
+}

@@ -1,0 +1,18 @@
+// Links the proved library. `rt staticlib meter_c` at the root of the repository writes it; METER_LIB_DIR names another folder.
+use std::env;
+use std::path::PathBuf;
+
+fn main() {
+    let folder = env::var_os("METER_LIB_DIR").map_or_else(
+        || PathBuf::from(env::var_os("CARGO_MANIFEST_DIR").unwrap()).join("../target/staticlib"),
+        PathBuf::from,
+    );
+    let library = folder.join("libmeter_c.a");
+    println!("cargo:rerun-if-env-changed=METER_LIB_DIR");
+    println!("cargo:rerun-if-changed={}", library.display());
+    if !library.exists() {
+        panic!("libmeter_c.a is not there: run `rt staticlib meter_c` at the root of the repository");
+    }
+    println!("cargo:rustc-link-search=native={}", folder.display());
+    println!("cargo:rustc-link-lib=static=meter_c");
+}

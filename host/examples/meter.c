@@ -1,0 +1,62 @@
+/* The calls from C: count two tenants, move the meter by its image, unite two meters. */
+#include <inttypes.h>
+#include <stdio.h>
+#include <stdlib.h>
+#include <string.h>
+
+#include "meter.h"
+
+enum { D = 4, W = 1024, SIZE = D * W / 8 * 9, WORDS = D * W + D * W / 32 + 2 };
+
+static uint8_t here[SIZE], there[SIZE];
+static uint32_t words[WORDS];
+
+/* The figure of an accepted call; anything else is a mistake in this program. */
+static uint64_t accepted(const char *call, uint32_t number, uint64_t place, uint64_t figure) {
+    if (number != 0) {
+        printf("%s: turned away, number %" PRIu32 " at %" PRIu64 "\n", call, number, place);
+        exit(1);
+    }
+    return figure;
+}
+
+static void update(uint8_t *memory, const char *key, uint32_t amount) {
+    uint64_t place, figure;
+    uint32_t n = meter_update(D, W, memory, SIZE, (const uint8_t *)key, strlen(key), amount, &place, &figure);
+    accepted("update", n, place, figure);
+}
+
+static uint64_t estimate(const uint8_t *memory, const char *key) {
+    uint64_t place, figure;
+    uint32_t n = meter_estimate(D, W, memory, SIZE, (const uint8_t *)key, strlen(key), &place, &figure);
+    return accepted("estimate", n, place, figure);
+}
+
+int main(void) {
+    uint64_t place, figure;
+
+    uint32_t n = meter_clear(D, W, here, SIZE, &place, &figure);
+    accepted("clear", n, place, figure);
+    update(here, "tenant-17", 1500);
+    update(here, "tenant-17", 64);
+    update(here, "tenant-18", 40);
+    printf("tenant-17 %" PRIu64 "\n", estimate(here, "tenant-17"));
+    printf("tenant-18 %" PRIu64 "\n", estimate(here, "tenant-18"));
+
+    n = meter_image_write(D, W, here, SIZE, words, WORDS, &place, &figure);
+    uint64_t count = accepted("image_write", n, place, figure);
+    n = meter_image_read(D, W, there, SIZE, words, (size_t)count, &place, &figure);
+    accepted("image_read", n, place, figure);
+    printf("image of %" PRIu64 " words\n", count);
+
+    n = meter_unite(D, W, there, SIZE, here, SIZE, &place, &figure);
+    accepted("unite", n, place, figure);
+    printf("tenant-17 united %" PRIu64 "\n", estimate(there, "tenant-17"));
+
+    n = meter_widest(D, W, there, SIZE, &place, &figure);
+    printf("widest level %" PRIu64 "\n", accepted("widest", n, place, figure));
+
+    n = meter_update(D, W, here, SIZE, (const uint8_t *)"", 0, 1, &place, &figure);
+    printf("an empty key is turned away with %" PRIu32 "\n", n);
+    return 0;
+}

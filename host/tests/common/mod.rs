@@ -1,0 +1,257 @@
+//! What the tests share: seeds, lent buffers with guards, and memories, keys, amounts and words to try.
+#![allow(dead_code)]
+
+use reference::Memory;
+use std::ops::Range;
+
+/// SplitMix64.
+pub struct Rng(u64);
+
+impl Rng {
+    pub fn new(seed: u64) -> Rng {
+        Rng(seed)
+    }
+
+    pub fn next(&mut self) -> u64 {
+        self.0 = self.0.wrapping_add(0x9e37_79b9_7f4a_7c15);
+        let mut z = self.0;
+        z = (z ^ (z >> 30)).wrapping_mul(0xbf58_476d_1ce4_e5b9);
+        z = (z ^ (z >> 27)).wrapping_mul(0x94d0_49bb_1331_11eb);
+        z ^ (z >> 31)
+    }
+
+    pub fn below(&mut self, n: usize) -> usize {
+        (self.next() % n as u64) as usize
+    }
+
+    pub fn within(&mut self, r: Range<usize>) -> usize {
+        r.start + self.below(r.end - r.start)
+    }
+
+    /// True once in n times.
+    pub fn once_in(&mut self, n: usize) -> bool {
+        self.below(n) == 0
+    }
+
+    pub fn pick<T: Copy>(&mut self, of: &[T]) -> T {
+        of[self.below(of.len())]
+    }
+
+    pub fn bytes(&mut self, n: usize) -> Vec<u8> {
+        (0..n).map(|_| self.next() as u8).collect()
+    }
+}
+
+/// The seed of a test: METER_SEED, or the same one each time; `METER_SEED=clock` takes the time. It is printed.
+pub fn seed(test: &str) -> u64 {
+    let seed = match std::env::var("METER_SEED") {
+        Ok(s) if s == "clock" => std::time::SystemTime::now()
+            .duration_since(std::time::UNIX_EPOCH)
+            .expect("a clock")
+            .as_nanos() as u64,
+        Ok(s) => s.parse().expect("METER_SEED is a number or `clock`"),
+        Err(_) => 1,
+    };
+    println!("{test}: seed {seed} (METER_SEED={seed} runs it again)");
+    seed
+}
+
+const GUARD: usize = 24;
+
+/// A lent buffer, between guards that no call may touch.
+#[derive(Clone)]
+pub struct Lent<T> {
+    all: Vec<T>,
+    guard: T,
+}
+
+impl<T: Copy + PartialEq> Lent<T> {
+    pub fn new(content: &[T], guard: T) -> Lent<T> {
+        let mut all = vec![guard; GUARD];
+        all.extend(content);
+        all.extend(vec![guard; GUARD]);
+        Lent { all, guard }
+    }
+
+    pub fn get(&self) -> &[T] {
+        &self.all[GUARD..self.all.len() - GUARD]
+    }
+
+    pub fn get_mut(&mut self) -> &mut [T] {
+        let end = self.all.len() - GUARD;
+        &mut self.all[GUARD..end]
+    }
+
+    pub fn guards_stand(&self) -> bool {
+        let end = self.all.len() - GUARD;
+        self.all[..GUARD].iter().chain(&self.all[end..]).all(|x| *x == self.guard)
+    }
+}
+
+pub fn lend_bytes(content: &[u8]) -> Lent<u8> {
+    Lent::new(content, 0xa5)
+}
+
+pub fn lend_words(content: &[u32]) -> Lent<u32> {
+    Lent::new(content, 0xdead_beef)
+}
+
+/// Amounts near every limit.
+pub fn amount(rng: &mut Rng) -> u32 {
+    match rng.below(8) {
+        0 => 0,
+        1 => 1,
+        2 => rng.within(200..300) as u32,
+        3 => rng.within(65_000..66_000) as u32,
+        4 => u32::MAX - rng.below(3) as u32,
+        5 => rng.next() as u32,
+        6 => (rng.next() as u32) >> rng.below(32),
+        _ => rng.below(256) as u32,
+    }
+}
+
+/// A key; some are too short or too long.
+pub fn key(rng: &mut Rng) -> Vec<u8> {
+    let n = match rng.below(40) {
+        0 => 0,
+        1 => 65,
+        2 => rng.within(65..300),
+        3 => 64,
+        4 => 1,
+        _ => rng.within(1..65),
+    };
+    rng.bytes(n)
+}
+
+/// Count bytes that are random, full, nearly full or nearly clear.
+fn counts(rng: &mut Rng) -> [u8; 8] {
+    let mut x = match rng.below(6) {
+        0 => u64::MAX,
+        1 => u64::MAX - rng.below(1 << 33) as u64,
+        2 => 0,
+        3 => rng.next() >> rng.below(64),
+        _ => rng.next(),
+    }
+    .to_le_bytes();
+    if rng.once_in(3) {
+        x[rng.below(8)] = 255;
+    }
+    x
+}
+
+/// A memory of d rows of w slots: clear, valid with random counters, mostly merged and full, with a damaged merge byte, or random.
+pub fn memory(rng: &mut Rng, d: usize, w: usize) -> Vec<u8> {
+    let stride = w / 8 * 9;
+    let mut bytes = vec![0; d * stride];
+    let kind = rng.below(10);
+    if kind == 0 {
+        return bytes;
+    }
+    if kind == 1 {
+        return rng.bytes(d * stride);
+    }
+    let merges = reference::valid_merges();
+    // Of some meters most groups are merged whole, so that a union finds full counters.
+    let whole = rng.pick(&[0, 0, 2, 4]);
+    for r in 0..d {
+        for g in 0..w / 8 {
+            let merge = if rng.below(5) < whole { 0x7f } else { rng.pick(&merges) };
+            let at = r * stride;
+            let mut c = counts(rng);
+            // Without this every union of two such meters would be full somewhere.
+            if kind < 8 && merge == 0x7f {
+                c[7] = rng.below(if kind < 6 { 3 } else { 128 }) as u8;
+            }
+            bytes[at + 8 * g..at + 8 * g + 8].copy_from_slice(&c);
+            bytes[at + w + g] = merge;
+        }
+    }
+    if kind == 2 {
+        for _ in 0..rng.within(1..4) {
+            let at = rng.below(d) * stride + w + rng.below(w / 8);
+            bytes[at] = rng.next() as u8;
+        }
+    }
+    bytes
+}
+
+/// Damages words in up to two places.
+pub fn damage(rng: &mut Rng, words: &mut Vec<u32>) {
+    for _ in 0..rng.below(3) {
+        let n = words.len();
+        if n == 0 {
+            words.push(rng.next() as u32);
+            continue;
+        }
+        let at = match rng.below(4) {
+            0 => 0,
+            1 => n - 1,
+            _ => rng.below(n),
+        };
+        match rng.below(9) {
+            0 => words.truncate(at),
+            1 => words.push(rng.pick(&[words[n - 1], 0x3000_0000, 0x4000_0000 | at as u32])),
+            2 => words[at] ^= 1 << rng.below(32),
+            3 => words[at] = (words[at] & 0x0fff_ffff) | (rng.below(16) as u32) << 28,
+            4 => {
+                let limits = [255, 256, 65_535, 65_536, 456_975, 456_976, 0xff_ffff, 0xfff_ffff];
+                words[at] = (words[at] & 0xf000_0000) | rng.pick(&limits)
+            }
+            5 => drop(words.remove(at)),
+            6 => words.insert(at, words[at]),
+            7 => words[0] = 0x1000_0000 | rng.below(1 << 9) as u32,
+            _ => words[at] = rng.next() as u32,
+        }
+    }
+}
+
+/// The image of a memory, or of a clear one where it is damaged; mostly damaged itself.
+pub fn some_image(rng: &mut Rng, d: usize, w: usize, from: &mut Memory) -> Vec<u32> {
+    let mut words = vec![0; d * w + d * w / 32 + 2];
+    let mut count = reference::image_write(d, w, from, &mut words).figure as usize;
+    if count == 0 {
+        let mut clear = Memory::new(&vec![0; d * w / 8 * 9]);
+        count = reference::image_write(d, w, &mut clear, &mut words).figure as usize;
+    }
+    words.truncate(count);
+    damage(rng, &mut words);
+    words
+}
+
+/// The words of an update or asking record.
+pub fn record_words(key: &[u8], amount: Option<u32>) -> Vec<u32> {
+    let kind = if amount.is_some() { 5 } else { 6 };
+    let mut words = vec![kind << 28 | key.len() as u32];
+    for part in key.chunks(3) {
+        let byte = |i: usize| part.get(i).copied().unwrap_or(0) as u32;
+        words.push(7 << 28 | byte(0) << 16 | byte(1) << 8 | byte(2));
+    }
+    if let Some(amount) = amount {
+        words.push(8 << 28 | amount >> 16);
+        words.push(8 << 28 | (amount & 0xffff));
+    }
+    words
+}
+
+/// A record or the end after `before` words, with more words behind it; often damaged.
+pub fn record(rng: &mut Rng, before: u64, some_key: &[u8]) -> Vec<u32> {
+    let mut words = match rng.below(5) {
+        0 => vec![4 << 28 | (before % (1 << 28)) as u32],
+        1 | 2 => record_words(some_key, Some(amount(rng))),
+        _ => record_words(some_key, None),
+    };
+    if rng.once_in(8) {
+        // A set bit in an unused byte of the last key word.
+        let last = 1 + (some_key.len().max(1) - 1) / 3;
+        if let Some(word) = words.get_mut(last) {
+            *word |= 1 << rng.below(28);
+        }
+    }
+    if rng.once_in(2) {
+        damage(rng, &mut words);
+    }
+    if rng.once_in(3) {
+        words.extend((0..rng.below(4)).map(|_| rng.next() as u32));
+    }
+    words
+}

@@ -1,0 +1,145 @@
+//! The calls are declared three times: in Rattle, in C and in Rust. No compiler holds these together, so this does.
+
+use std::fs;
+use std::path::Path;
+
+/// A call as C has it: its name, and type and name of each parameter.
+#[derive(Debug, PartialEq, Eq, PartialOrd, Ord)]
+struct Call {
+    name: String,
+    parameters: Vec<(String, String)>,
+    result: String,
+}
+
+fn read(path: &str) -> String {
+    let path = Path::new(env!("CARGO_MANIFEST_DIR")).join(path);
+    fs::read_to_string(&path).unwrap_or_else(|e| panic!("{}: {e}", path.display()))
+}
+
+fn words(text: &str) -> String {
+    text.split_whitespace().collect::<Vec<_>>().join(" ")
+}
+
+/// The text between the first of `open` and the next `close` after it, and what follows.
+fn between<'a>(text: &'a str, open: &str, close: &str) -> Option<(&'a str, &'a str)> {
+    let from = text.find(open)? + open.len();
+    let to = from + text[from..].find(close)?;
+    Some((&text[from..to], &text[to..]))
+}
+
+fn number(t: &str) -> String {
+    match t {
+        "usize" => "size_t",
+        "u8" => "uint8_t",
+        "u32" => "uint32_t",
+        "u64" => "uint64_t",
+        _ => panic!("a type that is not passed as itself: {t}"),
+    }
+    .into()
+}
+
+/// `#[no_mangle] pub extern "C" fn name(a: T, ..) -> R`: a slice is passed as pointer and length.
+fn in_rattle() -> Vec<Call> {
+    let text = read("../crates/meter_c/src/lib.rt");
+    let mut rest = text.as_str();
+    let mut calls = Vec::new();
+    while let Some((name, after)) = between(rest, "pub extern \"C\" fn ", "(") {
+        let (list, after) = between(after, "(", ")").expect("parameters");
+        let (result, after) = between(after, "->", "ensures").expect("a result");
+        let mut parameters = Vec::new();
+        for parameter in words(list).split(',').map(str::trim).filter(|p| !p.is_empty()) {
+            let (name, t) = parameter.split_once(": ").expect("a name and a type");
+            let (constant, target) = match t.strip_prefix("&mut ") {
+                Some(target) => ("", target),
+                None => match t.strip_prefix('&') {
+                    Some(target) => ("const ", target),
+                    None => {
+                        parameters.push((number(t), name.into()));
+                        continue;
+                    }
+                },
+            };
+            let inner = target.trim_start_matches('[').trim_end_matches(']');
+            let (element, fixed) = inner.split_once(';').map_or((inner, false), |(e, _)| (e, true));
+            parameters.push((format!("{constant}{} *", number(element)), name.into()));
+            if target.starts_with('[') && !fixed {
+                parameters.push(("size_t".into(), format!("{name}_len")));
+            }
+        }
+        calls.push(Call {
+            name: name.into(),
+            parameters,
+            result: number(result.trim()),
+        });
+        rest = after;
+    }
+    calls.sort();
+    calls
+}
+
+/// `uint32_t name(type name, ..);` without comments.
+fn in_c() -> Vec<Call> {
+    let mut text = read("../include/meter.h");
+    while let Some(from) = text.find("/*") {
+        let to = from + text[from..].find("*/").expect("the end of a comment") + 2;
+        text.replace_range(from..to, "");
+    }
+    let mut calls = Vec::new();
+    for declaration in text.split(';').filter(|d| d.contains("meter_")) {
+        let (head, list) = declaration.split_once('(').expect("parameters");
+        let head = words(head.lines().last().expect("a line"));
+        let (result, name) = head.rsplit_once(' ').expect("a result and a name");
+        let mut parameters = Vec::new();
+        for parameter in words(list.trim_end().trim_end_matches(')')).split(',') {
+            let parameter = parameter.trim();
+            let at = parameter.rfind(|c: char| !c.is_alphanumeric() && c != '_').expect("a type") + 1;
+            parameters.push((parameter[..at].trim().into(), parameter[at..].into()));
+        }
+        calls.push(Call {
+            name: name.into(),
+            parameters,
+            result: result.into(),
+        });
+    }
+    calls.sort();
+    calls
+}
+
+/// `pub fn name(a: T, ..) -> R;`
+fn in_rust() -> Vec<Call> {
+    let text = read("src/ffi.rs");
+    let mut rest = text.as_str();
+    let mut calls = Vec::new();
+    while let Some((name, after)) = between(rest, "pub fn ", "(") {
+        let (list, after) = between(after, "(", ")").expect("parameters");
+        let (result, after) = between(after, "->", ";").expect("a result");
+        let mut parameters = Vec::new();
+        for parameter in words(list).split(',').map(str::trim).filter(|p| !p.is_empty()) {
+            let (name, t) = parameter.split_once(": ").expect("a name and a type");
+            let t = if let Some(t) = t.strip_prefix("*mut ") {
+                format!("{} *", number(t))
+            } else if let Some(t) = t.strip_prefix("*const ") {
+                format!("const {} *", number(t))
+            } else {
+                number(t)
+            };
+            parameters.push((t, name.into()));
+        }
+        calls.push(Call {
+            name: name.into(),
+            parameters,
+            result: number(result.trim()),
+        });
+        rest = after;
+    }
+    calls.sort();
+    calls
+}
+
+#[test]
+fn declared_alike() {
+    let rattle = in_rattle();
+    assert_eq!(rattle.len(), 11);
+    assert_eq!(in_c(), rattle, "include/meter.h and crates/meter_c");
+    assert_eq!(in_rust(), rattle, "src/ffi.rs and crates/meter_c");
+}

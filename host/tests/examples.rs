@@ -1,0 +1,47 @@
+//! The C example is compiled with include/meter.h and the static library, and run; it and the Rust example print the same.
+
+use std::env;
+use std::path::{Path, PathBuf};
+use std::process::Command;
+
+fn output(command: &mut Command) -> String {
+    let out = command.output().unwrap_or_else(|e| panic!("{command:?}: {e}"));
+    let text = String::from_utf8_lossy(&out.stdout).into_owned();
+    let errors = String::from_utf8_lossy(&out.stderr);
+    assert!(out.status.success(), "{command:?}: {}\n{text}{errors}", out.status);
+    text
+}
+
+fn host() -> &'static Path {
+    Path::new(env!("CARGO_MANIFEST_DIR"))
+}
+
+fn expected() -> String {
+    std::fs::read_to_string(host().join("examples/meter.out")).expect("the expected output")
+}
+
+#[test]
+fn c_example() {
+    let library = env::var_os("METER_LIB_DIR").map_or_else(|| host().join("../target/staticlib"), PathBuf::from);
+    let program = Path::new(env!("CARGO_TARGET_TMPDIR")).join("meter_c_example");
+    let cc = env::var_os("CC").unwrap_or_else(|| "cc".into());
+    output(
+        Command::new(cc)
+            .args(["-std=c99", "-O2", "-Wall", "-Wextra", "-Wpedantic", "-Werror", "-I"])
+            .arg(host().join("../include"))
+            .arg(host().join("examples/meter.c"))
+            .arg(library.join("libmeter_c.a"))
+            .arg("-o")
+            .arg(&program),
+    );
+    assert_eq!(output(&mut Command::new(program)), expected());
+}
+
+#[test]
+fn rust_example() {
+    let cargo = env::var_os("CARGO").unwrap_or_else(|| "cargo".into());
+    let mut run = Command::new(cargo);
+    run.args(["run", "--offline", "--quiet", "--example", "meter"])
+        .current_dir(host());
+    assert_eq!(output(&mut run), expected());
+}
