@@ -9,7 +9,7 @@
  *   0   accepted. The place is 0. The figure is the estimate, the widest level, the layout code, the payload of a feed's head or
  *       the count of an image's words, written or read; else 0.
  *
- * Any other number says why the call was turned away, and then the figure is 0 and every lent byte and word is as before. The
+ * Any other number says why the call was refused, and then the figure is 0 and every lent byte and word is as before. The
  * first line that applies is returned. The place is an index, from 0, into the lent words where a word is at fault, else 0;
  * a missing word's index is the number of words lent.
  *
@@ -59,7 +59,7 @@ uint32_t meter_unite(size_t d, size_t w, uint8_t *memory, size_t memory_len, con
 /* The figure is the layout code of four merge bytes, below 456,976. Gives 0 and 5. */
 uint32_t meter_pack(uint8_t m0, uint8_t m1, uint8_t m2, uint8_t m3, uint64_t *place, uint64_t *figure);
 
-/* Writes the four merge bytes of a layout code; four zeros when turned away. Gives 0 and 9. */
+/* Writes the four merge bytes of a layout code; four zeros when refused. Gives 0 and 9. */
 uint32_t meter_unpack(uint32_t code, uint8_t *merges /* exactly 4 */, uint64_t *place, uint64_t *figure);
 
 /* Writes the meter's image into the lent words; words past it stay. The figure is the count of its words. An image has at most

@@ -14,7 +14,7 @@ static uint32_t words[WORDS];
 /* The figure of an accepted call; anything else is a mistake in this program. */
 static uint64_t accepted(const char *call, uint32_t number, uint64_t place, uint64_t figure) {
     if (number != 0) {
-        printf("%s: turned away, number %" PRIu32 " at %" PRIu64 "\n", call, number, place);
+        printf("%s: refused, number %" PRIu32 " at %" PRIu64 "\n", call, number, place);
         exit(1);
     }
     return figure;
@@ -57,6 +57,6 @@ int main(void) {
     printf("widest level %" PRIu64 "\n", accepted("widest", n, place, figure));
 
     n = meter_update(D, W, here, SIZE, (const uint8_t *)"", 0, 1, &place, &figure);
-    printf("an empty key is turned away with %" PRIu32 "\n", n);
+    printf("an empty key is refused with %" PRIu32 "\n", n);
     return 0;
 }

@@ -24,6 +24,6 @@ fn main() -> Result<(), Refused> {
     println!("widest level {}", widest(d, w, &there).result()?);
 
     let refused = update(d, w, &mut here, b"", 1).result().unwrap_err();
-    println!("an empty key is turned away with {}", refused.reason.number());
+    println!("an empty key is refused with {}", refused.reason.number());
     Ok(())
 }

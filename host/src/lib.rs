@@ -1,8 +1,8 @@
 //! The proved traffic meter, for Rust.
 //!
 //! A meter is a lent memory of exactly [`size`] bytes with the depth `d` and the width `w` that it was cleared with. Every call
-//! takes any depth, any width and any content of what is lent, and either does its work or is turned away with a reason; a call
-//! that is turned away changes nothing. The functions behind these are proved to do so; the wrapper only passes slices on.
+//! takes any depth, any width and any content of what is lent, and either does its work or is refused with a reason; a call
+//! that is refused changes nothing. The functions behind these are proved to do so; the wrapper only passes slices on.
 //!
 //! ```
 //! use meter::{clear, estimate, image_read, image_write, size, update, widest, Reason};
@@ -37,7 +37,7 @@ use std::fmt;
 /// The answer of a call: its number, place and figure.
 ///
 /// Number 0 is acceptance. Its figure is the estimate, the widest level, the layout code, a feed head's payload or the count of an
-/// image's words, else 0. Of a call that is turned away the figure is 0, and the place is an index into the lent words where the
+/// image's words, else 0. Of a call that is refused the figure is 0, and the place is an index into the lent words where the
 /// number speaks of a word, else 0.
 #[derive(Clone, Copy, Debug, PartialEq, Eq)]
 pub struct Answer {
@@ -46,7 +46,7 @@ pub struct Answer {
     pub figure: u64,
 }
 
-/// Why a call was turned away, in checking order.
+/// Why a call was refused, in checking order.
 #[derive(Clone, Copy, Debug, PartialEq, Eq, Hash)]
 pub enum Reason {
     /// 1: the depth is not 1 to 8.
@@ -108,7 +108,7 @@ impl fmt::Display for Reason {
     }
 }
 
-/// A call that was turned away: the reason, and the index of the faulty word where the reason speaks of one, else 0.
+/// A call that was refused: the reason, and the index of the faulty word where the reason speaks of one, else 0.
 #[derive(Clone, Copy, Debug, PartialEq, Eq)]
 pub struct Refused {
     pub reason: Reason,
@@ -124,7 +124,7 @@ impl fmt::Display for Refused {
 impl std::error::Error for Refused {}
 
 impl Answer {
-    /// The figure of an accepted call, or why it was turned away.
+    /// The figure of an accepted call, or why it was refused.
     pub fn result(self) -> Result<u64, Refused> {
         match self.number {
             0 => Ok(self.figure),
@@ -208,9 +208,9 @@ pub fn pack(merges: [u8; 4]) -> Answer {
     call(|place, figure| unsafe { ffi::meter_pack(m0, m1, m2, m3, place, figure) })
 }
 
-/// The four merge bytes of a layout code; all 0 when turned away.
+/// The four merge bytes of a layout code; all 0 when refused.
 pub fn unpack(code: u32) -> (Answer, [u8; 4]) {
-    // All four are written, also when turned away.
+    // All four are written, also when refused.
     let mut merges = [0xff; 4];
     let answer = call(|place, figure| unsafe { ffi::meter_unpack(code, merges.as_mut_ptr(), place, figure) });
     (answer, merges)

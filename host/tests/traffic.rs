@@ -1,5 +1,5 @@
 //! Demand 3 on random lists of calls: after every call each estimate lies between the key's total and the least, over the rows, of
-//! the totals of the level L blocks it lands in, and the widest level is L. Totals come from the book of a list, which sees the
+//! the totals of the level L blocks it lands in, and the widest level is L. Totals come from the traffic of a list, which sees the
 //! calls' arguments and whether each was accepted, and no memory.
 
 mod common;
@@ -8,20 +8,20 @@ use common::{amount, memory, record_words, seed, Rng};
 use std::collections::BTreeMap;
 
 /// The traffic of a list of calls: pairs of key and amount, those of one key added up.
-type Book = BTreeMap<Vec<u8>, u128>;
+type Traffic = BTreeMap<Vec<u8>, u128>;
 
 #[derive(Clone)]
 struct Meter {
     memory: Vec<u8>,
-    book: Book,
+    traffic: Traffic,
 }
 
 /// A block's total, by row, level and index.
-fn totals(d: usize, w: usize, book: &Book) -> Vec<[Vec<u128>; 4]> {
+fn totals(d: usize, w: usize, traffic: &Traffic) -> Vec<[Vec<u128>; 4]> {
     (0..d)
         .map(|r| {
             let mut levels = [0, 1, 2, 3].map(|n| vec![0; w >> n]);
-            for (key, total) in book {
+            for (key, total) in traffic {
                 for (n, blocks) in levels.iter_mut().enumerate() {
                     blocks[reference::slot(r, key, w) >> n] += total;
                 }
@@ -55,7 +55,7 @@ struct Seen {
 }
 
 fn check(d: usize, w: usize, m: &mut Meter, keys: &[Vec<u8>], seen: &mut Seen) {
-    let totals = totals(d, w, &m.book);
+    let totals = totals(d, w, &m.traffic);
     let l = level(&totals);
     seen.levels[l] += 1;
     let widest = meter::widest(d, w, &m.memory);
@@ -66,7 +66,7 @@ fn check(d: usize, w: usize, m: &mut Meter, keys: &[Vec<u8>], seen: &mut Seen) {
         let asked = meter::feed_record(d, w, &mut m.memory, 0, &record_words(key, None));
         assert_eq!(asked, answer, "an asking record gives the estimate");
         let figure = answer.figure as u128;
-        let least = m.book.get(key).copied().unwrap_or(0);
+        let least = m.traffic.get(key).copied().unwrap_or(0);
         let most = (0..d).map(|r| totals[r][l][reference::slot(r, key, w) >> l]).min().unwrap();
         assert!(least <= figure, "{figure} is at least the key's total {least}");
         assert!(figure <= most, "{figure} is at most {most}");
@@ -75,7 +75,7 @@ fn check(d: usize, w: usize, m: &mut Meter, keys: &[Vec<u8>], seen: &mut Seen) {
     }
 }
 
-/// One call on one of the meters, and which; the book follows what was accepted.
+/// One call on one of the meters, and which; its traffic follows what was accepted.
 fn call(rng: &mut Rng, d: usize, w: usize, meters: &mut [Meter], keys: &[Vec<u8>], doubling: bool, seen: &mut Seen) -> usize {
     let at = rng.below(meters.len());
     let kind = if doubling && rng.once_in(2) { 1 } else { rng.below(30) };
@@ -87,7 +87,7 @@ fn call(rng: &mut Rng, d: usize, w: usize, meters: &mut [Meter], keys: &[Vec<u8>
         0 if rng.once_in(4) => {
             let ok = meter::clear(d, w, &mut m.memory).number == 0;
             if ok {
-                m.book.clear();
+                m.traffic.clear();
             }
             ok
         }
@@ -102,8 +102,8 @@ fn call(rng: &mut Rng, d: usize, w: usize, meters: &mut [Meter], keys: &[Vec<u8>
                 n => panic!("a union of listed meters gave {n}"),
             };
             if ok {
-                for (key, total) in source.book {
-                    *m.book.entry(key).or_default() += total;
+                for (key, total) in source.traffic {
+                    *m.traffic.entry(key).or_default() += total;
                 }
                 seen.unions += 1;
             }
@@ -115,7 +115,7 @@ fn call(rng: &mut Rng, d: usize, w: usize, meters: &mut [Meter], keys: &[Vec<u8>
             let count = meter::image_write(d, w, &source.memory, &mut words).figure as usize;
             let ok = meter::image_read(d, w, &mut m.memory, &words[..count]).number == 0;
             assert!(ok, "a listed meter's image is accepted");
-            m.book = source.book;
+            m.traffic = source.traffic;
             seen.images += 1;
             ok
         }
@@ -141,7 +141,7 @@ fn call(rng: &mut Rng, d: usize, w: usize, meters: &mut [Meter], keys: &[Vec<u8>
                 meter::update(d, w, &mut m.memory, key, amount)
             };
             match answer.number {
-                0 => *m.book.entry(key.clone()).or_default() += amount as u128,
+                0 => *m.traffic.entry(key.clone()).or_default() += amount as u128,
                 6 => seen.full += 1,
                 n => panic!("an update of a listed meter gave {n}"),
             }
@@ -174,7 +174,7 @@ fn estimates_lie_between_the_two_figures() {
         let mut meters = vec![
             Meter {
                 memory: vec![0xff; d * w / 8 * 9],
-                book: Book::new(),
+                traffic: Traffic::new(),
             };
             3
         ];

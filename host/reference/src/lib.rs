@@ -23,7 +23,7 @@ fn accepted(figure: u64) -> Answer {
     }
 }
 
-/// Why a call is turned away: number and place.
+/// Why a call is refused: number and place.
 type Refused = (u32, usize);
 
 fn answer(outcome: Result<u64, Refused>) -> Answer {
