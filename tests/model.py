@@ -10,7 +10,7 @@ import pathlib
 import random
 import sys
 
-# The meter. A row holds its counters by their first slot, as (level, figure); a slot in no counter is one of level 0 holding 0.
+# The meter. A group holds its counters by their first slot, as (level, figure); a slot in none is a counter of level 0 holding 0.
 
 
 def slot(row, key, w):
@@ -51,7 +51,7 @@ def add(counters, s, amount):
 class Meter:
     def __init__(self, d, w):
         self.w = w
-        # the groups of a row, since a counter never leaves its group
+        # the groups of each row by number; a group that is not there is clear
         self.rows = [{} for _ in range(d)]
 
     def places(self, key):
