@@ -1,12 +1,13 @@
 -- Laws of a feed's words that the code's proofs use.
-use mathlib.Core.Path.{_≡_, refl, ap}
+use mathlib.Core.Path.{_≡_, refl, sym, ap, ap₂, _∙_}
 use mathlib.Core.Bool.{Bool, true, false, cond, _&&_}
 use mathlib.Core.List.{List, [], _∷_, _++_}
-use Prim.Native.Nat.{ℕ, zero, suc, _+_, _-_, _*_, _%_, _^_, _≤_, _<_}
-use native.Mathlib.Nat.{one-mul, mod-eq-of-lt, add-zero, sub-zero}
+use Prim.Native.Nat.{ℕ, zero, suc, _+_, _-_, _*_, _%_, _^_, _≤_, _<_, _/_}
+use native.Mathlib.Nat.{one-mul, mod-eq-of-lt, add-zero, sub-zero, zero-add, div-one}
 use native.Mathlib.Numerals.{sub-one}
 use native.Mathlib.Omega.{arith}
-use lib.ListN.{length, take}
+use lib.ListN.{length, take, set, length-set}
+use lib.Seq.{take-suc-set}
 use lib.Dec.{eqb, leb}
 use borrow.Author.Tests.{leb-true, eq-eqb, ne-eqb}
 use lib.Pow.{pow-mono}
@@ -49,6 +50,58 @@ key-more zero words i = rw add-zero
 key-more (suc n) words i =
     let e : i + 1 + n ≡ i + suc n = omega arith in
     ap (λ (k : List ℕ). keyByte words i ∷ k) (rw e at (key-more n words (i + 1)))
+
+-- the first bytes of a key
+pub key-front : (n m : ℕ) (words : List ℕ) (i : ℕ) → n ≤ m → take n (keyFrom m words i) ≡ keyFrom n words i
+unfolding keyFrom
+key-front zero m words i h = refl
+key-front (suc n) zero words i h = absurd (omega arith)
+key-front (suc n) (suc m) words i h = ap (λ (k : List ℕ). keyByte words i ∷ k) (key-front n m words (i + 1) (omega arith))
+
+-- a byte of a key stored behind those before it
+byte-more : (key words : List ℕ) (m n x : ℕ) → n ≡ suc m → m < length key → take m key ≡ keyOf m words → x ≡ keyByte words m → take n (set key m x) ≡ keyOf n words
+byte-more key words m n x k h e f =
+    rw k (take-suc-set key m x h ∙ ap₂ (λ (l : List ℕ) (y : ℕ). l ++ (y ∷ [])) e (f ∙ ap (keyByte words) (sym (zero-add m))) ∙ sym (key-more m words 0))
+
+-- the three bytes of key word j
+byte-0 : (words : List ℕ) (j : ℕ) → payload words (1 + j) / 65536 % 256 ≡ keyByte words (3 * j)
+unfolding keyByte
+byte-0 words j =
+    let q : 3 * j / 3 ≡ j = omega arith in
+    let r : 3 * j % 3 ≡ 0 = omega arith in
+    rw (q, r)
+
+byte-1 : (words : List ℕ) (j : ℕ) → payload words (1 + j) / 256 % 256 ≡ keyByte words (3 * j + 1)
+unfolding keyByte
+byte-1 words j =
+    let q : (3 * j + 1) / 3 ≡ j = omega arith in
+    let r : (3 * j + 1) % 3 ≡ 1 = omega arith in
+    rw (q, r)
+
+byte-2 : (words : List ℕ) (j : ℕ) → payload words (1 + j) % 256 ≡ keyByte words (3 * j + 2)
+unfolding keyByte
+byte-2 words j =
+    let q : (3 * j + 2) / 3 ≡ j = omega arith in
+    let r : (3 * j + 2) % 3 ≡ 2 = omega arith in
+    rw (q, r, div-one)
+
+-- key word j stored behind those before it
+abbrev pub stored : List ℕ → ℕ → ℕ → List ℕ
+stored key j v = set (set (set key (3 * j) (v / 65536 % 256)) (3 * j + 1) (v / 256 % 256)) (3 * j + 2) (v % 256)
+
+pub word-more : (key words : List ℕ) (j v : ℕ) → 3 * j + 3 ≤ length key → v ≡ payload words (1 + j) → take (3 * j) key ≡ keyOf (3 * j) words
+    → take (3 * (j + 1)) (stored key j v) ≡ keyOf (3 * (j + 1)) words
+word-more key words j v h p e =
+    let a = v / 65536 % 256 in
+    let b = v / 256 % 256 in
+    let k = set key (3 * j) a in
+    let long : length k ≡ length key = length-set key (3 * j) a in
+    let first = byte-more key words (3 * j) (3 * j + 1) a (omega arith) (omega arith) e (rw p (byte-0 words j)) in
+    let second = byte-more k words (3 * j + 1) (3 * j + 2) b (omega arith) (omega arith) first (rw p (byte-1 words j)) in
+    byte-more (set k (3 * j + 1) b) words (3 * j + 2) (3 * (j + 1)) (v % 256) (omega arith) (omega (arith, length-set k (3 * j + 1) b)) second (rw p (byte-2 words j))
+
+pub stored-length : (key : List ℕ) (j v : ℕ) → length (stored key j v) ≡ length key
+stored-length key j v = rw (length-set, length-set, length-set)
 
 -- The tag of a body: 0 where its words are sound, 1 where it is refused. A branch that binds no field knows the tag alone.
 abbrev pub HasTag : ℕ → Body → Type 0

@@ -8,7 +8,7 @@ use word::tested;
 ghost use mathlib.Core.Path.{_≡_};
 ghost use Prim.Native.Nat.{_+_, _-_, _*_, _^_, _<_, _≤_};
 ghost use lib.ListN.{take};
-ghost use Rattle.feed.specs.Words.{opensKey, opened, keyWords, keyPayload, keyWord, checkKey, checkAmount, keyByte, keyOf, amountOf, updateStep, bodyOf, updateBody, queryBody};
+ghost use Rattle.feed.specs.Words.{opensKey, opened, keyWords, keyPayload, keyWord, checkKey, checkAmount, keyOf, amountOf, updateStep, bodyOf, updateBody, queryBody};
 
 // The kinds of a record's words.
 pub const UPDATE: u32 = 5;
@@ -76,22 +76,7 @@ pub fn key_words(n: usize) -> usize
     (n + 2) / 3
 }
 
-// What the payload of a key's last word is a multiple of.
-fn unused(n: usize) -> u32
-    requires { ⌜ 1 ≤ n ⌝ }
-    ensures { λ r. ⌜ r ≡ 2 ^ (8 * (3 - n)) ⌝ }
-    ensures { λ r. ⌜ 1 ≤ r ⌝ }
-{
-    if n == 1 {
-        return 65536;
-    }
-    if n == 2 {
-        return 256;
-    }
-    1
-}
-
-// Whether a key word may have this payload, with n bytes of the key left.
+// Whether a key word may have this payload, with n bytes of the key left: bits 24 to 27 and unused bytes are 0.
 fn key_payload(n: usize, v: u32) -> bool
     requires { ⌜ 1 ≤ n ⌝ }
     ensures { λ r. ⌜ r ≡ keyPayload n v ⌝ }
@@ -99,7 +84,13 @@ fn key_payload(n: usize, v: u32) -> bool
     if v >= 16777216 {
         return false;
     }
-    v % unused(n) == 0
+    if n == 1 {
+        return v % 65536 == 0;
+    }
+    if n == 2 {
+        return v % 256 == 0;
+    }
+    true
 }
 
 // The key word at a position, with n bytes of the key left.
@@ -186,22 +177,17 @@ pub fn query_body(words: &[u32], n: usize) -> Body
     body_of(check_key(words, n), 0)
 }
 
-// Byte i of a record's key; the earliest byte of a word is the highest.
-fn key_byte(words: &[u32], i: usize) -> u8
-    ensures { λ r. ⌜ r ≡ keyByte (now (words .entry)) i ⌝ }
-{
-    let shift = 8 * (2 - (i % 3) as u32);
-    ((payload(words, 1 + i / 3) >> shift) % 256) as u8
-}
-
-// The key of a record, followed by zeros.
-pub fn key_of(words: &[u32], n: usize) -> [u8; 64]
+// The key of a record, three bytes a word, the earliest the highest.
+pub fn key_of(words: &[u32], n: usize) -> [u8; 66]
     requires { ⌜ n ≤ 64 ⌝ }
     ensures { λ r. ⌜ take n r ≡ keyOf n (now (words .entry)) ⌝ }
 {
-    let mut key = [0u8; 64];
-    for i in 0..n {
-        key[i] = key_byte(words, i);
+    let mut key = [0u8; 66];
+    for j in 0..key_words(n) {
+        let v = payload(words, 1 + j);
+        key[3 * j] = (v / 65536 % 256) as u8;
+        key[3 * j + 1] = (v / 256 % 256) as u8;
+        key[3 * j + 2] = (v % 256) as u8;
     }
     key
 }

@@ -1,9 +1,9 @@
-use Prim.Native.Nat.{ℕ, _%_}
-use lib.Dec.{eqb}
-use mathlib.Core.Path.{ap}
+use mathlib.Core.Path.{_≡_}
+use Prim.Native.Nat.{_-_}
+use native.Mathlib.Nat.{mod-one}
+use native.Mathlib.Omega.{arith}
 use borrow.Author.Tests.{lt-ltb, le-ltb}
 use Rattle.feed.specs.Words.{keyPayload}
-use borrow.Author.Needs.{needs}
 use Rattle.feed.proofs.words.key_payload.Statement.{statement}
 use Rattle.feed.proofs.words.key_payload.Tie as tie
 
@@ -11,16 +11,18 @@ returns : tie.Need-returns
 unfolding keyPayload
 returns c = rw (le-ltb _ _ (c .if1 .taken))
 
-unused-requires : tie.Need-unused-requires
-unused-requires c κs = search needs
-
-rem-result : tie.Need-rem-result
-rem-result c = search needs
-
 returns-2 : tie.Need-returns-2
 unfolding keyPayload
-returns-2 c = let a = c .before .before .args in
-    rw (lt-ltb _ _ (c .before .if1 .left)) (ap (λ (x : ℕ). eqb (a .v % x) 0) (c .unused .ensures .0))
+returns-2 c = rw (lt-ltb _ _ (c .before .if1 .left), c .if2 .taken)
+
+returns-3 : tie.Need-returns-3
+unfolding keyPayload
+returns-3 c = rw (lt-ltb _ _ (c .before .before .if1 .left), c .if3 .taken)
+
+returns-4 : tie.Need-returns-4
+unfolding keyPayload
+returns-4 c = let z : 3 - c .before .before .before .args .n ≡ 0 = omega arith in
+    rw (lt-ltb _ _ (c .before .before .if1 .left), z, mod-one)
 
 pub key-payload-spec : {M : Type 1} → statement M
-key-payload-spec = tie.close (tie.spec returns unused-requires rem-result returns-2)
+key-payload-spec = tie.close (tie.spec returns returns-2 returns-3 returns-4)
