@@ -4,6 +4,7 @@ pub mod hash;
 use block::Summed;
 ghost use mathlib.Core.Path.{_≡_};
 ghost use mathlib.Core.Bool.{_&&_};
+ghost use Prim.Native.Nat.{_+_, _*_};
 ghost use Rattle.layout.specs.Layout.{valid};
 ghost use Rattle.group.specs.Group.{number, bytes, read, stored, added, united, widestOf, changed};
 ghost use Rattle.group.specs.Group as spec;
@@ -69,37 +70,55 @@ fn rejected(status: u8) -> Answer
     }
 }
 
+// Eight bytes as one number, the first least significant.
+fn eight(a: u8, b: u8, c: u8, d: u8, e: u8, f: u8, g: u8, h: u8) -> u64
+    ensures { λ r. ⌜ r ≡ a + 256 * (b + 256 * (c + 256 * (d + 256 * (e + 256 * (f + 256 * (g + 256 * h)))))) ⌝ }
+{
+    let low = a as u64 + b as u64 * 256 + c as u64 * 65536 + d as u64 * 16777216;
+    let middle = e as u64 * 4294967296 + f as u64 * 1099511627776;
+    low + middle + g as u64 * 281474976710656 + h as u64 * 72057594037927936
+}
+
 // The count bytes as one number, the lowest slot least significant.
 pub fn number_of(counts: [u8; 8]) -> u64
     ensures { λ r. ⌜ r ≡ number counts ⌝ }
 {
-    let mut n: u64 = 0;
-    let mut i = 8;
-    while i > 0 {
-        i -= 1;
-        n = counts[i] as u64 + 256 * n;
-    }
-    n
+    eight(
+        counts[0],
+        counts[1],
+        counts[2],
+        counts[3],
+        counts[4],
+        counts[5],
+        counts[6],
+        counts[7],
+    )
 }
 
 // The eight bytes of a number, the lowest first.
 pub fn bytes_of(number: u64) -> [u8; 8]
     ensures { λ r. ⌜ r ≡ bytes 8 number ⌝ }
 {
-    let mut out = [0u8; 8];
-    let mut rest = number;
-    for i in 0..8 {
-        out[i] = (rest % 256) as u8;
-        rest = rest / 256;
-    }
-    out
+    [
+        (number % 256) as u8,
+        (number / 256 % 256) as u8,
+        (number / 65536 % 256) as u8,
+        (number / 16777216 % 256) as u8,
+        (number / 4294967296 % 256) as u8,
+        (number / 1099511627776 % 256) as u8,
+        (number / 281474976710656 % 256) as u8,
+        (number / 72057594037927936 % 256) as u8,
+    ]
 }
 
-// Whether a merge byte is one of the 26 valid ones.
+// Whether a merge byte is one of the 26 valid ones: bit 7 is clear, a merged half has both its pairs merged, and a merged group all.
 pub fn is_valid(merge: u8) -> bool
     ensures { λ r. ⌜ r ≡ valid 3 merge ⌝ }
 {
-    layout::is_valid(3, merge)
+    let halves = ((merge >> 1) & 17) * 5;
+    let group = ((merge >> 3) & 1) * 127;
+    let needed = halves | group;
+    merge & (needed | 128) == needed
 }
 
 // The counter that a slot is in.
