@@ -5,3 +5,4 @@ pub mod Steps
 pub mod Least
 pub mod Changing
 pub mod Slots
+pub mod Places
