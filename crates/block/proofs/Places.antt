@@ -108,8 +108,7 @@ add-in-place (split {n} l r) k a h = elim (decLt k (2 ^ n)) [
       (split (s .0) r, rw (add-left l r k a m, s .1), ap (λ (L : Layout n). halves L (shape r)) (s .2), rw (first-left l r k m) (omega (arith, s .3)))
   | no m′ ↦
       let m : 2 ^ n ≤ k = omega arith in
-      let s = add-in-place r (k - 2 ^ n) a (rw (in-right l r k m) at h) in
-      (
+      let s = add-in-place r (k - 2 ^ n) a (rw (in-right l r k m) at h) in (
         split l (s .0),
         rw (add-right l r k a m, s .1),
         ap (λ (L : Layout n). halves (shape l) L) (s .2),

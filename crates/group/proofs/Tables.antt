@@ -1,12 +1,16 @@
 -- Facts about every merge byte, each shown by one computation over all of them.
-use mathlib.Core.Path.{_≡_, refl, sym}
+use mathlib.Core.Path.{_≡_, refl, sym, ap, _∙_}
 use mathlib.Core.Bool.{Bool, true, false, cond, not, _&&_, and-eq-true-iff}
-use Prim.Native.Nat.{ℕ, zero, suc, _*_, _/_, _<_}
+use Prim.Native.Nat.{ℕ, zero, suc, _+_, _*_, _/_, _^_, _<_}
 use native.Mathlib.Decide.{decLt}
 use native.Mathlib.Omega.{arith}
+use borrow.Author.Tests.{eqb-true}
 use lib.Bits.{bitAnd, bitOr}
 use lib.Dec.{eqb}
-use Rattle.layout.specs.Layout.{valid, ones}
+use Rattle.layout.specs.Layout.{bit, layout, valid, ones}
+use Rattle.block.specs.Block.{block, counterAt}
+use Rattle.block.proofs.Laws.{shape-fill}
+use Rattle.block.proofs.Slots.{levelOf, level-is}
 
 -- a test passed by every number below n
 pub every : (ℕ → Bool) → ℕ → Bool
@@ -43,3 +47,22 @@ all-valid = refl
 
 pub bits-valid : (m : ℕ) → m < 256 → bitsValid m ≡ valid 3 m
 bits-valid m h = same-is (bitsValid m) (valid 3 m) (every-at (λ m. same (bitsValid m) (valid 3 m)) 256 m all-valid h)
+
+-- the merged blocks around a slot: its pair, its half and the group
+abbrev pub bitsLevel : ℕ → ℕ → ℕ
+bitsLevel m k = bitAnd (m / 2 ^ bitAnd k 6) 1 + bitAnd (m / 2 ^ (bitAnd k 4 + 1)) 1 + bitAnd (m / 8) 1
+
+slots-level : ℕ → Bool
+slots-level m = every (λ k. eqb (bitsLevel m k) (levelOf (layout 3 m) k)) 8
+
+all-levels : every (λ m. cond (valid 3 m) (slots-level m) true) 256 ≡ true
+unfolding every slots-level valid ones layout bit levelOf
+all-levels = refl
+
+pub bits-level : (w m k : ℕ) → m < 256 → valid 3 m ≡ true → k < 8 → counterAt (block 3 w m) k .level ≡ bitsLevel m k
+unfolding slots-level block
+bits-level w m k h v i =
+    let e : slots-level m ≡ true = rw v at (every-at (λ m. cond (valid 3 m) (slots-level m) true) 256 m all-levels h) in
+    level-is (block 3 w m) k
+    ∙ ap (λ L. levelOf L k) (shape-fill (layout 3 m) w)
+    ∙ sym (eqb-true (bitsLevel m k) (levelOf (layout 3 m) k) (every-at (λ k. eqb (bitsLevel m k) (levelOf (layout 3 m) k)) 8 k e i))

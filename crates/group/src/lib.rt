@@ -3,9 +3,10 @@ pub mod hash;
 
 use block::Summed;
 ghost use mathlib.Core.Path.{_≡_};
-ghost use mathlib.Core.Bool.{_&&_};
-ghost use Prim.Native.Nat.{_+_, _*_};
+ghost use mathlib.Core.Bool.{true, _&&_};
+ghost use Prim.Native.Nat.{ℕ, _+_, _-_, _*_, _/_, _%_, _^_, _<_, _≤_};
 ghost use Rattle.layout.specs.Layout.{valid};
+ghost use Rattle.block.specs.Block.{cap, block, counterAt};
 ghost use Rattle.group.specs.Group.{number, bytes, read, stored, added, united, widestOf, changed};
 ghost use Rattle.group.specs.Group as spec;
 ghost use Rattle.group.specs.Status as status_spec;
@@ -121,6 +122,44 @@ pub fn is_valid(merge: u8) -> bool
     merge & (needed | 128) == needed
 }
 
+// The level of the counter that a slot is in: in a valid layout one for each merged block around the slot, its pair, its half and
+// the group.
+fn level_at(merge: u8, slot: usize) -> u32
+    requires { ⌜ valid 3 merge ≡ true ⌝ ∗ ⌜ slot < 8 ⌝ }
+    ensures { λ r. ⌜ ((w : ℕ) → counterAt (block 3 w merge) slot .level ≡ r) ⌝ }
+    ensures { λ r. ⌜ r ≤ 3 ⌝ }
+{
+    let pair = (merge >> (slot & 6)) & 1;
+    let half = (merge >> ((slot & 4) + 1)) & 1;
+    let group = (merge >> 3) & 1;
+    (pair + half + group) as u32
+}
+
+// The largest value that a counter of a level holds.
+fn most(level: u32) -> u64
+    requires { ⌜ level ≤ 3 ⌝ }
+    ensures { λ r. ⌜ r ≡ cap level - 1 ⌝ }
+{
+    18446744073709551615 >> (64 - (8u32 << level))
+}
+
+// The lowest bit of the counter of a level that a slot is in, in the count bytes taken as one number.
+fn place(level: u32, slot: usize) -> usize
+    requires { ⌜ level ≤ 3 ⌝ ∗ ⌜ slot < 8 ⌝ }
+    ensures { λ r. ⌜ r ≡ 8 * (slot / 2 ^ level * 2 ^ level) ⌝ }
+    ensures { λ r. ⌜ r < 64 ⌝ }
+{
+    8 * ((slot >> level) << level)
+}
+
+// The counter of a level at a place of the count bytes taken as one number.
+fn value_at(word: u64, level: u32, place: usize) -> u64
+    requires { ⌜ level ≤ 3 ⌝ ∗ ⌜ place < 64 ⌝ }
+    ensures { λ r. ⌜ r ≡ word / 2 ^ place % cap level ⌝ }
+{
+    (word >> place) & most(level)
+}
+
 // The counter that a slot is in.
 pub fn counter(g: Group, slot: usize) -> Reading
     ensures { λ r. ⌜ r ≡ read g slot ⌝ }
@@ -133,11 +172,12 @@ pub fn counter(g: Group, slot: usize) -> Reading
             level: 0,
         };
     }
-    let c = block::counter_at(3, number_of(counts), g.merge, slot % 8);
+    let level = level_at(g.merge, slot % 8);
+    let at = place(level, slot % 8);
     Reading {
         status: 0,
-        value: c.value,
-        level: c.level,
+        value: value_at(number_of(counts), level, at),
+        level,
     }
 }
 
@@ -161,7 +201,20 @@ fn unchanged(status: u8, g: Group) -> Outcome
     Outcome { status, group: g }
 }
 
-// An amount added to the counter that a slot is in.
+// An amount added to the counter that a slot is in, where the counter may have to widen.
+fn add_widening(g: Group, slot: usize, amount: u32) -> Outcome
+    requires { ⌜ valid 3 (g .merge) ≡ true ⌝ }
+    ensures { λ r. ⌜ r ≡ added g slot amount ⌝ }
+{
+    let counts = g.counts;
+    let word = number_of(counts);
+    if 18446744073709551615 - block::total(3, word, g.merge) < amount as u64 {
+        return unchanged(COUNTER_FULL, g);
+    }
+    settled(block::add(3, word, g.merge, slot % 8, amount as u64))
+}
+
+// An amount added to the counter that a slot is in. Where the counter holds the sum, the layout stays and no other byte changes.
 pub fn add(g: Group, slot: usize, amount: u32) -> Outcome
     ensures { λ r. ⌜ r ≡ added g slot amount ⌝ }
 {
@@ -170,10 +223,18 @@ pub fn add(g: Group, slot: usize, amount: u32) -> Outcome
         return unchanged(INVALID_MERGE, g);
     }
     let word = number_of(counts);
-    if 18446744073709551615 - block::total(3, word, g.merge) < amount as u64 {
-        return unchanged(COUNTER_FULL, g);
+    let k = slot % 8;
+    let level = level_at(g.merge, k);
+    let at = place(level, k);
+    let room = most(level) - value_at(word, level, at);
+    if amount as u64 <= room {
+        return settled(Summed {
+            over: false,
+            word: word + ((amount as u64) << at),
+            merge: g.merge,
+        });
     }
-    settled(block::add(3, word, g.merge, slot % 8, amount as u64))
+    add_widening(g, slot, amount)
 }
 
 // A source group united with a target.
