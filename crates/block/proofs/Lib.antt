@@ -6,3 +6,4 @@ pub mod Least
 pub mod Changing
 pub mod Slots
 pub mod Places
+pub mod Carries
