@@ -1,14 +1,17 @@
 -- Facts about every merge byte, each shown by one computation over all of them.
 use mathlib.Core.Path.{_≡_, refl, sym, ap, _∙_}
 use mathlib.Core.Bool.{Bool, true, false, cond, not, _&&_, and-eq-true-iff}
-use Prim.Native.Nat.{ℕ, zero, suc, _+_, _*_, _/_, _^_, _<_}
+use Prim.Native.Nat.{ℕ, zero, suc, _+_, _-_, _*_, _/_, _^_, _<_}
 use native.Mathlib.Decide.{decLt}
 use native.Mathlib.Omega.{arith}
 use borrow.Author.Tests.{eqb-true}
 use lib.Bits.{bitAnd, bitOr}
 use lib.Dec.{eqb}
 use Rattle.layout.specs.Layout.{bit, layout, valid, ones}
-use Rattle.block.specs.Block.{block, counterAt}
+use Rattle.layout.proofs.Laws.{marks-lt, marks-layout}
+use Rattle.block.specs.Block.{cap, fill, block, counterAt}
+use Rattle.block.specs.Sum.{fits, unite}
+use Rattle.block.proofs.Carries.{bounds, carries, unite-in-place}
 use Rattle.block.proofs.Laws.{shape-fill}
 use Rattle.block.proofs.Slots.{levelOf, level-is}
 
@@ -66,3 +69,23 @@ bits-level w m k h v i =
     level-is (block 3 w m) k
     ∙ ap (λ L. levelOf L k) (shape-fill (layout 3 m) w)
     ∙ sym (eqb-true (bitsLevel m k) (levelOf (layout 3 m) k) (every-at (λ k. eqb (bitsLevel m k) (levelOf (layout 3 m) k)) 8 k e i))
+
+pub valid-below : (m : ℕ) → valid 3 m ≡ true → m < 128
+valid-below m v = rw (← marks-layout 3 m v) (marks-lt (layout 3 m))
+
+-- where counters start: bit k of the merge byte at bit 8 * (k + 1), turned over
+abbrev pub bitsBounds : ℕ → ℕ
+bitsBounds m = bitAnd ((127 - m) * 4432676798593) 282578800148737 * 256
+
+all-bounds : every (λ m. cond (valid 3 m) (eqb (bitsBounds m) (bounds (layout 3 m))) true) 256 ≡ true
+unfolding every valid ones layout bit bounds cap
+all-bounds = refl
+
+pub bits-bounds : (m : ℕ) → m < 256 → valid 3 m ≡ true → bitsBounds m ≡ bounds (layout 3 m)
+bits-bounds m h v =
+    eqb-true (bitsBounds m) (bounds (layout 3 m)) (rw v at (every-at (λ m. cond (valid 3 m) (eqb (bitsBounds m) (bounds (layout 3 m))) true) 256 m all-bounds h))
+
+pub bits-unite : (a b m : ℕ) → m < 256 → valid 3 m ≡ true → a + b < 2 ^ 64 → bitAnd (carries a b) (bitsBounds m) ≡ 0
+    → unite (block 3 a m) (block 3 b m) ≡ fits (block 3 (a + b) m)
+unfolding block cap
+bits-unite a b m h v s z = unite-in-place (layout 3 m) a b s (rw (bits-bounds m h v) at z)

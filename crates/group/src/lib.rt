@@ -7,6 +7,8 @@ ghost use mathlib.Core.Bool.{true, _&&_};
 ghost use Prim.Native.Nat.{ℕ, _+_, _-_, _*_, _/_, _%_, _^_, _<_, _≤_};
 ghost use Rattle.layout.specs.Layout.{valid};
 ghost use Rattle.block.specs.Block.{cap, block, counterAt};
+ghost use Rattle.block.specs.Sum.{fits};
+ghost use Rattle.block.specs.Sum as sum_spec;
 ghost use Rattle.group.specs.Group.{number, bytes, read, stored, added, united, widestOf, changed};
 ghost use Rattle.group.specs.Group as spec;
 ghost use Rattle.group.specs.Status as status_spec;
@@ -237,7 +239,48 @@ pub fn add(g: Group, slot: usize, amount: u32) -> Outcome
     add_widening(g, slot, amount)
 }
 
-// A source group united with a target.
+// Whether in the sum of the count bytes of two groups, taken as numbers, nothing is carried from one counter to the next. In a
+// valid layout merge bit k is clear where slot k + 1 starts a counter.
+fn no_carry(merge: u8, word: u64, other: u64) -> bool
+    requires { ⌜ valid 3 merge ≡ true ⌝ ∗ ⌜ word + other < 2 ^ 64 ⌝ }
+    ensures { λ r. ⌜ (r ≡ true → sum_spec.unite (block 3 word merge) (block 3 other merge) ≡ fits (block 3 (word + other) merge)) ⌝ }
+{
+    let starts = (((127 - merge) as u64 * 4432676798593) & 282578800148737) * 256;
+    (word ^ other ^ (word + other)) & starts == 0
+}
+
+// Whether the count bytes of two groups, taken as numbers, may be added for their union: the layouts are the same and each counter
+// holds its sum.
+fn may_add(word: u64, merge: u8, other_word: u64, other_merge: u8) -> bool
+    requires { ⌜ valid 3 merge ≡ true ⌝ }
+    ensures { λ r. ⌜ (r ≡ true → (word + «other_word» < 2 ^ 64) × (sum_spec.unite (block 3 word merge) (block 3 «other_word» «other_merge») ≡ fits (block 3 (word + «other_word») merge))) ⌝ }
+{
+    if merge != other_merge {
+        return false;
+    }
+    if 18446744073709551615 - word < other_word {
+        return false;
+    }
+    no_carry(merge, word, other_word)
+}
+
+// A source group united with a target, where counters may have to widen.
+fn unite_widening(target: Group, source: Group) -> Outcome
+    requires { ⌜ valid 3 (target .merge) ≡ true ⌝ ∗ ⌜ valid 3 (source .merge) ≡ true ⌝ }
+    ensures { λ r. ⌜ r ≡ united target source ⌝ }
+{
+    let target_counts = target.counts;
+    let source_counts = source.counts;
+    let word = number_of(target_counts);
+    let source_word = number_of(source_counts);
+    let room = 18446744073709551615 - block::total(3, word, target.merge);
+    if room < block::total(3, source_word, source.merge) {
+        return unchanged(COUNTER_FULL, target);
+    }
+    settled(block::unite(3, word, target.merge, source_word, source.merge))
+}
+
+// A source group united with a target. Where both have the same layout and each counter holds its sum, the layout stays.
 pub fn unite(target: Group, source: Group) -> Outcome
     ensures { λ r. ⌜ r ≡ united target source ⌝ }
 {
@@ -251,11 +294,14 @@ pub fn unite(target: Group, source: Group) -> Outcome
     }
     let word = number_of(target_counts);
     let source_word = number_of(source_counts);
-    let room = 18446744073709551615 - block::total(3, word, target.merge);
-    if room < block::total(3, source_word, source.merge) {
-        return unchanged(COUNTER_FULL, target);
+    if may_add(word, target.merge, source_word, source.merge) {
+        return settled(Summed {
+            over: false,
+            word: word + source_word,
+            merge: target.merge,
+        });
     }
-    settled(block::unite(3, word, target.merge, source_word, source.merge))
+    unite_widening(target, source)
 }
 
 // The largest level of a group's counters.
