@@ -12,9 +12,10 @@ use lib.Dec.{ltb}
 use lib.Pow.{pow-pos, pow-add, shr-shr}
 use Rattle.layout.specs.Layout.{Layout, halves}
 use Rattle.block.specs.Block.{Block, counter, split, cap, Fits, shape, word, counterAt}
-use Rattle.block.specs.Sum.{Sum, fits, held, join, add}
+use Rattle.block.specs.Change.{change}
+use Rattle.block.specs.Sum.{fits, held, join, add}
 use Rattle.block.proofs.Laws.{word-lt}
-use Rattle.block.proofs.Slots.{in-left, in-right, level-le, shifted}
+use Rattle.block.proofs.Slots.{in-left, in-right, level-le, shifted, change-left, change-right}
 
 -- the first slot of the counter that slot k is in
 unfoldable pub first : {n : ℕ} → Block n → ℕ → ℕ
@@ -120,3 +121,28 @@ add-in-place (split {n} l r) k a h = elim (decLt k (2 ^ n)) [
     higher x y a i j =
         let e : 8 * (i + j) ≡ 8 * j + 8 * i = omega arith in
         rw (e, pow-add 2 (8 * j) (8 * i), add-mul, mul-assoc a (2 ^ (8 * j)) (2 ^ (8 * i))) (omega arith)
+
+-- another value in the counter changes the number at the counter's place
+pub change-word : {n : ℕ} (b : Block n) (k x : ℕ)
+    → word (change b k x) + counterAt b k .value * 2 ^ (8 * first b k) ≡ word b + x % cap (counterAt b k .level) * 2 ^ (8 * first b k)
+unfolding change word first counterAt cap
+change-word (counter v) k x = omega arith
+change-word (split {n} l r) k x = elim (decLt k (2 ^ n)) [
+  | yes m ↦ rw (change-left l r k x m, first-left l r k m, in-left l r k m) (omega (arith, change-word l k x))
+  | no m′ ↦
+      let m : 2 ^ n ≤ k = omega arith in
+      rw (change-right l r k x m, first-right l r k m, in-right l r k m)
+      (higher-both (2 ^ n) (first r (k - 2 ^ n)) (word (change r (k - 2 ^ n) x)) (word r) (word l) (counterAt r (k - 2 ^ n) .value) (x % cap (counterAt r (k - 2 ^ n) .level)) (change-word r (k - 2 ^ n) x))
+]
+  where
+    higher-both : (i j a b y u v : ℕ) → a + u * 2 ^ (8 * j) ≡ b + v * 2 ^ (8 * j)
+        → a * 2 ^ (8 * i) + y + u * 2 ^ (8 * (i + j)) ≡ b * 2 ^ (8 * i) + y + v * 2 ^ (8 * (i + j))
+    higher-both i j a b y u v e =
+        let f : 8 * (i + j) ≡ 8 * j + 8 * i = omega arith in
+        rw (f, pow-add 2 (8 * j) (8 * i), ← mul-assoc u (2 ^ (8 * j)) (2 ^ (8 * i)), ← mul-assoc v (2 ^ (8 * j)) (2 ^ (8 * i)))
+        (omega (
+          arith,
+          ap (λ (z : ℕ). z * 2 ^ (8 * i)) e,
+          add-mul a (u * 2 ^ (8 * j)) (2 ^ (8 * i)),
+          add-mul b (v * 2 ^ (8 * j)) (2 ^ (8 * i)),
+        ))

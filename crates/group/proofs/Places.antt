@@ -1,15 +1,18 @@
--- A counter's place in a group's count bytes, taken as one number, and an addition that the counter holds.
+-- A counter's place in a group's count bytes, taken as one number; an addition that the counter holds, and another value in it.
 use mathlib.Core.Path.{_≡_, sym, ap, _∙_}
 use mathlib.Core.Bool.{true, false}
 use Prim.Native.Nat.{ℕ, _+_, _-_, _*_, _/_, _%_, _^_, _≤_, _<_}
+use native.Mathlib.Nat.{mod-le, div-mul-le-self, mul-le-mul-right}
 use native.Mathlib.Omega.{arith}
 use lib.Pow.{pow-pos, pow-mono, ones-lt, ones-split, high}
 use Rattle.layout.specs.Layout.{valid}
 use Rattle.block.specs.Block.{cap, word, block, counterAt}
+use Rattle.block.specs.Change.{change}
 use Rattle.block.specs.Sum.{add, Sound}
 use Rattle.block.proofs.Laws.{word-lt, word-block, marks-block, block-fits}
 use Rattle.block.proofs.Adding.{add-sound}
-use Rattle.block.proofs.Places.{first, first-is, value-is, InPlace, add-in-place}
+use Rattle.block.proofs.Changing.{change-fits}
+use Rattle.block.proofs.Places.{first, first-is, value-is, InPlace, add-in-place, change-word}
 use Rattle.group.specs.declared.Group.{Group}
 use Rattle.group.specs.Group.{number, decode, encode, stored, settle, added}
 
@@ -51,6 +54,29 @@ module _ (w m k L q : ℕ) (h : w < cap 3) (i : k < 8) (e : counterAt (block 3 w
     pub settle-is : (g : Group) → valid 3 m ≡ true → settle g (add (block 3 w m) k a) ≡ stored (record { over = false; word = w + a * 2 ^ q; merge = m })
     unfolding settle stored encode
     settle-is g v = rw (stays .1, word-is, stays .2, marks-block 3 w m v)
+
+  -- another value in the counter
+  module _ (x o n : ℕ) (o-is : o ≡ w / 2 ^ q % cap L) (n-is : n ≡ x % cap L) where
+    abbrev t : ℕ
+    t = word (change (block 3 w m) k x)
+
+    old-le : o * 2 ^ q ≤ w
+    old-le = rw o-is (omega (arith, mul-le-mul-right {m = w / 2 ^ q % cap L} {n = w / 2 ^ q} (2 ^ q) (mod-le (w / 2 ^ q) (cap L)), div-mul-le-self w (2 ^ q)))
+
+    new-word : t + o * 2 ^ q ≡ w + n * 2 ^ q
+    new-word = rw (o-is, n-is) (rw (value-place, place-is, e, word-block 3 w m h) at (change-word (block 3 w m) k x))
+
+    new-lt : t < 2 ^ 64
+    unfolding cap
+    new-lt = word-lt (change (block 3 w m) k x) (change-fits (block 3 w m) k x (block-fits 3 w m h))
+
+    pub put-is : (o * 2 ^ q % 2 ^ 64 ≤ w) × (w - o * 2 ^ q % 2 ^ 64 + n * 2 ^ q % 2 ^ 64 < 2 ^ 64) × (w - o * 2 ^ q % 2 ^ 64 + n * 2 ^ q % 2 ^ 64 ≡ t)
+    unfolding cap
+    put-is =
+        let a = old-le in
+        let b = new-word in
+        let d = new-lt in
+        (omega arith, omega arith, omega arith)
 
 pub added-is : (g : Group) (slot amount : ℕ) → valid 3 (g .merge) ≡ true → added g slot amount ≡ settle g (add (block 3 (number (g .counts)) (g .merge)) (slot % 8) amount)
 unfolding added decode

@@ -5,14 +5,18 @@ use block::Summed;
 ghost use mathlib.Core.Path.{_≡_};
 ghost use mathlib.Core.Bool.{true, _&&_};
 ghost use Prim.Native.Nat.{ℕ, _+_, _-_, _*_, _/_, _%_, _^_, _<_, _≤_};
-ghost use Rattle.layout.specs.Layout.{valid};
+ghost use Rattle.layout.specs.Layout.{layout, marks, valid};
+ghost use Rattle.layout.specs.Layout as layout_spec;
+ghost use Rattle.layout.specs.Code.{uncode};
 ghost use Rattle.block.specs.Block.{cap, block, counterAt};
+ghost use Rattle.block.specs.Block as block_spec;
+ghost use Rattle.block.specs.Change as change_spec;
 ghost use Rattle.block.specs.Sum.{fits};
 ghost use Rattle.block.specs.Sum as sum_spec;
 ghost use Rattle.group.specs.Group.{number, bytes, read, stored, added, united, widestOf, changed};
 ghost use Rattle.group.specs.Group as spec;
 ghost use Rattle.group.specs.Status as status_spec;
-ghost use Rattle.group.specs.Pack.{groupCode, packed, unpacked};
+ghost use Rattle.group.specs.Pack.{mergeCode, codeMerge, groupCode, packed, unpacked};
 
 // Document 01's numbers of rejected calls.
 pub const INVALID_MERGE: u8 = 5;
@@ -131,9 +135,9 @@ fn level_at(merge: u8, slot: usize) -> u32
     ensures { λ r. ⌜ ((w : ℕ) → counterAt (block 3 w merge) slot .level ≡ r) ⌝ }
     ensures { λ r. ⌜ r ≤ 3 ⌝ }
 {
-    let pair = (merge >> (slot & 6)) & 1;
-    let half = (merge >> ((slot & 4) + 1)) & 1;
-    let group = (merge >> 3) & 1;
+    let pair = (merge >> (slot / 2 * 2)) % 2;
+    let half = (merge >> (slot / 4 * 4 + 1)) % 2;
+    let group = (merge >> 3) % 2;
     (pair + half + group) as u32
 }
 
@@ -304,6 +308,17 @@ pub fn unite(target: Group, source: Group) -> Outcome
     unite_widening(target, source)
 }
 
+// The largest level of a valid group's counters: one if a pair is merged, one if a half is, one if the group is.
+fn widest_level(merge: u8) -> u32
+    requires { ⌜ valid 3 merge ≡ true ⌝ }
+    ensures { λ r. ⌜ r ≡ layout_spec.widest (layout 3 merge) ⌝ }
+{
+    let any_pair = (merge | (merge >> 2) | (merge >> 4) | (merge >> 6)) % 2;
+    let any_half = ((merge >> 1) | (merge >> 5)) % 2;
+    let group = (merge >> 3) % 2;
+    (any_pair + any_half + group) as u32
+}
+
 // The largest level of a group's counters.
 pub fn widest(merge: u8) -> Answer
     ensures { λ r. ⌜ r ≡ widestOf merge ⌝ }
@@ -311,7 +326,19 @@ pub fn widest(merge: u8) -> Answer
     if !is_valid(merge) {
         return rejected(INVALID_MERGE);
     }
-    accepted(layout::widest(3, merge) as u64)
+    accepted(widest_level(merge) as u64)
+}
+
+// The layout code of a valid merge byte. A half's code is 2 for its first pair, 1 for its second and 1 for itself, a group's 5 for
+// each of its left half's, one for each of its right half's and 1 for itself.
+fn merge_code(merge: u8) -> u32
+    requires { ⌜ valid 3 merge ≡ true ⌝ }
+    ensures { λ r. ⌜ r ≡ mergeCode merge ⌝ }
+    ensures { λ r. ⌜ r ≤ 25 ⌝ }
+{
+    let left = (merge % 2) * 2 + ((merge >> 1) % 2) + ((merge >> 2) % 2);
+    let right = ((merge >> 4) % 2) * 2 + ((merge >> 5) % 2) + ((merge >> 6) % 2);
+    (left * 5 + right + ((merge >> 3) % 2)) as u32
 }
 
 // The layout code of a group.
@@ -321,7 +348,7 @@ pub fn code(merge: u8) -> Answer
     if !is_valid(merge) {
         return rejected(INVALID_MERGE);
     }
-    accepted(layout::code(3, merge) as u64)
+    accepted(merge_code(merge) as u64)
 }
 
 fn four_valid(a: u8, b: u8, c: u8, d: u8) -> bool
@@ -344,8 +371,30 @@ pub fn pack(a: u8, b: u8, c: u8, d: u8) -> Answer
     if !four_valid(a, b, c, d) {
         return rejected(INVALID_MERGE);
     }
-    let high = layout::code(3, a) * 17576 + layout::code(3, b) * 676;
-    accepted((high + layout::code(3, c) * 26 + layout::code(3, d)) as u64)
+    let high = merge_code(a) * 17576 + merge_code(b) * 676;
+    accepted((high + merge_code(c) * 26 + merge_code(d)) as u64)
+}
+
+// The merge bits of a half of a group by its layout code.
+fn half_merge(code: u32) -> u8
+    requires { ⌜ code < 5 ⌝ }
+    ensures { λ r. ⌜ r ≡ marks (uncode 2 code) ⌝ }
+    ensures { λ r. ⌜ r < 8 ⌝ }
+{
+    let both = code / 4;
+    (code / 2 % 2 + both + both * 2 + (code % 2 + both) * 4) as u8
+}
+
+// The merge byte of a layout code.
+fn code_merge(code: u32) -> u8
+    requires { ⌜ code < 26 ⌝ }
+    ensures { λ r. ⌜ r ≡ codeMerge code ⌝ }
+{
+    if code == 25 {
+        return 127;
+    }
+    let left = half_merge(code / 5);
+    half_merge(code % 5) * 16 + left
 }
 
 // The merge bytes of the four groups that a layout code stands for.
@@ -358,14 +407,26 @@ pub fn unpack(code: u32) -> Unpacked
             merges: [0; 4],
         };
     }
-    let a = layout::unpack(3, code / 17576);
-    let b = layout::unpack(3, code / 676 % 26);
-    let c = layout::unpack(3, code / 26 % 26);
-    let d = layout::unpack(3, code % 26);
+    let a = code_merge(code / 17576);
+    let b = code_merge(code / 676 % 26);
+    let c = code_merge(code / 26 % 26);
+    let d = code_merge(code % 26);
     Unpacked {
         answer: accepted(0),
         merges: [a, b, c, d],
     }
+}
+
+// The count bytes, taken as one number, with another value in the counter that a slot is in.
+fn with_value(word: u64, merge: u8, slot: usize, value: u64) -> u64
+    requires { ⌜ valid 3 merge ≡ true ⌝ ∗ ⌜ slot < 8 ⌝ }
+    ensures { λ r. ⌜ r ≡ block_spec.word (change_spec.change (block 3 word merge) slot value) ⌝ }
+{
+    let level = level_at(merge, slot);
+    let at = place(level, slot);
+    let old = value_at(word, level, at);
+    let kept = value & most(level);
+    word - (old << at) + (kept << at)
 }
 
 // Another value in the counter that a slot is in: of the value the bits that the counter holds. The layout stays.
@@ -376,7 +437,7 @@ pub fn change(g: Group, slot: usize, value: u64) -> Outcome
     if !is_valid(g.merge) {
         return unchanged(INVALID_MERGE, g);
     }
-    let word = block::change(3, number_of(counts), g.merge, slot % 8, value);
+    let word = with_value(number_of(counts), g.merge, slot % 8, value);
     Outcome {
         status: 0,
         group: Group {
