@@ -1,15 +1,13 @@
--- Another value in one counter: the layout stays, and the code's halves make the block.
-use mathlib.Core.Path.{_≡_, refl, ap, _∙_}
+-- Another value in one counter: the layout stays.
+use mathlib.Core.Path.{_≡_, refl, ap}
 use mathlib.Core.Bool.{Bool, true, false, cond}
-use Prim.Native.Nat.{ℕ, suc, _+_, _-_, _*_, _^_, _<_}
+use Prim.Native.Nat.{ℕ, suc, _-_, _^_}
 use native.Mathlib.Nat.{mod-lt}
 use lib.Dec.{ltb}
 use Rattle.layout.specs.Layout.{halves}
-use Rattle.block.specs.declared.Summed.{Summed}
-use Rattle.block.specs.Block.{Block, counter, split, cap, Fits, shape, word, block}
+use Rattle.block.specs.Block.{Block, counter, split, Fits, shape}
 use Rattle.block.specs.Change.{change}
-use Rattle.block.proofs.Laws.{cap-pos, word-lt, word-block}
-use Rattle.block.proofs.Halves.{Apart, apart-is, words-in, left-fits, right-fits}
+use Rattle.block.proofs.Laws.{cap-pos}
 
 pub change-halves : {n : ℕ} (l r : Block n) (k x : ℕ) (P : Block (suc n) → Type 0)
     → (ltb k (2 ^ n) ≡ true → P (split (change l k x) r))
@@ -35,20 +33,3 @@ change-shape (split {n} l r) k x =
     change-halves l r k x (λ c. shape c ≡ halves (shape l) (shape r))
     (λ e. ap (λ L. halves L (shape r)) (change-shape l k x))
     (λ e. ap (halves (shape l)) (change-shape r (k - 2 ^ n) x))
-
-module _ {n w m : ℕ} {l r : Summed} (p : Apart n w m l r) (h : w < cap n) (k x : ℕ) where
-  pub left-lt : word (change (block (n - 1) (l .word) (l .merge)) k x) < cap (n - 1)
-  left-lt = word-lt _ (change-fits _ k x (left-fits p h))
-
-  pub right-lt : word (change (block (n - 1) (r .word) (r .merge)) k x) < cap (n - 1)
-  right-lt = word-lt _ (change-fits _ k x (right-fits p h))
-
-  pub left-change : ltb k (2 ^ (n - 1)) ≡ true
-      → word (change (block n w m) k x) ≡ r .word * cap (n - 1) + word (change (block (n - 1) (l .word) (l .merge)) k x)
-  unfolding change word
-  left-change e = apart-is p (λ n b. word (change b k x)) ∙ rw (e, word-block (n - 1) (r .word) (r .merge) (words-in p h .1))
-
-  pub right-change : ltb k (2 ^ (n - 1)) ≡ false
-      → word (change (block n w m) k x) ≡ word (change (block (n - 1) (r .word) (r .merge)) (k - 2 ^ (n - 1)) x) * cap (n - 1) + l .word
-  unfolding change word
-  right-change e = apart-is p (λ n b. word (change b k x)) ∙ rw (e, word-block (n - 1) (l .word) (l .merge) (words-in p h .0))

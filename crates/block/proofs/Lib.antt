@@ -5,3 +5,5 @@ pub mod Steps
 pub mod Least
 pub mod Changing
 pub mod Slots
+pub mod Places
+pub mod Carries

@@ -82,7 +82,7 @@ change-at (split {n} l r) k x = elim (decLt k (2 ^ n)) [
 ]
 
 -- a multiple of a counter's size is one in the right half too
-shifted : (n level k : ℕ) → level ≤ n → 2 ^ n ≤ k → k % 2 ^ level ≡ (k - 2 ^ n) % 2 ^ level
+pub shifted : (n level k : ℕ) → level ≤ n → 2 ^ n ≤ k → k % 2 ^ level ≡ (k - 2 ^ n) % 2 ^ level
 shifted n level k h m =
     let e : 2 ^ n ≡ 2 ^ (n - level) * 2 ^ level = ap (λ (i : ℕ). 2 ^ i) (omega arith) ∙ pow-add 2 (n - level) level in
     ap (λ (i : ℕ). i % 2 ^ level) (sym (add-sub-of-le m))

@@ -9,9 +9,8 @@ use layout::slots;
 ghost use mathlib.Core.Path.{_≡_};
 ghost use Prim.Native.Nat.{_+_, _-_, _*_, _/_, _%_, _^_, _<_, _≤_};
 ghost use lib.Dec.{ltb};
-ghost use Rattle.block.specs.Block.{cap, block, counterAt};
+ghost use Rattle.block.specs.Block.{cap, block};
 ghost use Rattle.block.specs.Block as spec;
-ghost use Rattle.block.specs.Change as change_spec;
 ghost use Rattle.block.specs.Sum as sum_spec;
 ghost use Rattle.block.specs.Sum.{summed, sumOf, sumTotal, leftHalf, rightHalf, Sane, Apt};
 
@@ -89,24 +88,6 @@ pub fn total(level: u32, word: u64, merge: u8) -> u64
     let left = left_half(half, word, merge);
     let right = right_half(half, word, merge);
     total(half, left.word, left.merge) + total(half, right.word, right.merge)
-}
-
-// The counter that a slot is in.
-pub fn counter_at(level: u32, word: u64, merge: u8, slot: usize) -> Counter
-    requires { ⌜ level ≤ 3 ⌝ }
-    ensures { λ r. ⌜ r ≡ counterAt (block level word merge) slot ⌝ }
-{
-    if is_merged(level, merge) {
-        return Counter { value: word, level };
-    }
-    let half = level - 1;
-    let size = slots(half) as usize;
-    if slot < size {
-        let left = left_half(half, word, merge);
-        return counter_at(half, left.word, left.merge, slot);
-    }
-    let right = right_half(half, word, merge);
-    counter_at(half, right.word, right.merge, slot - size)
 }
 
 // Whether a counter of a level holds a value.
@@ -231,42 +212,5 @@ pub fn unite(level: u32, word: u64, merge: u8, other_word: u64, other_merge: u8)
             other_right.word,
             other_right.merge,
         ),
-    )
-}
-
-// Of a value the bits that a counter of a level holds.
-pub fn kept(level: u32, value: u64) -> u64
-    requires { ⌜ level ≤ 3 ⌝ }
-    ensures { λ r. ⌜ r ≡ value % cap level ⌝ }
-{
-    if level == 3 {
-        return value;
-    }
-    low_word(level, value)
-}
-
-// The count bytes of a block with another value in the counter of a slot.
-pub fn change(level: u32, word: u64, merge: u8, slot: usize, value: u64) -> u64
-    requires { ⌜ level ≤ 3 ⌝ ∗ ⌜ word < cap level ⌝ }
-    ensures { λ r. ⌜ r ≡ spec.word (change_spec.change (block level word merge) slot value) ⌝ }
-{
-    if is_merged(level, merge) {
-        return kept(level, value);
-    }
-    let half = level - 1;
-    let left = left_half(half, word, merge);
-    let right = right_half(half, word, merge);
-    let size = slots(half) as usize;
-    if slot < size {
-        return beside_word(
-            half,
-            change(half, left.word, left.merge, slot, value),
-            right.word,
-        );
-    }
-    beside_word(
-        half,
-        left.word,
-        change(half, right.word, right.merge, slot - size, value),
     )
 }

@@ -1,13 +1,12 @@
 -- Bytes and the number that they make.
-use mathlib.Core.Path.{_≡_, refl, ap, _∙_}
-use Prim.Native.Nat.{ℕ, zero, suc, _+_, _-_, _*_, _/_, _%_, _^_, _≤_, _<_}
-use mathlib.Core.List.{List, [], _∷_, _++_}
+use mathlib.Core.Path.{_≡_, refl, sym, ap, _∙_}
+use Prim.Native.Nat.{ℕ, zero, suc, _+_, _*_, _/_, _%_, _^_, _<_}
+use mathlib.Core.List.{List, [], _∷_}
 use native.Mathlib.Nat.{div-lt-iff-lt-mul, mul-comm}
-use native.Mathlib.Numerals.{add-one}
 use native.Mathlib.Omega.{arith}
-use lib.ListN.{length, getD, take, drop, set, length-drop}
-use lib.Pow.{pow-add, pow-mono}
-use lib.Seq.{drop-cons, getD-drop, take-suc-set, append-snoc}
+use lib.ListN.{length, getD, drop, drop-of-length-le}
+use lib.Pow.{pow-add}
+use lib.Seq.{drop-cons}
 use Rattle.group.specs.Group.{number, bytes}
 
 abbrev pub Bytes : List ℕ → Type 0
@@ -42,21 +41,15 @@ unfolding bytes
 bytes-length zero v = refl
 bytes-length (suc n) v = ap suc (bytes-length n (v / 256))
 
--- one byte in front
-pub number-more : (xs : List ℕ) (i : ℕ) → i < length xs → number (drop i xs) ≡ getD xs i 0 + 256 * number (drop (i + 1) xs)
-unfolding number
-number-more xs i h = rw (drop-cons xs i 0, add-one)
+-- n elements of a list from the i-th
+unfoldable pub elements : ℕ → ℕ → List ℕ → List ℕ
+elements zero i xs = []
+elements (suc n) i xs = getD xs i 0 ∷ elements n (suc i) xs
 
--- fewer than eight bytes make fewer than 64 bits
-pub tail-lt : (xs : List ℕ) (i : ℕ) → Bytes xs → length xs ≡ 8 → 0 < i → number (drop i xs) < 2 ^ 56
-tail-lt xs i h l p =
-    let few : length (drop i xs) ≤ 7 = rw (length-drop i xs) (omega arith) in
-    omega (arith, number-lt (drop i xs) (λ j. rw (getD-drop i xs j 0) (h (i + j))), pow-mono {i = 8 * length (drop i xs)} {j = 56} (omega arith))
+elements-are : (n i : ℕ) (xs : List ℕ) → i + n ≡ length xs → elements n i xs ≡ drop i xs
+unfolding elements
+elements-are zero i xs h = sym (drop-of-length-le xs {i = i} (omega arith))
+elements-are (suc n) i xs h = rw (drop-cons xs i 0 (omega arith)) (ap (λ (l : List ℕ). getD xs i 0 ∷ l) (elements-are n (suc i) xs (omega arith)))
 
--- one byte more written
-pub bytes-turn : (out : List ℕ) (v i : ℕ) → i < 8 → length out ≡ 8
-    → take (i + 1) (set out i (v % 256)) ++ bytes (8 - (i + 1)) (v / 256) ≡ take i out ++ bytes (8 - i) v
-unfolding bytes
-bytes-turn out v i h l =
-    let e : 8 - i ≡ suc (8 - suc i) = omega arith in
-    rw (add-one i, take-suc-set out i (v % 256) (omega arith), e) (append-snoc (take i out) (v % 256) (bytes (8 - suc i) (v / 256)))
+pub number-eight : (xs : List ℕ) → length xs ≡ 8 → number (elements 8 0 xs) ≡ number xs
+number-eight xs h = ap number (elements-are 8 0 xs (sym h))

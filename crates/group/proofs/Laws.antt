@@ -7,7 +7,7 @@ use native.Mathlib.Omega.{arith}
 use lib.ListN.{length}
 use Rattle.layout.specs.Layout.{valid}
 use Rattle.layout.proofs.Laws.{valid-marks}
-use Rattle.block.specs.Block.{Block, cap, Fits, shape, word, total}
+use Rattle.block.specs.Block.{Block, cap, Fits, shape, word, block, total}
 use Rattle.block.specs.Sum.{Sum, fits, over, add, unite, summed, sumTotal, Sound}
 use Rattle.block.proofs.Laws.{word-lt, word-block, marks-block, block-is, block-fits, total-lt}
 use Rattle.block.proofs.Adding.{add-total, add-sound, unite-total, unite-sound}
@@ -83,6 +83,13 @@ module _ (g source : Group) where
   pub united-source-invalid : valid 3 (g .merge) ≡ true → valid 3 (source .merge) ≡ false → united g source ≡ unchanged invalidMerge g
   unfolding united
   united-source-invalid v w = rw (v, w)
+
+  -- a union that leaves the target's layout
+  pub united-fits : (w : ℕ) → w < cap 3 → valid 3 (g .merge) ≡ true → valid 3 (source .merge) ≡ true
+      → unite (decode g) (decode source) ≡ fits (block 3 w (g .merge))
+      → stored (record { over = false; word = w; merge = g .merge }) ≡ united g source
+  unfolding united settle stored encode
+  united-fits w h v v′ e = rw (v, v′, e, word-block 3 w (g .merge) h, marks-block 3 w (g .merge) v)
 
   module _ (h : number (g .counts) < cap 3) (k : number (source .counts) < cap 3) (v : valid 3 (g .merge) ≡ true) (w : valid 3 (source .merge) ≡ true) where
     unite-is-sound : Sound (unite (decode g) (decode source))

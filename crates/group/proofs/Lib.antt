@@ -1,6 +1,8 @@
 pub mod Hashing
 pub mod Bytes
 pub mod Laws
+pub mod Tables
+pub mod Places
 pub mod Outcomes
 pub mod Packing
 pub mod Cases

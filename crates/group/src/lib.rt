@@ -3,12 +3,20 @@ pub mod hash;
 
 use block::Summed;
 ghost use mathlib.Core.Path.{_≡_};
-ghost use mathlib.Core.Bool.{_&&_};
-ghost use Rattle.layout.specs.Layout.{valid};
+ghost use mathlib.Core.Bool.{true, _&&_};
+ghost use Prim.Native.Nat.{ℕ, _+_, _-_, _*_, _/_, _%_, _^_, _<_, _≤_};
+ghost use Rattle.layout.specs.Layout.{layout, marks, valid};
+ghost use Rattle.layout.specs.Layout as layout_spec;
+ghost use Rattle.layout.specs.Code.{uncode};
+ghost use Rattle.block.specs.Block.{cap, block, counterAt};
+ghost use Rattle.block.specs.Block as block_spec;
+ghost use Rattle.block.specs.Change as change_spec;
+ghost use Rattle.block.specs.Sum.{fits};
+ghost use Rattle.block.specs.Sum as sum_spec;
 ghost use Rattle.group.specs.Group.{number, bytes, read, stored, added, united, widestOf, changed};
 ghost use Rattle.group.specs.Group as spec;
 ghost use Rattle.group.specs.Status as status_spec;
-ghost use Rattle.group.specs.Pack.{groupCode, packed, unpacked};
+ghost use Rattle.group.specs.Pack.{mergeCode, codeMerge, groupCode, packed, unpacked};
 
 // Document 01's numbers of rejected calls.
 pub const INVALID_MERGE: u8 = 5;
@@ -69,37 +77,93 @@ fn rejected(status: u8) -> Answer
     }
 }
 
+// Eight bytes as one number, the first least significant.
+fn eight(a: u8, b: u8, c: u8, d: u8, e: u8, f: u8, g: u8, h: u8) -> u64
+    ensures { λ r. ⌜ r ≡ a + 256 * (b + 256 * (c + 256 * (d + 256 * (e + 256 * (f + 256 * (g + 256 * h)))))) ⌝ }
+{
+    let low = a as u64 + b as u64 * 256 + c as u64 * 65536 + d as u64 * 16777216;
+    let middle = e as u64 * 4294967296 + f as u64 * 1099511627776;
+    low + middle + g as u64 * 281474976710656 + h as u64 * 72057594037927936
+}
+
 // The count bytes as one number, the lowest slot least significant.
 pub fn number_of(counts: [u8; 8]) -> u64
     ensures { λ r. ⌜ r ≡ number counts ⌝ }
 {
-    let mut n: u64 = 0;
-    let mut i = 8;
-    while i > 0 {
-        i -= 1;
-        n = counts[i] as u64 + 256 * n;
-    }
-    n
+    eight(
+        counts[0],
+        counts[1],
+        counts[2],
+        counts[3],
+        counts[4],
+        counts[5],
+        counts[6],
+        counts[7],
+    )
 }
 
 // The eight bytes of a number, the lowest first.
 pub fn bytes_of(number: u64) -> [u8; 8]
     ensures { λ r. ⌜ r ≡ bytes 8 number ⌝ }
 {
-    let mut out = [0u8; 8];
-    let mut rest = number;
-    for i in 0..8 {
-        out[i] = (rest % 256) as u8;
-        rest = rest / 256;
-    }
-    out
+    [
+        (number % 256) as u8,
+        (number / 256 % 256) as u8,
+        (number / 65536 % 256) as u8,
+        (number / 16777216 % 256) as u8,
+        (number / 4294967296 % 256) as u8,
+        (number / 1099511627776 % 256) as u8,
+        (number / 281474976710656 % 256) as u8,
+        (number / 72057594037927936 % 256) as u8,
+    ]
 }
 
-// Whether a merge byte is one of the 26 valid ones.
+// Whether a merge byte is one of the 26 valid ones: bit 7 is clear, a merged half has both its pairs merged, and a merged group all.
 pub fn is_valid(merge: u8) -> bool
     ensures { λ r. ⌜ r ≡ valid 3 merge ⌝ }
 {
-    layout::is_valid(3, merge)
+    let halves = ((merge >> 1) & 17) * 5;
+    let group = ((merge >> 3) & 1) * 127;
+    let needed = halves | group;
+    merge & (needed | 128) == needed
+}
+
+// The level of the counter that a slot is in: in a valid layout one for each merged block around the slot, its pair, its half and
+// the group.
+fn level_at(merge: u8, slot: usize) -> u32
+    requires { ⌜ valid 3 merge ≡ true ⌝ ∗ ⌜ slot < 8 ⌝ }
+    ensures { λ r. ⌜ ((w : ℕ) → counterAt (block 3 w merge) slot .level ≡ r) ⌝ }
+    ensures { λ r. ⌜ r ≤ 3 ⌝ }
+{
+    let pair = (merge >> (slot / 2 * 2)) % 2;
+    let half = (merge >> (slot / 4 * 4 + 1)) % 2;
+    let group = (merge >> 3) % 2;
+    (pair + half + group) as u32
+}
+
+// The largest value that a counter of a level holds.
+fn most(level: u32) -> u64
+    requires { ⌜ level ≤ 3 ⌝ }
+    ensures { λ r. ⌜ r ≡ cap level - 1 ⌝ }
+{
+    18446744073709551615 >> (64 - (8u32 << level))
+}
+
+// The lowest bit of the counter of a level that a slot is in, in the count bytes taken as one number.
+fn place(level: u32, slot: usize) -> usize
+    requires { ⌜ level ≤ 3 ⌝ ∗ ⌜ slot < 8 ⌝ }
+    ensures { λ r. ⌜ r ≡ 8 * (slot / 2 ^ level * 2 ^ level) ⌝ }
+    ensures { λ r. ⌜ r < 64 ⌝ }
+{
+    8 * ((slot >> level) << level)
+}
+
+// The counter of a level at a place of the count bytes taken as one number.
+fn value_at(word: u64, level: u32, place: usize) -> u64
+    requires { ⌜ level ≤ 3 ⌝ ∗ ⌜ place < 64 ⌝ }
+    ensures { λ r. ⌜ r ≡ word / 2 ^ place % cap level ⌝ }
+{
+    (word >> place) & most(level)
 }
 
 // The counter that a slot is in.
@@ -114,11 +178,12 @@ pub fn counter(g: Group, slot: usize) -> Reading
             level: 0,
         };
     }
-    let c = block::counter_at(3, number_of(counts), g.merge, slot % 8);
+    let level = level_at(g.merge, slot % 8);
+    let at = place(level, slot % 8);
     Reading {
         status: 0,
-        value: c.value,
-        level: c.level,
+        value: value_at(number_of(counts), level, at),
+        level,
     }
 }
 
@@ -142,7 +207,20 @@ fn unchanged(status: u8, g: Group) -> Outcome
     Outcome { status, group: g }
 }
 
-// An amount added to the counter that a slot is in.
+// An amount added to the counter that a slot is in, where the counter may have to widen.
+fn add_widening(g: Group, slot: usize, amount: u32) -> Outcome
+    requires { ⌜ valid 3 (g .merge) ≡ true ⌝ }
+    ensures { λ r. ⌜ r ≡ added g slot amount ⌝ }
+{
+    let counts = g.counts;
+    let word = number_of(counts);
+    if 18446744073709551615 - block::total(3, word, g.merge) < amount as u64 {
+        return unchanged(COUNTER_FULL, g);
+    }
+    settled(block::add(3, word, g.merge, slot % 8, amount as u64))
+}
+
+// An amount added to the counter that a slot is in. Where the counter holds the sum, the layout stays and no other byte changes.
 pub fn add(g: Group, slot: usize, amount: u32) -> Outcome
     ensures { λ r. ⌜ r ≡ added g slot amount ⌝ }
 {
@@ -151,13 +229,62 @@ pub fn add(g: Group, slot: usize, amount: u32) -> Outcome
         return unchanged(INVALID_MERGE, g);
     }
     let word = number_of(counts);
-    if 18446744073709551615 - block::total(3, word, g.merge) < amount as u64 {
-        return unchanged(COUNTER_FULL, g);
+    let k = slot % 8;
+    let level = level_at(g.merge, k);
+    let at = place(level, k);
+    let room = most(level) - value_at(word, level, at);
+    if amount as u64 <= room {
+        return settled(Summed {
+            over: false,
+            word: word + ((amount as u64) << at),
+            merge: g.merge,
+        });
     }
-    settled(block::add(3, word, g.merge, slot % 8, amount as u64))
+    add_widening(g, slot, amount)
 }
 
-// A source group united with a target.
+// Whether in the sum of the count bytes of two groups, taken as numbers, nothing is carried from one counter to the next. In a
+// valid layout merge bit k is clear where slot k + 1 starts a counter.
+fn no_carry(merge: u8, word: u64, other: u64) -> bool
+    requires { ⌜ valid 3 merge ≡ true ⌝ ∗ ⌜ word + other < 2 ^ 64 ⌝ }
+    ensures { λ r. ⌜ (r ≡ true → sum_spec.unite (block 3 word merge) (block 3 other merge) ≡ fits (block 3 (word + other) merge)) ⌝ }
+{
+    let starts = (((127 - merge) as u64 * 4432676798593) & 282578800148737) * 256;
+    (word ^ other ^ (word + other)) & starts == 0
+}
+
+// Whether the count bytes of two groups, taken as numbers, may be added for their union: the layouts are the same and each counter
+// holds its sum.
+fn may_add(word: u64, merge: u8, other_word: u64, other_merge: u8) -> bool
+    requires { ⌜ valid 3 merge ≡ true ⌝ }
+    ensures { λ r. ⌜ (r ≡ true → (word + «other_word» < 2 ^ 64) × (sum_spec.unite (block 3 word merge) (block 3 «other_word» «other_merge») ≡ fits (block 3 (word + «other_word») merge))) ⌝ }
+{
+    if merge != other_merge {
+        return false;
+    }
+    if 18446744073709551615 - word < other_word {
+        return false;
+    }
+    no_carry(merge, word, other_word)
+}
+
+// A source group united with a target, where counters may have to widen.
+fn unite_widening(target: Group, source: Group) -> Outcome
+    requires { ⌜ valid 3 (target .merge) ≡ true ⌝ ∗ ⌜ valid 3 (source .merge) ≡ true ⌝ }
+    ensures { λ r. ⌜ r ≡ united target source ⌝ }
+{
+    let target_counts = target.counts;
+    let source_counts = source.counts;
+    let word = number_of(target_counts);
+    let source_word = number_of(source_counts);
+    let room = 18446744073709551615 - block::total(3, word, target.merge);
+    if room < block::total(3, source_word, source.merge) {
+        return unchanged(COUNTER_FULL, target);
+    }
+    settled(block::unite(3, word, target.merge, source_word, source.merge))
+}
+
+// A source group united with a target. Where both have the same layout and each counter holds its sum, the layout stays.
 pub fn unite(target: Group, source: Group) -> Outcome
     ensures { λ r. ⌜ r ≡ united target source ⌝ }
 {
@@ -171,11 +298,25 @@ pub fn unite(target: Group, source: Group) -> Outcome
     }
     let word = number_of(target_counts);
     let source_word = number_of(source_counts);
-    let room = 18446744073709551615 - block::total(3, word, target.merge);
-    if room < block::total(3, source_word, source.merge) {
-        return unchanged(COUNTER_FULL, target);
+    if may_add(word, target.merge, source_word, source.merge) {
+        return settled(Summed {
+            over: false,
+            word: word + source_word,
+            merge: target.merge,
+        });
     }
-    settled(block::unite(3, word, target.merge, source_word, source.merge))
+    unite_widening(target, source)
+}
+
+// The largest level of a valid group's counters: one if a pair is merged, one if a half is, one if the group is.
+fn widest_level(merge: u8) -> u32
+    requires { ⌜ valid 3 merge ≡ true ⌝ }
+    ensures { λ r. ⌜ r ≡ layout_spec.widest (layout 3 merge) ⌝ }
+{
+    let any_pair = (merge | (merge >> 2) | (merge >> 4) | (merge >> 6)) % 2;
+    let any_half = ((merge >> 1) | (merge >> 5)) % 2;
+    let group = (merge >> 3) % 2;
+    (any_pair + any_half + group) as u32
 }
 
 // The largest level of a group's counters.
@@ -185,7 +326,19 @@ pub fn widest(merge: u8) -> Answer
     if !is_valid(merge) {
         return rejected(INVALID_MERGE);
     }
-    accepted(layout::widest(3, merge) as u64)
+    accepted(widest_level(merge) as u64)
+}
+
+// The layout code of a valid merge byte. A half's code is 2 for its first pair, 1 for its second and 1 for itself, a group's 5 for
+// each of its left half's, one for each of its right half's and 1 for itself.
+fn merge_code(merge: u8) -> u32
+    requires { ⌜ valid 3 merge ≡ true ⌝ }
+    ensures { λ r. ⌜ r ≡ mergeCode merge ⌝ }
+    ensures { λ r. ⌜ r ≤ 25 ⌝ }
+{
+    let left = (merge % 2) * 2 + ((merge >> 1) % 2) + ((merge >> 2) % 2);
+    let right = ((merge >> 4) % 2) * 2 + ((merge >> 5) % 2) + ((merge >> 6) % 2);
+    (left * 5 + right + ((merge >> 3) % 2)) as u32
 }
 
 // The layout code of a group.
@@ -195,7 +348,7 @@ pub fn code(merge: u8) -> Answer
     if !is_valid(merge) {
         return rejected(INVALID_MERGE);
     }
-    accepted(layout::code(3, merge) as u64)
+    accepted(merge_code(merge) as u64)
 }
 
 fn four_valid(a: u8, b: u8, c: u8, d: u8) -> bool
@@ -218,8 +371,30 @@ pub fn pack(a: u8, b: u8, c: u8, d: u8) -> Answer
     if !four_valid(a, b, c, d) {
         return rejected(INVALID_MERGE);
     }
-    let high = layout::code(3, a) * 17576 + layout::code(3, b) * 676;
-    accepted((high + layout::code(3, c) * 26 + layout::code(3, d)) as u64)
+    let high = merge_code(a) * 17576 + merge_code(b) * 676;
+    accepted((high + merge_code(c) * 26 + merge_code(d)) as u64)
+}
+
+// The merge bits of a half of a group by its layout code.
+fn half_merge(code: u32) -> u8
+    requires { ⌜ code < 5 ⌝ }
+    ensures { λ r. ⌜ r ≡ marks (uncode 2 code) ⌝ }
+    ensures { λ r. ⌜ r < 8 ⌝ }
+{
+    let both = code / 4;
+    (code / 2 % 2 + both + both * 2 + (code % 2 + both) * 4) as u8
+}
+
+// The merge byte of a layout code.
+fn code_merge(code: u32) -> u8
+    requires { ⌜ code < 26 ⌝ }
+    ensures { λ r. ⌜ r ≡ codeMerge code ⌝ }
+{
+    if code == 25 {
+        return 127;
+    }
+    let left = half_merge(code / 5);
+    half_merge(code % 5) * 16 + left
 }
 
 // The merge bytes of the four groups that a layout code stands for.
@@ -232,14 +407,26 @@ pub fn unpack(code: u32) -> Unpacked
             merges: [0; 4],
         };
     }
-    let a = layout::unpack(3, code / 17576);
-    let b = layout::unpack(3, code / 676 % 26);
-    let c = layout::unpack(3, code / 26 % 26);
-    let d = layout::unpack(3, code % 26);
+    let a = code_merge(code / 17576);
+    let b = code_merge(code / 676 % 26);
+    let c = code_merge(code / 26 % 26);
+    let d = code_merge(code % 26);
     Unpacked {
         answer: accepted(0),
         merges: [a, b, c, d],
     }
+}
+
+// The count bytes, taken as one number, with another value in the counter that a slot is in.
+fn with_value(word: u64, merge: u8, slot: usize, value: u64) -> u64
+    requires { ⌜ valid 3 merge ≡ true ⌝ ∗ ⌜ slot < 8 ⌝ }
+    ensures { λ r. ⌜ r ≡ block_spec.word (change_spec.change (block 3 word merge) slot value) ⌝ }
+{
+    let level = level_at(merge, slot);
+    let at = place(level, slot);
+    let old = value_at(word, level, at);
+    let kept = value & most(level);
+    word - (old << at) + (kept << at)
 }
 
 // Another value in the counter that a slot is in: of the value the bits that the counter holds. The layout stays.
@@ -250,7 +437,7 @@ pub fn change(g: Group, slot: usize, value: u64) -> Outcome
     if !is_valid(g.merge) {
         return unchanged(INVALID_MERGE, g);
     }
-    let word = block::change(3, number_of(counts), g.merge, slot % 8, value);
+    let word = with_value(number_of(counts), g.merge, slot % 8, value);
     Outcome {
         status: 0,
         group: Group {

@@ -5,11 +5,13 @@ use Prim.Native.Nat.{ℕ}
 use native.Mathlib.Omega.{arith}
 use borrow.Author.Tests.{not-true, not-false}
 use Rattle.layout.specs.Layout.{valid}
-use Rattle.block.specs.Block.{cap}
 use Rattle.group.specs.Group.{bytes, decode, changed}
 use borrow.Author.Needs.{needs}
 use Rattle.group.proofs.change.Statement.{statement}
 use Rattle.group.proofs.change.Tie as tie
+
+is-sane : (c : tie.Else1) → valid 3 (c .before .before .before .args .g .merge) ≡ true
+is-sane c = sym (c .before .is-valid .ensures) ∙ not-false _ (c .if1 .left)
 
 is-valid-requires : tie.Need-is-valid-requires
 is-valid-requires c κs = search needs
@@ -26,9 +28,8 @@ returns c = let g = c .before .before .before .before .args .g in
 number-of-requires : tie.Need-number-of-requires
 number-of-requires c κs = search needs
 
-change-requires : tie.Need-change-requires
-unfolding cap
-change-requires c κs = (omega arith, omega arith)
+with-value-requires : tie.Need-with-value-requires
+with-value-requires c κs = (is-sane (c .before), omega arith)
 
 bytes-of-requires : tie.Need-bytes-of-requires
 bytes-of-requires c κs = search needs
@@ -36,9 +37,8 @@ bytes-of-requires c κs = search needs
 returns-2 : tie.Need-returns-2
 unfolding changed decode
 returns-2 c = let a = c .before .before .before .before .before .before .args in
-    let v : valid 3 (a .g .merge) ≡ true = sym (c .before .before .before .before .is-valid .ensures) ∙ not-false _ (c .before .before .before .if1 .left) in
-    rw (v, ← c .before .before .number-of .ensures)
-    (ap (λ (l : List ℕ). record { status = 0; group = record { counts = l; merge = a .g .merge } }) (c .bytes-of .ensures ∙ ap (bytes 8) (c .before .change .ensures)))
+    rw (is-sane (c .before .before .before), ← c .before .before .number-of .ensures)
+    (ap (λ (l : List ℕ). record { status = 0; group = record { counts = l; merge = a .g .merge } }) (c .bytes-of .ensures ∙ ap (bytes 8) (c .before .with-value .ensures)))
 
 pub change-spec : {M : Type 1} → statement M
 change-spec =
@@ -48,6 +48,6 @@ change-spec =
     unchanged-requires
     returns
     number-of-requires
-    change-requires
+    with-value-requires
     bytes-of-requires
     returns-2)

@@ -1,39 +1,21 @@
 use mathlib.Core.Path.{_≡_, sym, _∙_}
-use Prim.Native.Nat.{_<_}
 use mathlib.Core.Bool.{true}
 use native.Mathlib.Omega.{arith}
 use borrow.Author.Tests.{not-true, not-false}
+use Prim.Native.Nat.{_+_}
 use Rattle.layout.specs.Layout.{valid}
-use Rattle.block.specs.Block.{cap, total}
-use Rattle.group.specs.Group.{number, decode}
-use Rattle.group.proofs.Laws.{united-invalid, united-source-invalid, united-full, united-stored}
+use Rattle.block.specs.Block.{cap}
+use Rattle.group.specs.Group.{decode}
+use Rattle.group.proofs.Laws.{united-invalid, united-source-invalid, united-fits}
 use borrow.Author.Needs.{needs}
 use Rattle.group.proofs.unite.Statement.{statement}
 use Rattle.group.proofs.unite.Tie as tie
 
--- both groups are valid, their numbers those of their bytes, and the code's totals the groups'
 is-sane : (c : tie.Else1) → valid 3 (c .before .before .before .before .args .target .merge) ≡ true
 is-sane c = sym (c .before .is-valid .ensures) ∙ not-false _ (c .if1 .left)
 
 source-sane : (c : tie.Else2) → valid 3 (c .before .before .before .before .before .before .args .source .merge) ≡ true
 source-sane c = sym (c .before .is-valid2 .ensures) ∙ not-false _ (c .if2 .left)
-
-module _ (c : tie.After-total2) where
-  word-in : number (c .before .before .before .before .before .before .before .before .before .before .args .target .counts) < cap 3
-  unfolding cap
-  word-in = rw (← c .before .before .before .number-of .ensures) (omega arith)
-
-  source-in : number (c .before .before .before .before .before .before .before .before .before .before .args .source .counts) < cap 3
-  unfolding cap
-  source-in = rw (← c .before .before .number-of2 .ensures) (omega arith)
-
-  total-is : c .before .total .result ≡ total (decode (c .before .before .before .before .before .before .before .before .before .before .args .target))
-  unfolding decode
-  total-is = rw (← c .before .before .before .number-of .ensures) (c .before .total .ensures)
-
-  source-is : c .total2 .result ≡ total (decode (c .before .before .before .before .before .before .before .before .before .before .args .source))
-  unfolding decode
-  source-is = rw (← c .before .before .number-of2 .ensures) (c .total2 .ensures)
 
 is-valid-requires : tie.Need-is-valid-requires
 is-valid-requires c κs = search needs
@@ -63,44 +45,32 @@ number-of-requires c κs = search needs
 number-of-requires-2 : tie.Need-number-of-requires-2
 number-of-requires-2 c κs = search needs
 
-total-requires : tie.Need-total-requires
-unfolding cap
-total-requires c κs = (omega arith, omega arith)
+may-add-requires : tie.Need-may-add-requires
+may-add-requires c κs = is-sane (c .before .before .before .before)
 
-sub-room : tie.Need-sub-room
-sub-room c = search needs
-
-total-requires-2 : tie.Need-total-requires-2
-unfolding cap
-total-requires-2 c κs = (omega arith, omega arith)
-
-unchanged-requires-3 : tie.Need-unchanged-requires-3
-unchanged-requires-3 c κs = search needs
-
-returns-3 : tie.Need-returns-3
-returns-3 c = let d = c .before .before in
-    let e = d .before .before .before .before in
-    let a = e .before .before .before .before .before .before .args in
-    c .unchanged3 .ensures
-    ∙ sym (united-full (a .target) (a .source) (word-in d) (source-in d) (is-sane (e .before .before)) (source-sane e) (omega (arith, total-is d, source-is d)))
-
-unite-requires : tie.Need-unite-requires
-unfolding cap
-unite-requires c κs = let d = c .before in
-    let e = d .before .before .before .before in
-    (omega arith, ((omega arith, is-sane (e .before .before)), ((omega arith, source-sane e), omega (arith, d .before .total .ensures, d .total2 .ensures))))
+add-t10 : tie.Need-add-t10
+add-t10 c = omega (arith, c .before .may-add .ensures (c .if3 .taken) .0)
 
 settled-requires : tie.Need-settled-requires
 settled-requires c κs = search needs
 
-returns-4 : tie.Need-returns-4
-unfolding decode
-returns-4 c = let d = c .before .before .before in
-    let e = d .before .before .before .before in
-    let a = e .before .before .before .before .before .before .args in
+returns-3 : tie.Need-returns-3
+unfolding decode cap
+returns-3 c = let d = c .before in
+    let m = d .before in
+    let n = m .before .before in
+    let a = n .before .before .before .before .before .before .before .args in
+    let o = m .may-add .ensures (d .if3 .taken) in
     c .settled .ensures
-    ∙ rw (c .before .unite .ensures, d .before .before .before .number-of .ensures, d .before .before .number-of2 .ensures)
-    (sym (united-stored (a .target) (a .source) (word-in d) (source-in d) (is-sane (e .before .before)) (source-sane e) (omega (arith, total-is d, source-is d))))
+    ∙ united-fits (a .target) (a .source) (n .number-of .result + m .before .number-of2 .result) (o .0) (is-sane (n .before .before .before)) (source-sane (n .before))
+    (rw (← n .number-of .ensures, ← m .before .number-of2 .ensures) (o .1))
+
+unite-widening-requires : tie.Need-unite-widening-requires
+unite-widening-requires c κs = let d = c .before .before .before .before in
+    (is-sane (d .before .before), source-sane d)
+
+returns-4 : tie.Need-returns-4
+returns-4 c = search needs
 
 pub unite-spec : {M : Type 1} → statement M
 unite-spec =
@@ -114,11 +84,9 @@ unite-spec =
     returns-2
     number-of-requires
     number-of-requires-2
-    total-requires
-    sub-room
-    total-requires-2
-    unchanged-requires-3
-    returns-3
-    unite-requires
+    may-add-requires
+    add-t10
     settled-requires
+    returns-3
+    unite-widening-requires
     returns-4)

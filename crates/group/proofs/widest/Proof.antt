@@ -8,6 +8,9 @@ use borrow.Author.Needs.{needs}
 use Rattle.group.proofs.widest.Statement.{statement}
 use Rattle.group.proofs.widest.Tie as tie
 
+is-sane : (c : tie.Else1) → valid 3 (c .before .before .args .merge) ≡ true
+is-sane c = sym (c .before .is-valid .ensures) ∙ not-false _ (c .if1 .left)
+
 is-valid-requires : tie.Need-is-valid-requires
 is-valid-requires c κs = search needs
 
@@ -19,8 +22,8 @@ unfolding widestOf
 returns c = let v : valid 3 (c .before .before .before .args .merge) ≡ false = sym (c .before .before .is-valid .ensures) ∙ not-true _ (c .before .if1 .taken) in
     rw v (c .rejected .ensures)
 
-widest-requires : tie.Need-widest-requires
-widest-requires c κs = search needs
+widest-level-requires : tie.Need-widest-level-requires
+widest-level-requires c κs = is-sane c
 
 cast-accepted : tie.Need-cast-accepted
 cast-accepted c = search needs
@@ -30,8 +33,7 @@ accepted-requires c κs = search needs
 
 returns-2 : tie.Need-returns-2
 unfolding widestOf
-returns-2 c = let v : valid 3 (c .before .before .before .before .args .merge) ≡ true = sym (c .before .before .before .is-valid .ensures) ∙ not-false _ (c .before .before .if1 .left) in
-    rw v (c .accepted .ensures ∙ ap accepted (c .before .widest .ensures))
+returns-2 c = rw (is-sane (c .before .before)) (c .accepted .ensures ∙ ap accepted (c .before .widest-level .ensures))
 
 pub widest-spec : {M : Type 1} → statement M
 widest-spec =
@@ -40,7 +42,7 @@ widest-spec =
     is-valid-requires
     rejected-requires
     returns
-    widest-requires
+    widest-level-requires
     cast-accepted
     accepted-requires
     returns-2)

@@ -1,0 +1,83 @@
+-- A counter's place in a group's count bytes, taken as one number; an addition that the counter holds, and another value in it.
+use mathlib.Core.Path.{_≡_, sym, ap, _∙_}
+use mathlib.Core.Bool.{true, false}
+use Prim.Native.Nat.{ℕ, _+_, _-_, _*_, _/_, _%_, _^_, _≤_, _<_}
+use native.Mathlib.Nat.{mod-le, div-mul-le-self, mul-le-mul-right}
+use native.Mathlib.Omega.{arith}
+use lib.Pow.{pow-pos, pow-mono, ones-lt, ones-split, high}
+use Rattle.layout.specs.Layout.{valid}
+use Rattle.block.specs.Block.{cap, word, block, counterAt}
+use Rattle.block.specs.Change.{change}
+use Rattle.block.specs.Sum.{add, Sound}
+use Rattle.block.proofs.Laws.{word-lt, word-block, marks-block, block-fits}
+use Rattle.block.proofs.Adding.{add-sound}
+use Rattle.block.proofs.Changing.{change-fits}
+use Rattle.block.proofs.Places.{first, first-is, value-is, InPlace, add-in-place, change-word}
+use Rattle.group.specs.declared.Group.{Group}
+use Rattle.group.specs.Group.{number, decode, encode, stored, settle, added}
+
+-- the bits of a counter of a level, and the largest value in them
+pub width-le : (n : ℕ) → n ≤ 3 → (1 ≤ 8 * 2 ^ n) × (8 * 2 ^ n ≤ 64)
+width-le n h = (omega (arith, pow-pos n), omega (arith, pow-mono {i = n} {j = 3} h))
+
+pub most-is : (n : ℕ) → n ≤ 3 → (2 ^ 64 - 1) / 2 ^ (64 - 8 * 2 ^ n) ≡ cap n - 1
+unfolding cap
+most-is n h =
+    let j = 8 * 2 ^ n in
+    let e : 64 ≡ j + (64 - j) = omega (arith, width-le n h .1) in
+    let f : 2 ^ 64 - 1 ≡ (2 ^ j - 1) * 2 ^ (64 - j) + (2 ^ (64 - j) - 1) = ap (λ (i : ℕ). 2 ^ i - 1) e ∙ ones-split j (64 - j) in
+    ap (λ (x : ℕ). x / 2 ^ (64 - j)) f ∙ high (2 ^ j - 1) (64 - j) (ones-lt (64 - j))
+
+-- the counter of a slot, by its level L and its place q
+module _ (w m k L q : ℕ) (h : w < cap 3) (i : k < 8) (e : counterAt (block 3 w m) k .level ≡ L) (q-is : q ≡ 8 * (k / 2 ^ L * 2 ^ L)) where
+  place-is : 8 * first (block 3 w m) k ≡ q
+  place-is = rw (first-is (block 3 w m) k i, e, q-is)
+
+  value-place : counterAt (block 3 w m) k .value ≡ w / 2 ^ q % cap L
+  value-place = sym (rw (word-block 3 w m h, place-is, e) at (value-is (block 3 w m) k (block-fits 3 w m h)))
+
+  pub counter-at : counterAt (block 3 w m) k ≡ record { value = w / 2 ^ q % cap L; level = L }
+  counter-at = rw (← value-place, ← e)
+
+  -- an addition that the counter holds
+  module _ (a : ℕ) (small : w / 2 ^ q % cap L + a < cap L) where
+    stays : InPlace (block 3 w m) k a
+    stays = add-in-place (block 3 w m) k a (rw (value-place, e) small)
+
+    word-is : word (stays .0) ≡ w + a * 2 ^ q
+    word-is = stays .3 ∙ rw (word-block 3 w m h, place-is)
+
+    pub sum-in : w + a * 2 ^ q < 2 ^ 64
+    unfolding Sound cap
+    sum-in = rw (← word-is) (word-lt (stays .0) (rw (stays .1) at (add-sound (block 3 w m) k a (block-fits 3 w m h))))
+
+    pub settle-is : (g : Group) → valid 3 m ≡ true → settle g (add (block 3 w m) k a) ≡ stored (record { over = false; word = w + a * 2 ^ q; merge = m })
+    unfolding settle stored encode
+    settle-is g v = rw (stays .1, word-is, stays .2, marks-block 3 w m v)
+
+  -- another value in the counter
+  module _ (x o n : ℕ) (o-is : o ≡ w / 2 ^ q % cap L) (n-is : n ≡ x % cap L) where
+    abbrev t : ℕ
+    t = word (change (block 3 w m) k x)
+
+    old-le : o * 2 ^ q ≤ w
+    old-le = rw o-is (omega (arith, mul-le-mul-right {m = w / 2 ^ q % cap L} {n = w / 2 ^ q} (2 ^ q) (mod-le (w / 2 ^ q) (cap L)), div-mul-le-self w (2 ^ q)))
+
+    new-word : t + o * 2 ^ q ≡ w + n * 2 ^ q
+    new-word = rw (o-is, n-is) (rw (value-place, place-is, e, word-block 3 w m h) at (change-word (block 3 w m) k x))
+
+    new-lt : t < 2 ^ 64
+    unfolding cap
+    new-lt = word-lt (change (block 3 w m) k x) (change-fits (block 3 w m) k x (block-fits 3 w m h))
+
+    pub put-is : (o * 2 ^ q % 2 ^ 64 ≤ w) × (w - o * 2 ^ q % 2 ^ 64 + n * 2 ^ q % 2 ^ 64 < 2 ^ 64) × (w - o * 2 ^ q % 2 ^ 64 + n * 2 ^ q % 2 ^ 64 ≡ t)
+    unfolding cap
+    put-is =
+        let a = old-le in
+        let b = new-word in
+        let d = new-lt in
+        (omega arith, omega arith, omega arith)
+
+pub added-is : (g : Group) (slot amount : ℕ) → valid 3 (g .merge) ≡ true → added g slot amount ≡ settle g (add (block 3 (number (g .counts)) (g .merge)) (slot % 8) amount)
+unfolding added decode
+added-is g slot amount v = rw v

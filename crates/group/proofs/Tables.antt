@@ -1,0 +1,128 @@
+-- Facts about every merge byte, each shown by one computation over all of them.
+use mathlib.Core.Path.{_≡_, refl, sym, ap, _∙_}
+use mathlib.Core.Bool.{Bool, true, false, cond, not, _&&_, and-eq-true-iff}
+use Prim.Native.Nat.{ℕ, zero, suc, _+_, _-_, _*_, _/_, _%_, _^_, _<_}
+use native.Mathlib.Decide.{decLt}
+use native.Mathlib.Omega.{arith}
+use borrow.Author.Tests.{eqb-true}
+use lib.Bits.{bitAnd, bitOr}
+use lib.Dec.{eqb}
+use Rattle.layout.specs.Layout.{bit, marks, layout, valid, ones, widest}
+use Rattle.layout.specs.Code.{layouts, mergedCode, code, uncode}
+use Rattle.layout.proofs.Laws.{marks-lt, marks-layout}
+use Rattle.block.specs.Block.{cap, block, counterAt}
+use Rattle.block.specs.Sum.{fits, unite}
+use Rattle.block.proofs.Carries.{bounds, carries, unite-in-place}
+use Rattle.block.proofs.Laws.{shape-fill}
+use Rattle.block.proofs.Slots.{levelOf, level-is}
+use Rattle.group.specs.Pack.{mergeCode}
+
+-- a test passed by every number below n
+pub every : (ℕ → Bool) → ℕ → Bool
+every p zero = true
+every p (suc n) = p n && every p n
+
+pub every-at : (p : ℕ → Bool) (n m : ℕ) → every p n ≡ true → m < n → p m ≡ true
+unfolding every
+every-at p zero m e h = absurd (omega arith)
+every-at p (suc n) m e h =
+    let s = and-eq-true-iff (p n) (every p n) .0 e in
+    elim (decLt m n) [ yes l ↦ every-at p n m (s .1) l | no l ↦ let i : m ≡ n = omega arith in rw i (s .0) ]
+
+same : Bool → Bool → Bool
+same a b = cond a b (not b)
+
+same-is : (a b : Bool) → same a b ≡ true → a ≡ b
+unfolding same
+same-is true true e = refl
+same-is true false e = sym e
+same-is false true e = e
+same-is false false e = refl
+
+-- the merge bits that a byte's merged halves and its merged group need
+abbrev pub needed : ℕ → ℕ
+needed m = bitOr (bitAnd (m / 2) 17 * 5) (bitAnd (m / 8) 1 * 127)
+
+abbrev pub bitsValid : ℕ → Bool
+bitsValid m = eqb (bitAnd m (bitOr (needed m) 128)) (needed m)
+
+all-valid : every (λ m. same (bitsValid m) (valid 3 m)) 256 ≡ true
+unfolding every same valid ones
+all-valid = refl
+
+pub bits-valid : (m : ℕ) → m < 256 → bitsValid m ≡ valid 3 m
+bits-valid m h = same-is (bitsValid m) (valid 3 m) (every-at (λ m. same (bitsValid m) (valid 3 m)) 256 m all-valid h)
+
+-- a test passed by every valid merge byte
+module _ (p : ℕ → Bool) (all : every (λ m. cond (valid 3 m) (p m) true) 256 ≡ true) where
+  valid-at : (m : ℕ) → m < 256 → valid 3 m ≡ true → p m ≡ true
+  valid-at m h v = rw v at (every-at (λ m. cond (valid 3 m) (p m) true) 256 m all h)
+
+-- the level of a slot's counter: the merged blocks around the slot, its pair, its half and the group
+abbrev pub bitsLevel : ℕ → ℕ → ℕ
+bitsLevel m k = m / 2 ^ (k / 2 * 2) % 2 + m / 2 ^ (k / 4 * 4 + 1) % 2 + m / 8 % 2
+
+slots-level : ℕ → Bool
+slots-level m = every (λ k. eqb (bitsLevel m k) (levelOf (layout 3 m) k)) 8
+
+all-levels : every (λ m. cond (valid 3 m) (slots-level m) true) 256 ≡ true
+unfolding every slots-level valid ones layout bit levelOf
+all-levels = refl
+
+pub bits-level : (w m k : ℕ) → m < 256 → valid 3 m ≡ true → k < 8 → counterAt (block 3 w m) k .level ≡ bitsLevel m k
+unfolding slots-level block
+bits-level w m k h v i =
+    level-is (block 3 w m) k
+    ∙ ap (λ L. levelOf L k) (shape-fill (layout 3 m) w)
+    ∙ sym (eqb-true (bitsLevel m k) (levelOf (layout 3 m) k) (every-at (λ k. eqb (bitsLevel m k) (levelOf (layout 3 m) k)) 8 k (valid-at slots-level all-levels m h v) i))
+
+-- the largest level: whether any pair is merged, any half, and the group
+abbrev pub bitsWidest : ℕ → ℕ
+bitsWidest m = bitOr (bitOr (bitOr m (m / 4)) (m / 16)) (m / 64) % 2 + bitOr (m / 2) (m / 32) % 2 + m / 8 % 2
+
+all-widest : every (λ m. cond (valid 3 m) (eqb (bitsWidest m) (widest (layout 3 m))) true) 256 ≡ true
+unfolding every valid ones layout bit widest
+all-widest = refl
+
+pub bits-widest : (m : ℕ) → m < 256 → valid 3 m ≡ true → bitsWidest m ≡ widest (layout 3 m)
+bits-widest m h v = eqb-true (bitsWidest m) (widest (layout 3 m)) (valid-at (λ m. eqb (bitsWidest m) (widest (layout 3 m))) all-widest m h v)
+
+-- the layout code: a half's is 2 for its first pair, 1 for its second and 1 for itself
+abbrev pub bitsCode : ℕ → ℕ
+bitsCode m = (m % 2 * 2 + m / 2 % 2 + m / 4 % 2) * 5 + (m / 16 % 2 * 2 + m / 32 % 2 + m / 64 % 2) + m / 8 % 2
+
+all-codes : every (λ m. cond (valid 3 m) (eqb (bitsCode m) (mergeCode m)) true) 256 ≡ true
+unfolding every valid ones layout bit code mergedCode layouts
+all-codes = refl
+
+pub bits-code : (m : ℕ) → m < 256 → valid 3 m ≡ true → bitsCode m ≡ mergeCode m
+bits-code m h v = eqb-true (bitsCode m) (mergeCode m) (valid-at (λ m. eqb (bitsCode m) (mergeCode m)) all-codes m h v)
+
+-- the merge bits of a half by its code
+abbrev pub codeBits : ℕ → ℕ
+codeBits c = c / 2 % 2 + c / 4 + c / 4 * 2 + (c % 2 + c / 4) * 4
+
+all-halves : every (λ c. eqb (codeBits c) (marks (uncode 2 c))) 5 ≡ true
+unfolding every marks ones uncode mergedCode layouts
+all-halves = refl
+
+pub code-bits : (c : ℕ) → c < 5 → codeBits c ≡ marks (uncode 2 c)
+code-bits c h = eqb-true (codeBits c) (marks (uncode 2 c)) (every-at (λ c. eqb (codeBits c) (marks (uncode 2 c))) 5 c all-halves h)
+
+-- where counters start: bit k of the merge byte at bit 8 * (k + 1), turned over
+pub valid-below : (m : ℕ) → valid 3 m ≡ true → m < 128
+valid-below m v = rw (← marks-layout 3 m v) (marks-lt (layout 3 m))
+
+abbrev pub bitsBounds : ℕ → ℕ
+bitsBounds m = bitAnd ((127 - m) * 4432676798593) 282578800148737 * 256
+
+all-bounds : every (λ m. cond (valid 3 m) (eqb (bitsBounds m) (bounds (layout 3 m))) true) 256 ≡ true
+unfolding every valid ones layout bit bounds cap
+all-bounds = refl
+
+pub bits-unite : (a b m : ℕ) → m < 256 → valid 3 m ≡ true → a + b < 2 ^ 64 → bitAnd (carries a b) (bitsBounds m) ≡ 0
+    → unite (block 3 a m) (block 3 b m) ≡ fits (block 3 (a + b) m)
+unfolding block cap
+bits-unite a b m h v s z =
+    let e : bitsBounds m ≡ bounds (layout 3 m) = eqb-true (bitsBounds m) (bounds (layout 3 m)) (valid-at (λ m. eqb (bitsBounds m) (bounds (layout 3 m))) all-bounds m h v) in
+    unite-in-place (layout 3 m) a b s (rw e at z)
