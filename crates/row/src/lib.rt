@@ -158,7 +158,7 @@ pub fn row_slot(start: Hash, w: usize, key: &[u8], r: usize) -> usize
     ensures { λ s. ⌜ s < w ⌝ }
 {
     let h = start.step(r as u8).run(key);
-    group::hash::slot(h.state, w)
+    group::hash::scaled(h.state, w)
 }
 
 // The group of a slot with an amount added.

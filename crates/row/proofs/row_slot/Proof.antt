@@ -16,15 +16,15 @@ step-requires c κs = search needs
 run-requires : tie.Need-run-requires
 run-requires c κs = search needs
 
-slot-requires : tie.Need-slot-requires
-slot-requires c κs = search needs
+scaled-requires : tie.Need-scaled-requires
+scaled-requires c κs = wide _ (c .before .before .before .pre .0) .shares
 
 returns : tie.Need-returns
 unfolding keySlot fnv
 returns c = let a = c .before .before .before .before .args in (
-  c .slot .ensures .0 ∙ ap (λ (h : ℕ). slotOf h (a .w)) (c .before .run .ensures ∙ ap (λ (h : ℕ). fnv h (a .key .now)) (c .before .before .step .ensures)),
-  c .slot .ensures .1 (wide (a .w) (c .before .before .before .before .pre .0) .shares),
+  c .scaled .ensures .0 ∙ ap (λ (h : ℕ). slotOf h (a .w)) (c .before .run .ensures ∙ ap (λ (h : ℕ). fnv h (a .key .now)) (c .before .before .step .ensures)),
+  c .scaled .ensures .1,
 )
 
 pub row-slot-spec : {M : Type 1} → statement M
-row-slot-spec = tie.close (tie.spec cast-step step-requires run-requires slot-requires returns)
+row-slot-spec = tie.close (tie.spec cast-step step-requires run-requires scaled-requires returns)
