@@ -1,3 +1,4 @@
 pub mod Widths
 pub mod Lists
 pub mod Groups
+pub mod Lanes
