@@ -16,12 +16,6 @@ use Rattle.row.specs.Rows.{mapRows, ofRows, groupAt, withGroup, least}
 use Rattle.row.specs.Row.{keySlot, addedIn, updateStatus, updateRow, readRow}
 use Rattle.meter.specs.Meter.{rowOf, readStatus, readValue}
 
--- an element that is there does not depend on the one for those that are not
-pub getD-any : {A : Type 0} (l : List A) (i : ℕ) (y z : A) → i < length l → getD l i y ≡ getD l i z
-getD-any [] i y z h = absurd (omega arith)
-getD-any (x ∷ l) zero y z h = refl
-getD-any (x ∷ l) (suc i) y z h = getD-any l i y z (le-of-suc-le-suc h)
-
 -- an array filled from the front: one element more
 pub filled-more : {A : Type 0} (f : ℕ → A) (l : List A) (i : ℕ) (x z : A) → i < length l → x ≡ f i
     → ((k : ℕ) → k < i → getD l k z ≡ f k) → (k : ℕ) → k < i + 1 → getD (set l i x) k z ≡ f k
@@ -70,12 +64,26 @@ slotStatus w slots r row = read (groupAt w row (getD slots r 0 / 8)) (getD slots
 abbrev pub slotValue : ℕ → List ℕ → ℕ → List ℕ → ℕ
 slotValue w slots r row = read (groupAt w row (getD slots r 0 / 8)) (getD slots r 0) .value
 
+abbrev pub groupAdded : ℕ → List ℕ → ℕ → ℕ → List ℕ → List ℕ
+groupAdded w slots amount r row = withGroup w row (getD slots r 0 / 8) (addedIn w row (getD slots r 0) amount .group)
+
 abbrev pub groupStored : ℕ → List ℕ → List Group → Group → ℕ → List ℕ → List ℕ
 groupStored w slots groups z r row = withGroup w row (getD slots r 0 / 8) (getD groups r z)
 
-module _ (d w : ℕ) (memory key slots : List ℕ) (are : (r : ℕ) → r < d → getD slots r 0 ≡ keySlot basis w key r) where
+-- groups that were added to before any was stored
+pub stored-added : (d w : ℕ) (memory slots : List ℕ) (amount : ℕ) (groups : List Group) (z : Group)
+    → ((r : ℕ) → r < d → getD groups r z ≡ addedIn w (rowOf w memory r) (getD slots r 0) amount .group)
+    → mapRows (groupStored w slots groups z) (stride w) d 0 memory ≡ mapRows (groupAdded w slots amount) (stride w) d 0 memory
+unfolding rowOf
+stored-added d w memory slots amount groups z tried =
+    maps-same (stride w) (groupStored w slots groups z) (groupAdded w slots amount) d 0 memory
+    (λ k h.
+    let index : 0 + k ≡ k = zero-add k in
+    rw index (ap (λ (g : Group). withGroup w (take (stride w) (drop (k * stride w) memory)) (getD slots k 0 / 8) g) (tried k h)))
+
+module _ (d w : ℕ) (memory key slots : List ℕ) {state : ℕ} (start : state ≡ basis) (are : (r : ℕ) → r < d → getD slots r 0 ≡ keySlot state w key r) where
   slot-at : (k : ℕ) → k < d → getD slots (0 + k) 0 ≡ keySlot basis w key (0 + k)
-  slot-at k h = are (0 + k) (omega arith)
+  slot-at k h = are (0 + k) (omega arith) ∙ ap (λ (s : ℕ). keySlot s w key (0 + k)) start
 
   pub status-by-key : (amount : ℕ)
       → earliest (ofRows (addedStatus w slots amount) (stride w) d 0 memory) ≡ earliest (ofRows (updateStatus basis w key amount) (stride w) d 0 memory)
@@ -96,16 +104,11 @@ module _ (d w : ℕ) (memory key slots : List ℕ) (are : (r : ℕ) → r < d �
       ap least (reads-same (stride w) (slotValue w slots) (readValue w key) d 0 memory
       (λ k h. ap (λ (s : ℕ). read (groupAt w (take (stride w) (drop (k * stride w) memory)) (s / 8)) s .value) (slot-at k h)))
 
-  -- groups that were added to are what the key's update leaves
-  pub stored-by-key : (amount : ℕ) (groups : List Group) (z : Group)
-      → ((r : ℕ) → r < d → getD groups r z ≡ addedIn w (rowOf w memory r) (getD slots r 0) amount .group)
-      → mapRows (groupStored w slots groups z) (stride w) d 0 memory ≡ mapRows (updateRow basis w key amount) (stride w) d 0 memory
-  unfolding updateRow rowOf
-  stored-by-key amount groups z tried =
-      maps-same (stride w) (groupStored w slots groups z) (updateRow basis w key amount) d 0 memory
+  pub added-by-key : (amount : ℕ)
+      → mapRows (groupAdded w slots amount) (stride w) d 0 memory ≡ mapRows (updateRow basis w key amount) (stride w) d 0 memory
+  unfolding updateRow
+  added-by-key amount =
+      maps-same (stride w) (groupAdded w slots amount) (updateRow basis w key amount) d 0 memory
       (λ k h.
       let row = take (stride w) (drop (k * stride w) memory) in
-      let index : 0 + k ≡ k = zero-add k in
-      rw index
-      (ap (λ (g : Group). withGroup w row (getD slots k 0 / 8) g) (tried k h)
-      ∙ ap (λ (s : ℕ). withGroup w row (s / 8) (addedIn w row s amount .group)) (are k h)))
+      ap (λ (s : ℕ). withGroup w row (s / 8) (addedIn w row s amount .group)) (slot-at k h))

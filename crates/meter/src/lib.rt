@@ -9,8 +9,10 @@ use row::bad_shape;
 use row::earlier;
 use row::keys::key_slots;
 ghost use mathlib.Core.Path.{_≡_};
+ghost use mathlib.Core.Bool.{cond};
 ghost use mathlib.Core.List.{List};
 ghost use Prim.Native.Nat.{ℕ, _/_, _≤_, _<_, min, max};
+ghost use lib.Dec.{eqb};
 ghost use lib.ListN.{length, getD, replicate};
 ghost use Rattle.group.specs.declared.Group as spec_group;
 ghost use Rattle.group.specs.Group.{read};
@@ -74,10 +76,10 @@ struct Trial {
 }
 
 // An amount added in the slot's group of each row. Stores nothing.
-fn try_rows(d: usize, w: usize, memory: &[u8], slots: [usize; 8], amount: u32) -> Trial
-    requires { ⌜ RowsIn d w (length (now memory)) ⌝ ∗ ⌜ ((r : ℕ) → r < d → getD slots r 0 < w) ⌝ }
-    ensures { λ t. ⌜ t .status ≡ earliest (ofRows (λ (r : ℕ) (row : List ℕ). addedIn w row (getD slots r 0) amount .status) (geometry.stride w) d 0 (now (memory .entry))) ⌝ }
-    ensures { λ t. ⌜ ((z : spec_group.Group) (r : ℕ) → r < d → getD (t .groups) r z ≡ addedIn w (rowOf w (now (memory .entry)) r) (getD slots r 0) amount .group) ⌝ }
+fn try_rows(d: usize, w: usize, memory: &[u8], slots: &[usize; 8], amount: u32) -> Trial
+    requires { ⌜ RowsIn d w (length (now memory)) ⌝ ∗ ⌜ ((r : ℕ) → r < d → getD (now slots) r 0 < w) ⌝ }
+    ensures { λ t. ⌜ t .status ≡ earliest (ofRows (λ (r : ℕ) (row : List ℕ). addedIn w row (getD (now (slots .entry)) r 0) amount .status) (geometry.stride w) d 0 (now (memory .entry))) ⌝ }
+    ensures { λ t. ⌜ ((z : spec_group.Group) (r : ℕ) → r < d → getD (t .groups) r z ≡ addedIn w (rowOf w (now (memory .entry)) r) (getD (now (slots .entry)) r 0) amount .group) ⌝ }
 {
     let none = Group {
         counts: [0u8; 8],
@@ -94,17 +96,23 @@ fn try_rows(d: usize, w: usize, memory: &[u8], slots: [usize; 8], amount: u32) -
     Trial { status, groups }
 }
 
-// Each row's group stored.
-fn store_rows(d: usize, w: usize, memory: &mut [u8], slots: [usize; 8], groups: [Group; 8])
-    requires { ⌜ RowsIn d w (length (now memory)) ⌝ ∗ ⌜ ((r : ℕ) → r < d → getD slots r 0 < w) ⌝ }
-    ensures { λ _. ⌜ ((z : spec_group.Group) → now (memory .exit) ≡ mapRows (λ (r : ℕ) (row : List ℕ). withGroup w row (getD slots r 0 / 8) (getD groups r z)) (geometry.stride w) d 0 (now (memory .entry))) ⌝ }
+// An update of each row in the group of a slot, once every row is known to take it; else the first status.
+fn update_rows(d: usize, w: usize, memory: &mut [u8], slots: &[usize; 8], amount: u32) -> u8
+    requires { ⌜ RowsIn d w (length (now memory)) ⌝ ∗ ⌜ ((r : ℕ) → r < d → getD (now slots) r 0 < w) ⌝ }
+    ensures { λ s. ⌜ s ≡ earliest (ofRows (λ (r : ℕ) (row : List ℕ). addedIn w row (getD (now (slots .entry)) r 0) amount .status) (geometry.stride w) d 0 (now (memory .entry))) ⌝ }
+    ensures { λ s. ⌜ now (memory .exit) ≡ cond (eqb s 0) (mapRows (λ (r : ℕ) (row : List ℕ). withGroup w row (getD (now (slots .entry)) r 0 / 8) (addedIn w row (getD (now (slots .entry)) r 0) amount .group)) (geometry.stride w) d 0 (now (memory .entry))) (now (memory .entry)) ⌝ }
 {
+    let t = try_rows(d, w, memory, slots, amount);
+    if t.status != 0 {
+        return t.status;
+    }
     let stride = row::stride(w);
     for r in 0..d {
         let a = r * stride;
         let e = a + stride;
-        row::update_row(&mut memory[a..e], w, slots[r], groups[r]);
+        row::update_row(&mut memory[a..e], w, slots[r], t.groups[r]);
     }
+    0
 }
 
 // Adds an amount to the key's counter in each row. Stores in no row before every row is known to take it.
@@ -117,13 +125,7 @@ pub fn update(d: usize, w: usize, memory: &mut [u8], key: &[u8], amount: u32) ->
         return answer(bad, 0);
     }
     let slots = key_slots(Hash::start(), w, key, d);
-    let t = try_rows(d, w, memory, slots, amount);
-    if t.status != 0 {
-        return answer(t.status, 0);
-    }
-    let groups = t.groups;
-    store_rows(d, w, memory, slots, groups);
-    answer(0, 0)
+    answer(update_rows(d, w, memory, &slots, amount), 0)
 }
 
 fn smaller(a: u64, b: u64) -> u64
@@ -133,10 +135,10 @@ fn smaller(a: u64, b: u64) -> u64
 }
 
 // The first status of the counters of a slot in each row, and their least value.
-fn read_rows(d: usize, w: usize, memory: &[u8], slots: [usize; 8]) -> Answer
-    requires { ⌜ 1 ≤ d ⌝ ∗ ⌜ RowsIn d w (length (now memory)) ⌝ ∗ ⌜ ((r : ℕ) → r < d → getD slots r 0 < w) ⌝ }
-    ensures { λ a. ⌜ a .status ≡ earliest (ofRows (λ (r : ℕ) (row : List ℕ). read (groupAt w row (getD slots r 0 / 8)) (getD slots r 0) .status) (geometry.stride w) d 0 (now (memory .entry))) ⌝ }
-    ensures { λ a. ⌜ a .value ≡ least (ofRows (λ (r : ℕ) (row : List ℕ). read (groupAt w row (getD slots r 0 / 8)) (getD slots r 0) .value) (geometry.stride w) d 0 (now (memory .entry))) ⌝ }
+fn read_rows(d: usize, w: usize, memory: &[u8], slots: &[usize; 8]) -> Answer
+    requires { ⌜ 1 ≤ d ⌝ ∗ ⌜ RowsIn d w (length (now memory)) ⌝ ∗ ⌜ ((r : ℕ) → r < d → getD (now slots) r 0 < w) ⌝ }
+    ensures { λ a. ⌜ a .status ≡ earliest (ofRows (λ (r : ℕ) (row : List ℕ). read (groupAt w row (getD (now (slots .entry)) r 0 / 8)) (getD (now (slots .entry)) r 0) .status) (geometry.stride w) d 0 (now (memory .entry))) ⌝ }
+    ensures { λ a. ⌜ a .value ≡ least (ofRows (λ (r : ℕ) (row : List ℕ). read (groupAt w row (getD (now (slots .entry)) r 0 / 8)) (getD (now (slots .entry)) r 0) .value) (geometry.stride w) d 0 (now (memory .entry))) ⌝ }
 {
     let first = row::read_row(row_at(w, memory, 0), w, slots[0]);
     let mut status = first.status;
@@ -161,7 +163,8 @@ pub fn estimate(d: usize, w: usize, memory: &[u8], key: &[u8]) -> Answer
     if bad != 0 {
         return answer(bad, 0);
     }
-    let found = read_rows(d, w, memory, key_slots(Hash::start(), w, key, d));
+    let slots = key_slots(Hash::start(), w, key, d);
+    let found = read_rows(d, w, memory, &slots);
     answer(found.status, found.value)
 }
 

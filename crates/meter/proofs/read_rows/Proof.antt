@@ -30,37 +30,37 @@ counterOf w slots row r = read (groupAt w row (getD slots r 0 / 8)) (getD slots 
 row-at-requires : tie.Need-row-at-requires Inv-loop μ-loop
 row-at-requires c κs = one-row (c .before .args .d) (c .before .args .w) 0 (c .before .pre .1 .0) (c .before .pre .0)
 
-array-read-read-row : tie.Need-array-read-read-row Inv-loop μ-loop
-array-read-read-row c = search needs
+element-copy-out-read-row : tie.Need-element-copy-out-read-row Inv-loop μ-loop
+element-copy-out-read-row c = search needs
 
 read-row-requires : tie.Need-read-row-requires Inv-loop μ-loop
-read-row-requires c κs = let p = c .before .before .pre in
-    (p .1 .0 .0, (c .row-at .ensures .1, p .1 .1 0 (p .0)))
+read-row-requires c κs = let p = c .before .before .before .pre in
+    (p .1 .0 .0, (c .before .row-at .ensures .1, p .1 .1 0 (p .0)))
 
 loop-holds : tie.Need-loop-holds Inv-loop μ-loop
-loop-holds c = let s = c .before .before .before in
+loop-holds c = let s = c .before .before .before .before in
     let a = s .args in
-    let e = c .read-row .ensures ∙ ap (λ (row : List ℕ). counterOf (a .w) (a .t4) row 0) (c .before .row-at .ensures .0) in (
+    let e = c .read-row .ensures ∙ ap (λ (row : List ℕ). counterOf (a .w) (a .slots .now) row 0) (c .before .before .row-at .ensures .0) in (
       omega arith,
       omega arith,
-      ap (λ (x : Reading). earlier (x .status) (earliest (ofRows (slotStatus (a .w) (a .t4)) (stride (a .w)) (a .d - 1) 1 (drop (1 * stride (a .w)) (a .memory .now))))) e
-          ∙ statuses-start (slotStatus (a .w) (a .t4)) (a .w) (a .d) (a .memory .now) (s .pre .0),
-      ap (λ (x : Reading). leastOr (x .value) (ofRows (slotValue (a .w) (a .t4)) (stride (a .w)) (a .d - 1) 1 (drop (1 * stride (a .w)) (a .memory .now)))) e
-          ∙ least-start (slotValue (a .w) (a .t4)) (a .w) (a .d) (a .memory .now) (s .pre .0),
+      ap (λ (x : Reading). earlier (x .status) (earliest (ofRows (slotStatus (a .w) (a .slots .now)) (stride (a .w)) (a .d - 1) 1 (drop (1 * stride (a .w)) (a .memory .now))))) e
+          ∙ statuses-start (slotStatus (a .w) (a .slots .now)) (a .w) (a .d) (a .memory .now) (s .pre .0),
+      ap (λ (x : Reading). leastOr (x .value) (ofRows (slotValue (a .w) (a .slots .now)) (stride (a .w)) (a .d - 1) 1 (drop (1 * stride (a .w)) (a .memory .now)))) e
+          ∙ least-start (slotValue (a .w) (a .slots .now)) (a .w) (a .d) (a .memory .now) (s .pre .0),
     )
 
 row-at-requires-2 : tie.Need-row-at-requires-2 Inv-loop μ-loop
-row-at-requires-2 c κs = one-row _ _ _ (c .before .before .before .before .before .pre .1 .0) (c .loop-test .taken)
+row-at-requires-2 c κs = one-row _ _ _ (c .before .before .before .before .before .before .pre .1 .0) (c .loop-test .taken)
 
 mul-read-row : tie.Need-mul-read-row Inv-loop μ-loop
 mul-read-row c = search needs
 
-array-read-read-row-2 : tie.Need-array-read-read-row-2 Inv-loop μ-loop
-array-read-read-row-2 c = omega (arith, c .before .before .before .before .before .before .pre .1 .0 .1)
+element-copy-out-read-row-2 : tie.Need-element-copy-out-read-row-2 Inv-loop μ-loop
+element-copy-out-read-row-2 c = omega (arith, c .before .before .before .before .before .before .before .pre .1 .0 .1)
 
 read-row-requires-2 : tie.Need-read-row-requires-2 Inv-loop μ-loop
-read-row-requires-2 c κs = let p = c .before .before .before .before .before .before .pre in
-    (p .1 .0 .0, (c .row-at2 .ensures .1, p .1 .1 (c .before .before .loop .r) (c .before .loop-test .taken)))
+read-row-requires-2 c κs = let p = c .before .before .before .before .before .before .before .before .pre in
+    (p .1 .0 .0, (c .before .row-at2 .ensures .1, p .1 .1 (c .before .before .before .loop .r) (c .before .before .loop-test .taken)))
 
 earlier-requires : tie.Need-earlier-requires Inv-loop μ-loop
 earlier-requires c κs = search needs
@@ -75,23 +75,23 @@ loop-less : tie.Need-loop-less Inv-loop μ-loop
 loop-less c = search needs
 
 loop-again : tie.Need-loop-again Inv-loop μ-loop
-loop-again c = let a = c .before .before .before .before .before .before .before .before .before .args in
-    let l = c .before .before .before .before .before .loop in
+loop-again c = let a = c .before .before .before .before .before .before .before .before .before .before .before .args in
+    let l = c .before .before .before .before .before .before .loop in
     let x = c .before .before .read-row2 in
-    let e = x .ensures ∙ ap (λ (row : List ℕ). counterOf (a .w) (a .t4) row (l .r)) (c .before .before .before .row-at2 .ensures .0) in (
+    let e = x .ensures ∙ ap (λ (row : List ℕ). counterOf (a .w) (a .slots .now) row (l .r)) (c .before .before .before .before .row-at2 .ensures .0) in (
       omega arith,
       omega arith,
       rw (c .before .earlier .ensures)
-          (status-turn (slotStatus (a .w) (a .t4)) (a .w) (a .d) (l .r) (a .memory .now) (l .status) (x .result .status) (omega arith) (ap (λ (y : Reading). y .status) e) ∙ l .inv .2),
+          (status-turn (slotStatus (a .w) (a .slots .now)) (a .w) (a .d) (l .r) (a .memory .now) (l .status) (x .result .status) (omega arith) (ap (λ (y : Reading). y .status) e) ∙ l .inv .2),
       rw (c .smaller .ensures)
-          (least-turn (slotValue (a .w) (a .t4)) (a .w) (a .d) (a .memory .now) (l .r) (l .value) (x .result .value) (omega arith) (ap (λ (y : Reading). y .value) e) ∙ l .inv .3),
+          (least-turn (slotValue (a .w) (a .slots .now)) (a .w) (a .d) (a .memory .now) (l .r) (l .value) (x .result .value) (omega arith) (ap (λ (y : Reading). y .value) e) ∙ l .inv .3),
     )
 
 returns : tie.Need-returns Inv-loop μ-loop
-returns c = let a = c .before .before .before .before .before .args in
+returns c = let a = c .before .before .before .before .before .before .args in
     let l = c .before .loop in (
-      sym (status-end (slotStatus (a .w) (a .t4)) (a .w) (a .d) (l .r) (a .memory .now) (l .status) (omega arith)) ∙ l .inv .2,
-      sym (least-end (slotValue (a .w) (a .t4)) (a .w) (a .d) (a .memory .now) (l .r) (l .value) (omega arith)) ∙ l .inv .3,
+      sym (status-end (slotStatus (a .w) (a .slots .now)) (a .w) (a .d) (l .r) (a .memory .now) (l .status) (omega arith)) ∙ l .inv .2,
+      sym (least-end (slotValue (a .w) (a .slots .now)) (a .w) (a .d) (a .memory .now) (l .r) (l .value) (omega arith)) ∙ l .inv .3,
     )
 
 pub read-rows-spec : {M : Type 1} → statement M
@@ -101,12 +101,12 @@ read-rows-spec =
     Inv-loop
     μ-loop
     row-at-requires
-    array-read-read-row
+    element-copy-out-read-row
     read-row-requires
     loop-holds
     row-at-requires-2
     mul-read-row
-    array-read-read-row-2
+    element-copy-out-read-row-2
     read-row-requires-2
     earlier-requires
     smaller-requires
