@@ -59,3 +59,12 @@ pub fn slot(hash: u32, w: usize) -> usize
     }
     hash as usize / share
 }
+
+// The slot of a hash where the width divides 2^32: the high part of a product.
+pub fn scaled(hash: u32, w: usize) -> usize
+    requires { ⌜ 2 ^ 32 % w ≡ 0 ⌝ }
+    ensures { λ r. ⌜ r ≡ slotOf hash w ⌝ }
+    ensures { λ r. ⌜ r < w ⌝ }
+{
+    (hash as usize * w) >> 32
+}

@@ -1,14 +1,16 @@
 -- What each call answers and leaves, by the tests that led there.
-use mathlib.Core.Path.{_≡_, sym, _∙_}
+use mathlib.Core.Path.{_≡_, refl, sym, _∙_}
+use mathlib.Core.Bool.{cond}
 use mathlib.Core.List.{List, [], _∷_}
-use Prim.Native.Nat.{ℕ}
+use Prim.Native.Nat.{ℕ, _≤_}
 use native.Mathlib.Decide.{decLt}
 use native.Mathlib.Omega.{arith}
 use borrow.Author.Tests.{eq-eqb, ne-eqb}
+use lib.Dec.{eqb}
 use lib.ListN.{length, replicate}
 use Rattle.group.specs.Hash.{basis}
-use Rattle.row.specs.Geometry.{stride, size}
-use Rattle.row.specs.Order.{firstOf, earliest, badDepth, badWidth, badLength, badShape, badKey, answerOf}
+use Rattle.row.specs.Geometry.{stride, size, RowsIn}
+use Rattle.row.specs.Order.{firstOf, earliest, badDepth, badWidth, badLength, badShape, badKey, answerOf, finish}
 use Rattle.row.specs.Rows.{mapRows, ofRows, least, largest}
 use Rattle.row.specs.Row.{updateStatus, updateRow}
 use Rattle.row.proofs.Widths.{first-rest, first-part, first-one}
@@ -29,6 +31,9 @@ call-key d w memory key h =
 pub call-good : (d w : ℕ) (memory key : List ℕ) → badCall d w memory key ≡ 0 → badShape d w (length memory) ≡ 0
 call-good d w memory key e =
     elim (decLt 0 (badShape d w (length memory))) [ yes h ↦ call-shape-bad d w memory key (λ z. omega arith) ∙ e | no n ↦ omega arith ]
+
+pub call-rows : (d w : ℕ) (memory key : List ℕ) → badCall d w memory key ≡ 0 → (1 ≤ d) × RowsIn d w (length memory)
+call-rows d w memory key e = shape-good d w (length memory) (call-good d w memory key e)
 
 module _ (d w : ℕ) (memory : List ℕ) where
   pub cleared-bad : (s : ℕ) → s ≡ badShape d w (length memory) → (s ≡ 0 → ⊥) → (answerOf s 0 ≡ cleared d w memory .answer) × (memory ≡ cleared d w memory .memory)
@@ -52,11 +57,13 @@ module _ (d w : ℕ) (memory : List ℕ) where
     updated-bad s e h =
         rejecting s (firstOf (badCall d w memory key ∷ rows ∷ [])) after memory (rw (← e) (first-stop s (rows ∷ []) h)) h
 
-    pub updated-full : badCall d w memory key ≡ 0 → (s : ℕ) → s ≡ earliest (ofRows (updateStatus basis w key amount) (stride w) d 0 memory) → (s ≡ 0 → ⊥)
-        → (answerOf s 0 ≡ updated d w memory key amount .answer) × (memory ≡ updated d w memory key amount .memory)
-    unfolding updated rows after
-    updated-full b s e h =
-        rejecting s (firstOf (badCall d w memory key ∷ rows ∷ [])) after memory (first-skip (badCall d w memory key) (rows ∷ []) b ∙ first-one rows ∙ sym e) h
+    pub updated-rows : badCall d w memory key ≡ 0 → (s : ℕ) (m : List ℕ) → s ≡ earliest (ofRows (updateStatus basis w key amount) (stride w) d 0 memory)
+        → m ≡ cond (eqb s 0) (mapRows (updateRow basis w key amount) (stride w) d 0 memory) memory
+        → (answerOf s 0 ≡ updated d w memory key amount .answer) × (m ≡ updated d w memory key amount .memory)
+    unfolding updated finish rows after
+    updated-rows b s m e h =
+        let t : firstOf (badCall d w memory key ∷ rows ∷ []) ≡ s = first-skip (badCall d w memory key) (rows ∷ []) b ∙ first-one rows ∙ sym e in
+        rw t (refl, h)
 
     pub updated-good : badCall d w memory key ≡ 0 → earliest (ofRows (updateStatus basis w key amount) (stride w) d 0 memory) ≡ 0
         → (answerOf 0 0 ≡ updated d w memory key amount .answer)

@@ -1,3 +1,4 @@
 pub mod Gather
+pub mod Slots
 pub mod Calls
 pub mod Memory

@@ -1,21 +1,27 @@
 // A meter in lent memory: clearing, updates, estimates, the widest level and unions. Every call takes any depth, width, memory and
 // key, and answers by document 01's number, place and figure. A rejected call leaves the memory as it was.
 use group::Answer;
+use group::Group;
 use group::hash::Hash;
 use row::answer;
 use row::bad_key;
 use row::bad_shape;
 use row::earlier;
+use row::keys::key_slots;
 ghost use mathlib.Core.Path.{_≡_};
-ghost use Prim.Native.Nat.{_≤_, min, max};
-ghost use lib.ListN.{length, replicate};
-ghost use Rattle.group.specs.Hash.{basis};
+ghost use mathlib.Core.Bool.{cond};
+ghost use mathlib.Core.List.{List};
+ghost use Prim.Native.Nat.{ℕ, _/_, _≤_, _<_, min, max};
+ghost use lib.Dec.{eqb};
+ghost use lib.ListN.{length, getD, replicate};
+ghost use Rattle.group.specs.declared.Group as spec_group;
+ghost use Rattle.group.specs.Group.{read};
 ghost use Rattle.row.specs.Geometry.{RowIn, RowsIn};
 ghost use Rattle.row.specs.Geometry as geometry;
 ghost use Rattle.row.specs.Order.{earliest, badShape};
-ghost use Rattle.row.specs.Rows.{mapRows, ofRows, least, largest};
-ghost use Rattle.row.specs.Row.{updateStatus, updateRow};
-ghost use Rattle.meter.specs.Meter.{rowOf, cleared, badCall, updated, readStatus, readValue, estimated, rowStatus, rowLevel, sourceStatus, sourceAdded};
+ghost use Rattle.row.specs.Rows.{mapRows, ofRows, groupAt, withGroup, least, largest};
+ghost use Rattle.row.specs.Row.{addedIn};
+ghost use Rattle.meter.specs.Meter.{rowOf, cleared, badCall, updated, estimated, rowStatus, rowLevel, sourceStatus, sourceAdded};
 ghost use Rattle.meter.specs.Meter as spec;
 
 // Every byte 0.
@@ -63,30 +69,50 @@ fn row_at(w: usize, memory: &[u8], r: usize) -> &[u8]
     &memory[start..end]
 }
 
-// Whether every row takes an update.
-fn update_status(d: usize, w: usize, memory: &[u8], key: &[u8], amount: u32) -> u8
-    requires { ⌜ RowsIn d w (length (now memory)) ⌝ }
-    ensures { λ s. ⌜ s ≡ earliest (ofRows (updateStatus basis w (now (key .entry)) amount) (geometry.stride w) d 0 (now (memory .entry))) ⌝ }
-{
-    let mut status = 0u8;
-    for r in 0..d {
-        let next = row::update_status(row_at(w, memory, r), Hash::start(), w, key, amount, r);
-        status = earlier(status, next);
-    }
-    status
+// The groups that an update leaves in the rows, and the first status.
+struct Trial {
+    status: u8,
+    groups: [Group; 8],
 }
 
-// An update of every row.
-fn update_rows(d: usize, w: usize, memory: &mut [u8], key: &[u8], amount: u32)
-    requires { ⌜ RowsIn d w (length (now memory)) ⌝ }
-    ensures { λ _. ⌜ now (memory .exit) ≡ mapRows (updateRow basis w (now (key .entry)) amount) (geometry.stride w) d 0 (now (memory .entry)) ⌝ }
+// An amount added in the slot's group of each row. Stores nothing.
+fn try_rows(d: usize, w: usize, memory: &[u8], slots: &[usize; 8], amount: u32) -> Trial
+    requires { ⌜ RowsIn d w (length (now memory)) ⌝ ∗ ⌜ ((r : ℕ) → r < d → getD (now slots) r 0 < w) ⌝ }
+    ensures { λ t. ⌜ t .status ≡ earliest (ofRows (λ (r : ℕ) (row : List ℕ). addedIn w row (getD (now (slots .entry)) r 0) amount .status) (geometry.stride w) d 0 (now (memory .entry))) ⌝ }
+    ensures { λ t. ⌜ ((z : spec_group.Group) (r : ℕ) → r < d → getD (t .groups) r z ≡ addedIn w (rowOf w (now (memory .entry)) r) (getD (now (slots .entry)) r 0) amount .group) ⌝ }
 {
+    let none = Group {
+        counts: [0u8; 8],
+        merge: 0,
+    };
+    let mut groups = [none; 8];
+    let mut status = 0u8;
+    for r in 0..d {
+        let o = row::added_in(row_at(w, memory, r), w, slots[r], amount);
+        let g = o.group;
+        groups[r] = g;
+        status = earlier(status, o.status);
+    }
+    Trial { status, groups }
+}
+
+// An update of each row in the group of a slot, once every row is known to take it; else the first status.
+fn update_rows(d: usize, w: usize, memory: &mut [u8], slots: &[usize; 8], amount: u32) -> u8
+    requires { ⌜ RowsIn d w (length (now memory)) ⌝ ∗ ⌜ ((r : ℕ) → r < d → getD (now slots) r 0 < w) ⌝ }
+    ensures { λ s. ⌜ s ≡ earliest (ofRows (λ (r : ℕ) (row : List ℕ). addedIn w row (getD (now (slots .entry)) r 0) amount .status) (geometry.stride w) d 0 (now (memory .entry))) ⌝ }
+    ensures { λ s. ⌜ now (memory .exit) ≡ cond (eqb s 0) (mapRows (λ (r : ℕ) (row : List ℕ). withGroup w row (getD (now (slots .entry)) r 0 / 8) (addedIn w row (getD (now (slots .entry)) r 0) amount .group)) (geometry.stride w) d 0 (now (memory .entry))) (now (memory .entry)) ⌝ }
+{
+    let t = try_rows(d, w, memory, slots, amount);
+    if t.status != 0 {
+        return t.status;
+    }
     let stride = row::stride(w);
     for r in 0..d {
         let a = r * stride;
         let e = a + stride;
-        row::update_row(&mut memory[a..e], Hash::start(), w, key, amount, r);
+        row::update_row(&mut memory[a..e], w, slots[r], t.groups[r]);
     }
+    0
 }
 
 // Adds an amount to the key's counter in each row. Stores in no row before every row is known to take it.
@@ -98,12 +124,8 @@ pub fn update(d: usize, w: usize, memory: &mut [u8], key: &[u8], amount: u32) ->
     if bad != 0 {
         return answer(bad, 0);
     }
-    let status = update_status(d, w, memory, key, amount);
-    if status != 0 {
-        return answer(status, 0);
-    }
-    update_rows(d, w, memory, key, amount);
-    answer(0, 0)
+    let slots = key_slots(Hash::start(), w, key, d);
+    answer(update_rows(d, w, memory, &slots, amount), 0)
 }
 
 fn smaller(a: u64, b: u64) -> u64
@@ -112,17 +134,17 @@ fn smaller(a: u64, b: u64) -> u64
     if b < a { b } else { a }
 }
 
-// The first status of the key's counters, and their least value.
-fn read_rows(d: usize, w: usize, memory: &[u8], key: &[u8]) -> Answer
-    requires { ⌜ 1 ≤ d ⌝ ∗ ⌜ RowsIn d w (length (now memory)) ⌝ }
-    ensures { λ a. ⌜ a .status ≡ earliest (ofRows (readStatus w (now (key .entry))) (geometry.stride w) d 0 (now (memory .entry))) ⌝ }
-    ensures { λ a. ⌜ a .value ≡ least (ofRows (readValue w (now (key .entry))) (geometry.stride w) d 0 (now (memory .entry))) ⌝ }
+// The first status of the counters of a slot in each row, and their least value.
+fn read_rows(d: usize, w: usize, memory: &[u8], slots: &[usize; 8]) -> Answer
+    requires { ⌜ 1 ≤ d ⌝ ∗ ⌜ RowsIn d w (length (now memory)) ⌝ ∗ ⌜ ((r : ℕ) → r < d → getD (now slots) r 0 < w) ⌝ }
+    ensures { λ a. ⌜ a .status ≡ earliest (ofRows (λ (r : ℕ) (row : List ℕ). read (groupAt w row (getD (now (slots .entry)) r 0 / 8)) (getD (now (slots .entry)) r 0) .status) (geometry.stride w) d 0 (now (memory .entry))) ⌝ }
+    ensures { λ a. ⌜ a .value ≡ least (ofRows (λ (r : ℕ) (row : List ℕ). read (groupAt w row (getD (now (slots .entry)) r 0 / 8)) (getD (now (slots .entry)) r 0) .value) (geometry.stride w) d 0 (now (memory .entry))) ⌝ }
 {
-    let first = row::read_row(row_at(w, memory, 0), Hash::start(), w, key, 0);
+    let first = row::read_row(row_at(w, memory, 0), w, slots[0]);
     let mut status = first.status;
     let mut value = first.value;
     for r in 1..d {
-        let c = row::read_row(row_at(w, memory, r), Hash::start(), w, key, r);
+        let c = row::read_row(row_at(w, memory, r), w, slots[r]);
         status = earlier(status, c.status);
         value = smaller(value, c.value);
     }
@@ -141,7 +163,8 @@ pub fn estimate(d: usize, w: usize, memory: &[u8], key: &[u8]) -> Answer
     if bad != 0 {
         return answer(bad, 0);
     }
-    let found = read_rows(d, w, memory, key);
+    let slots = key_slots(Hash::start(), w, key, d);
+    let found = read_rows(d, w, memory, &slots);
     answer(found.status, found.value)
 }
 

@@ -2,3 +2,4 @@ pub mod Widths
 pub mod Unmerged
 pub mod Lists
 pub mod Groups
+pub mod Lanes

@@ -1,9 +1,10 @@
 // The geometry of a meter, where a group lies in a row, and what each call does in one row.
+pub mod keys;
+
 use group::Answer;
 use group::Group;
 use group::Outcome;
 use group::Reading;
-use group::hash::Hash;
 ghost use mathlib.Core.Path.{_≡_};
 ghost use mathlib.Core.Bool.{true};
 ghost use mathlib.Core.List.{_++_};
@@ -14,7 +15,8 @@ ghost use Rattle.row.specs.Geometry as geometry;
 ghost use Rattle.row.specs.Order.{badKey, badShape, answerOf};
 ghost use Rattle.row.specs.Order as order;
 ghost use Rattle.row.specs.Rows.{groupAt, withGroup};
-ghost use Rattle.row.specs.Row.{keySlot, addedIn, updateStatus, updateRow, readRow, widestStatus, widestRow, unitedAt, uniteStatus, uniteRow};
+ghost use Rattle.group.specs.Group.{read};
+ghost use Rattle.row.specs.Row.{addedIn, widestStatus, widestRow, unitedAt, uniteStatus, uniteRow};
 
 // The largest width of a row.
 pub const MAX_WIDTH: usize = 65536;
@@ -151,16 +153,6 @@ pub fn store(row: &mut [u8], w: usize, g: usize, x: Group)
     row[w + g] = x.merge;
 }
 
-// The slot of a key in row r, by a hash that goes on from `start`.
-pub fn row_slot(start: Hash, w: usize, key: &[u8], r: usize) -> usize
-    requires { ⌜ validWidth w ≡ true ⌝ ∗ ⌜ r < 8 ⌝ }
-    ensures { λ s. ⌜ s ≡ keySlot (start .state) w (now (key .entry)) r ⌝ }
-    ensures { λ s. ⌜ s < w ⌝ }
-{
-    let h = start.step(r as u8).run(key);
-    group::hash::slot(h.state, w)
-}
-
 // The group of a slot with an amount added.
 pub fn added_in(row: &[u8], w: usize, slot: usize, amount: u32) -> Outcome
     requires { ⌜ validWidth w ≡ true ⌝ ∗ ⌜ length (now row) ≡ geometry.stride w ⌝ ∗ ⌜ slot < w ⌝ }
@@ -169,32 +161,19 @@ pub fn added_in(row: &[u8], w: usize, slot: usize, amount: u32) -> Outcome
     group::add(load(row, w, slot / 8), slot, amount)
 }
 
-// Whether row r takes an update.
-pub fn update_status(row: &[u8], start: Hash, w: usize, key: &[u8], amount: u32, r: usize) -> u8
-    requires { ⌜ validWidth w ≡ true ⌝ ∗ ⌜ length (now row) ≡ geometry.stride w ⌝ ∗ ⌜ r < 8 ⌝ }
-    ensures { λ s. ⌜ s ≡ updateStatus (start .state) w (now (key .entry)) amount r (now (row .entry)) ⌝ }
+// An update of a row: the group of a slot stored.
+pub fn update_row(row: &mut [u8], w: usize, slot: usize, x: Group)
+    requires { ⌜ validWidth w ≡ true ⌝ ∗ ⌜ length (now row) ≡ geometry.stride w ⌝ ∗ ⌜ slot < w ⌝ }
+    ensures { λ _. ⌜ now (row .exit) ≡ withGroup w (now (row .entry)) (slot / 8) x ⌝ }
 {
-    let o = added_in(row, w, row_slot(start, w, key, r), amount);
-    o.status
+    store(row, w, slot / 8, x);
 }
 
-// An update of row r.
-pub fn update_row(row: &mut [u8], start: Hash, w: usize, key: &[u8], amount: u32, r: usize)
-    requires { ⌜ validWidth w ≡ true ⌝ ∗ ⌜ length (now row) ≡ geometry.stride w ⌝ ∗ ⌜ r < 8 ⌝ }
-    ensures { λ _. ⌜ now (row .exit) ≡ updateRow (start .state) w (now (key .entry)) amount r (now (row .entry)) ⌝ }
+// The counter of a slot.
+pub fn read_row(row: &[u8], w: usize, slot: usize) -> Reading
+    requires { ⌜ validWidth w ≡ true ⌝ ∗ ⌜ length (now row) ≡ geometry.stride w ⌝ ∗ ⌜ slot < w ⌝ }
+    ensures { λ c. ⌜ c ≡ read (groupAt w (now (row .entry)) (slot / 8)) slot ⌝ }
 {
-    let slot = row_slot(start, w, key, r);
-    let o = added_in(row, w, slot, amount);
-    let g = o.group;
-    store(row, w, slot / 8, g);
-}
-
-// The counter of a key in row r.
-pub fn read_row(row: &[u8], start: Hash, w: usize, key: &[u8], r: usize) -> Reading
-    requires { ⌜ validWidth w ≡ true ⌝ ∗ ⌜ length (now row) ≡ geometry.stride w ⌝ ∗ ⌜ r < 8 ⌝ }
-    ensures { λ c. ⌜ c ≡ readRow (start .state) w (now (key .entry)) r (now (row .entry)) ⌝ }
-{
-    let slot = row_slot(start, w, key, r);
     group::counter(load(row, w, slot / 8), slot)
 }
 

@@ -1,9 +1,18 @@
-use mathlib.Core.Path.{sym, _∙_}
-use Rattle.meter.proofs.Gather.{shape-good}
-use Rattle.meter.proofs.Calls.{call-good, updated-bad, updated-full, updated-good}
+use mathlib.Core.Path.{_≡_, sym, ap, _∙_}
+use mathlib.Core.Bool.{cond}
+use mathlib.Core.List.{List}
+use Prim.Native.Nat.{ℕ}
+use lib.Dec.{eqb}
+use Rattle.meter.specs.Meter.{badCall}
+use Rattle.meter.proofs.Calls.{call-rows, updated-bad, updated-rows}
+use Rattle.meter.proofs.Slots.{status-by-key, added-by-key}
 use borrow.Author.Needs.{needs}
 use Rattle.meter.proofs.update.Statement.{statement}
 use Rattle.meter.proofs.update.Tie as tie
+
+-- a call past its tests
+good : (c : tie.Else1) → let a = c .before .before .before .before .before .args in badCall (a .d) (a .w) (a .memory .now) (a .key .now) ≡ 0
+good c = sym (c .before .bad-call .ensures) ∙ c .if1 .left
 
 bad-call-requires : tie.Need-bad-call-requires
 bad-call-requires c κs = search needs
@@ -19,9 +28,15 @@ returns c = let a = c .before .before .before .before .before .before .args in
     let p = updated-bad (a .d) (a .w) (a .memory .now) (a .key .now) (a .amount) (c .before .before .bad-call .result) (c .before .before .bad-call .ensures) (c .before .if1 .taken) in
     (c .answer .ensures ∙ p .0, p .1)
 
-update-status-requires : tie.Need-update-status-requires
-update-status-requires c κs = let a = c .before .before .before .before .before .before .args in
-    shape-good (a .d) (a .w) _ (call-good (a .d) (a .w) (a .memory .now) (a .key .now) (sym (c .before .before .bad-call .ensures) ∙ c .before .if1 .left)) .1
+start-requires : tie.Need-start-requires
+start-requires c κs = search needs
+
+key-slots-requires : tie.Need-key-slots-requires
+key-slots-requires c κs = let p = call-rows _ _ _ _ (good (c .before)) .1 in
+    (p .0, p .1)
+
+update-rows-requires : tie.Need-update-rows-requires
+update-rows-requires c κs = (call-rows _ _ _ _ (good (c .before .before .before .before)) .1, c .before .before .key-slots .ensures .1)
 
 answer-requires-2 : tie.Need-answer-requires-2
 answer-requires-2 c κs = search needs
@@ -30,24 +45,16 @@ same-length-2 : tie.Need-same-length-2
 same-length-2 c = search needs
 
 returns-2 : tie.Need-returns-2
-returns-2 c = let a = c .before .before .before .before .before .before .before .before .before .args in
-    let p = updated-full (a .d) (a .w) (a .memory .now) (a .key .now) (a .amount) (sym (c .before .before .before .before .before .bad-call .ensures) ∙ c .before .before .before .before .if1 .left) (c .before .before .update-status .result) (c .before .before .update-status .ensures) (c .before .if2 .taken) in
+returns-2 c = let u = c .before .before .before .update-rows in
+    let k = c .before .before .before .before .before .before in
+    let a = k .before .before .before .before .before .before .before .args in
+    let slots = k .key-slots in
+    let start = k .before .start .ensures in
+    let status = u .ensures .0 ∙ status-by-key (a .d) (a .w) (a .memory .now) (a .key .now) (slots .result) start (slots .ensures .0) (a .amount) in
+    let after = added-by-key (a .d) (a .w) (a .memory .now) (a .key .now) (slots .result) start (slots .ensures .0) (a .amount) in
+    let p = updated-rows (a .d) (a .w) (a .memory .now) (a .key .now) (a .amount) (good (k .before .before)) (u .result) (u .last .1 .1 .0) status
+    (u .ensures .1 ∙ ap (λ (m : List ℕ). cond (eqb (u .result) 0) m (a .memory .now)) after) in
     (c .answer2 .ensures ∙ p .0, p .1)
-
-update-rows-requires : tie.Need-update-rows-requires
-update-rows-requires c κs = let a = c .before .before .before .before .before .before .before .before .before .args in
-    shape-good (a .d) (a .w) _ (call-good (a .d) (a .w) (a .memory .now) (a .key .now) (sym (c .before .before .before .before .before .bad-call .ensures) ∙ c .before .before .before .before .if1 .left)) .1
-
-answer-requires-3 : tie.Need-answer-requires-3
-answer-requires-3 c κs = search needs
-
-same-length-3 : tie.Need-same-length-3
-same-length-3 c = search needs
-
-returns-3 : tie.Need-returns-3
-returns-3 c = let a = c .before .before .before .before .before .before .before .before .before .before .before .before .before .args in
-    let p = updated-good (a .d) (a .w) (a .memory .now) (a .key .now) (a .amount) (sym (c .before .before .before .before .before .before .before .before .before .bad-call .ensures) ∙ c .before .before .before .before .before .before .before .before .if1 .left) (sym (c .before .before .before .before .before .before .update-status .ensures) ∙ c .before .before .before .before .before .if2 .left) in
-    (c .answer3 .ensures ∙ p .0, c .before .before .before .update-rows .ensures ∙ p .1)
 
 pub update-spec : {M : Type 1} → statement M
 update-spec =
@@ -57,11 +64,9 @@ update-spec =
     answer-requires
     same-length
     returns
-    update-status-requires
+    start-requires
+    key-slots-requires
+    update-rows-requires
     answer-requires-2
     same-length-2
-    returns-2
-    update-rows-requires
-    answer-requires-3
-    same-length-3
-    returns-3)
+    returns-2)
