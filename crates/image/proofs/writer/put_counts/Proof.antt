@@ -1,13 +1,12 @@
-use mathlib.Core.Path.{_≡_, refl, sym, ap, ap₂, _∙_}
+use mathlib.Core.Path.{_≡_, refl, sym, ap, _∙_}
 use mathlib.Core.List.{map}
 use Prim.Native.Nat.{ℕ, suc, _+_, _-_, _≤_}
-use native.Mathlib.Nat.{sub-zero, add-zero}
 use native.Mathlib.Omega.{arith}
 use borrow.Author.Needs.{needs}
 use lib.ListN.{length, take, drop, length-set}
 use lib.Seq.{sets}
 use Rattle.image.specs.Image.{word, countKind}
-use Rattle.image.proofs.Plain.{counts-step, counts-none}
+use Rattle.image.proofs.Plain.{counts-start, counts-step, counts-none}
 use Rattle.image.proofs.writer.put_counts.Statement.{statement}
 use Rattle.image.proofs.writer.put_counts.Tie as tie
 use Rattle.image.proofs.format.count_word.Reads as count-word-reads
@@ -19,12 +18,8 @@ abbrev μ-loop : tie.MeasureT-loop
 μ-loop words₀ p row at n i₀ words i = n - i
 
 loop-holds : tie.Need-loop-holds Inv-loop μ-loop
-loop-holds c = let a = c .before .before .args in (
-  omega arith,
-  refl,
-  ap₂ (λ (x y : ℕ). sets (a .words .now) x (map (word countKind) (take y (drop (a .at + 0) (a .row .now))))) (add-zero (a .p)) (sub-zero (a .n))
-      ∙ ap (λ (x : ℕ). sets (a .words .now) (a .p) (map (word countKind) (take (a .n) (drop x (a .row .now))))) (add-zero (a .at)),
-)
+loop-holds c = let a = c .before .before .args in
+    (omega arith, refl, counts-start (word countKind) (a .words .now) (a .p) (a .at) (a .n) (a .row .now))
 
 add-count-word : tie.Need-add-count-word Inv-loop μ-loop
 add-count-word c = search needs
@@ -56,7 +51,7 @@ loop-again c = let l = c .before .before .before .loop in
     let e : a .p + (l .i + 1) ≡ suc (a .p + l .i) = omega arith in (
       omega arith,
       simp length-set (omega arith),
-      rw (c .count-word .ensures, e) (ap (sets (l .words) (a .p + l .i)) (sym (counts-step (a .n) (l .i) (a .at) (a .row .now) (omega arith) (omega arith))) ∙ l .inv .2),
+      rw (c .count-word .ensures, e) (ap (sets (l .words) (a .p + l .i)) (sym (counts-step (word countKind) (a .n) (l .i) (a .at) (a .row .now) (omega arith) (omega arith))) ∙ l .inv .2),
     )
 
 same-length : tie.Need-same-length Inv-loop μ-loop
@@ -65,7 +60,7 @@ same-length c = search needs
 returns : tie.Need-returns Inv-loop μ-loop
 returns c = let l = c .before .loop in
     let a = c .before .before .before .before .args in
-    sym (ap (sets (l .words) (a .p + l .i)) (counts-none (a .n - l .i) (a .at + l .i) (a .row .now) (omega arith))) ∙ l .inv .2
+    sym (ap (sets (l .words) (a .p + l .i)) (counts-none (word countKind) (a .n - l .i) (a .at + l .i) (a .row .now) (omega arith))) ∙ l .inv .2
 
 pub put-counts-spec : {M : Type 1} → statement M
 put-counts-spec =
