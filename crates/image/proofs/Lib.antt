@@ -7,3 +7,4 @@ pub mod Accepting
 pub mod Exact
 pub mod Sharp
 pub mod Theorems
+pub mod Plain

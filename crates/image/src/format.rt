@@ -4,7 +4,7 @@ ghost use mathlib.Core.Path.{_≡_};
 ghost use Prim.Native.Nat.{_+_, _*_, _%_, _^_, _<_, _≤_};
 ghost use lib.Dec.{eqb};
 ghost use Rattle.image.specs.Image as spec;
-ghost use Rattle.image.specs.Image.{wordsOf, levelAt};
+ghost use Rattle.image.specs.Image.{countKind, wordsOf, levelAt};
 ghost use Rattle.image.specs.Write.{slotSize, groupSize};
 ghost use Rattle.image.specs.Read.{firstBits};
 
@@ -23,6 +23,13 @@ pub fn word(kind: u32, payload: u32) -> u32
     ensures { λ r. ⌜ r ≡ spec.word kind payload ⌝ }
 {
     (kind << 28) | payload
+}
+
+// The word of a counter of one slot.
+pub fn count_word(count: u8) -> u32
+    ensures { λ r. ⌜ r ≡ spec.word countKind count ⌝ }
+{
+    0x3000_0000 + count as u32
 }
 
 // The level of the counter that a slot is in, in a group with this merge byte.

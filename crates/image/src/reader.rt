@@ -10,11 +10,14 @@ use word::payload;
 use word::stop;
 use word::tested;
 ghost use mathlib.Core.Path.{_≡_};
-ghost use mathlib.Core.List.{_++_};
-ghost use Prim.Native.Nat.{_+_, _*_, _/_, _%_, _^_, _<_, _≤_};
-ghost use lib.ListN.{length, take, drop};
+ghost use mathlib.Core.Bool.{true};
+ghost use mathlib.Core.List.{_++_, map};
+ghost use Prim.Native.Nat.{ℕ, _+_, _*_, _/_, _%_, _^_, _<_, _≤_};
+ghost use lib.ListN.{length, getD, take, drop};
+ghost use lib.Seq.{sets};
 ghost use Rattle.row.specs.Geometry.{stride};
 ghost use Rattle.row.specs.Rows.{withGroup};
+ghost use Rattle.image.specs.Write.{groupSize};
 ghost use Rattle.image.specs.Read.{checkHead, checkParts, checkSlot, checkSlots, checkGroups, checkFour, checkFours, checkEnd, checked, valueFrom, mergesAt, readSlot, readGroup, readGroups, afterGroups, readFours, afterFours, readRows};
 
 pub fn check_head(words: &[u32], d: usize, w: usize) -> Step
@@ -32,6 +35,36 @@ pub fn check_head(words: &[u32], d: usize, w: usize) -> Step
         payload(words, 0) == log_width(w) * 16 + d as u32,
         format::OTHER_METER,
     )
+}
+
+// Whether n words are there and each is a counter of one slot. They are gone through to the last.
+pub fn are_counts(words: &[u32], p: usize, n: usize) -> bool
+    ensures { λ r. ⌜ (r ≡ true → (p + n ≤ length (now (words .entry))) × ((i : ℕ) → i < n → getD (now (words .entry)) (p + i) 0 / 2 ^ 8 ≡ 3145728)) ⌝ }
+{
+    if words.len() < n {
+        return false;
+    }
+    if words.len() - n < p {
+        return false;
+    }
+    let mut bits: u32 = 0;
+    for i in 0..n {
+        bits = bits | (words[p + i] ^ 0x3000_0000);
+    }
+    bits < 256
+}
+
+// Whether the words of 32 slots are sound and nothing is merged there.
+pub fn is_clear(words: &[u32], p: usize) -> bool
+    ensures { λ r. ⌜ (r ≡ true → (p + 33 ≤ length (now (words .entry))) × (checkFour (now (words .entry)) p ≡ record { status = 0; position = p + 33 })) ⌝ }
+{
+    if p >= words.len() {
+        return false;
+    }
+    if words[p] != 0x2000_0000 {
+        return false;
+    }
+    are_counts(words, p + 1, 32)
 }
 
 // The n words of a counter, the first of which has a limit of its own.
@@ -103,7 +136,11 @@ pub fn check_groups(words: &[u32], p: usize, merges: [u8; 4]) -> Step
 pub fn merges_at(words: &[u32], p: usize) -> [u8; 4]
     ensures { λ r. ⌜ r ≡ mergesAt (now (words .entry)) p ⌝ }
 {
-    let u = group::unpack(payload(words, p));
+    let code = payload(words, p);
+    if code == 0 {
+        return [0; 4];
+    }
+    let u = group::unpack(code);
     u.merges
 }
 
@@ -111,6 +148,9 @@ pub fn merges_at(words: &[u32], p: usize) -> [u8; 4]
 pub fn check_four(words: &[u32], p: usize) -> Step
     ensures { λ r. ⌜ r ≡ checkFour (now (words .entry)) p ⌝ }
 {
+    if is_clear(words, p) {
+        return go(p + 33);
+    }
     let s = below(words, p, format::LAYOUT, 456976);
     if s.status != 0 {
         return s;
@@ -215,6 +255,34 @@ pub fn read_group(merge: u8, words: &[u32], p: usize) -> Group
     g
 }
 
+// n count bytes of a row from `at` on, each from a word.
+pub fn read_counts(row: &mut [u8], at: usize, words: &[u32], p: usize, n: usize)
+    requires { ⌜ at + n ≤ length (now row) ⌝ ∗ ⌜ p + n ≤ length (now words) ⌝ }
+    ensures { λ _. ⌜ now (row .exit) ≡ sets (now (row .entry)) at (map (λ (x : ℕ). x % 256) (take n (drop p (now (words .entry))))) ⌝ }
+{
+    for i in 0..n {
+        row[at + i] = (words[p + i] % 256) as u8;
+    }
+}
+
+// Group g of a row. Gives the position after its words.
+pub fn read_into(row: &mut [u8], w: usize, g: usize, merge: u8, words: &[u32], p: usize) -> usize
+    requires { ⌜ 8 * g + 8 ≤ w ⌝ ∗ ⌜ w + g < length (now row) ⌝ ∗ ⌜ p < 2 ^ 31 ⌝ }
+    ensures { λ r. ⌜ r ≡ p + groupSize merge ⌝ }
+    ensures { λ r. ⌜ r ≤ p + 24 ⌝ }
+    ensures { λ _. ⌜ now (row .exit) ≡ withGroup w (now (row .entry)) g (readGroup merge (now (words .entry)) p) ⌝ }
+{
+    if merge == 0 {
+        if are_counts(words, p, 8) {
+            read_counts(row, 8 * g, words, p, 8);
+            row[w + g] = 0;
+            return p + 8;
+        }
+    }
+    store(row, w, g, read_group(merge, words, p));
+    p + format::group_size(merge)
+}
+
 // Four groups of a row, from group g on. Gives the position after their words.
 pub fn read_groups(
     row: &mut [u8],
@@ -231,9 +299,7 @@ pub fn read_groups(
 {
     let mut at = p;
     for i in 0..4 {
-        let m = merges[i];
-        store(row, w, g + i, read_group(m, words, at));
-        at += format::group_size(m);
+        at = read_into(row, w, g + i, merges[i], words, at);
     }
     at
 }

@@ -6,15 +6,43 @@ use crate::geometry::log_width;
 use group::Group;
 use row::load;
 ghost use mathlib.Core.Path.{_≡_};
-ghost use mathlib.Core.Bool.{true};
-ghost use mathlib.Core.List.{_∷_, [], _++_};
+ghost use mathlib.Core.Bool.{true, false};
+ghost use mathlib.Core.List.{_∷_, [], _++_, map};
 ghost use Prim.Native.Nat.{_+_, _*_, _/_, _%_, _^_, _<_, _≤_};
-ghost use lib.ListN.{length, take, drop};
+ghost use lib.ListN.{length, getD, take, drop};
 ghost use lib.Seq.{sets};
 ghost use Rattle.row.specs.Geometry.{stride};
 ghost use Rattle.row.specs.Rows.{groupAt};
-ghost use Rattle.image.specs.Image.{parts, slotWords, groupWords, groupsWords, layoutAt, fourWords, rowWords, rowsWords, image};
+ghost use Rattle.image.specs.Image as spec;
+ghost use Rattle.image.specs.Image.{layoutKind, countKind, parts, slotWords, groupWords, groupsWords, layoutAt, fourWords, rowWords, rowsWords, image};
 ghost use Rattle.image.specs.Write.{allValid, validRows, slotSize, groupSize};
+
+// Whether four bytes are there and all are 0.
+pub fn clear(row: &[u8], at: usize) -> bool
+    requires { ⌜ at ≤ length (now row) ⌝ }
+    ensures { λ r. ⌜ (r ≡ true → (at + 4 ≤ length (now (row .entry))) × (getD (now (row .entry)) at 0 + getD (now (row .entry)) (at + 1) 0 + getD (now (row .entry)) (at + 2) 0 + getD (now (row .entry)) (at + 3) 0 ≡ 0)) ⌝ }
+{
+    if row.len() - at < 4 {
+        return false;
+    }
+    row[at] | row[at + 1] | row[at + 2] | row[at + 3] == 0
+}
+
+// How many merge bytes are valid from one on: four that are 0, or one, or none.
+pub fn valid_run(row: &[u8], at: usize) -> usize
+    requires { ⌜ at < length (now row) ⌝ }
+    ensures { λ r. ⌜ at + r ≤ length (now (row .entry)) ⌝ }
+    ensures { λ r. ⌜ (r ≡ 0 → allValid (drop at (now (row .entry))) ≡ false) ⌝ }
+    ensures { λ r. ⌜ (0 < r → allValid (drop at (now (row .entry))) ≡ allValid (drop (at + r) (now (row .entry)))) ⌝ }
+{
+    if clear(row, at) {
+        return 4;
+    }
+    if group::is_valid(row[at]) {
+        return 1;
+    }
+    0
+}
 
 // Whether the merge bytes of a row of w slots are valid.
 pub fn row_valid(row: &[u8], w: usize) -> bool
@@ -22,10 +50,11 @@ pub fn row_valid(row: &[u8], w: usize) -> bool
 {
     let mut i = w;
     while i < row.len() {
-        if !group::is_valid(row[i]) {
+        let n = valid_run(row, i);
+        if n == 0 {
             return false;
         }
-        i += 1;
+        i += n;
     }
     true
 }
@@ -52,6 +81,9 @@ pub fn groups_size(row: &[u8], w: usize, g: usize) -> usize
     ensures { λ r. ⌜ r ≡ length (groupsWords 4 g w (now (row .entry))) ⌝ }
     ensures { λ r. ⌜ r ≤ 96 ⌝ }
 {
+    if clear(row, w + g) {
+        return 32;
+    }
     let mut n = 0;
     for i in 0..4 {
         n += group_size(row[w + g + i]);
@@ -155,14 +187,46 @@ pub fn layout_at(row: &[u8], w: usize, g: usize) -> u32
     a.value as u32
 }
 
-// The words of 32 slots, from group g on.
-pub fn put_four(words: &mut [u32], p: usize, row: &[u8], w: usize, g: usize) -> usize
+// The words of n slots that are not merged, from count byte `at` on.
+pub fn put_counts(words: &mut [u32], p: usize, row: &[u8], at: usize, n: usize)
+    requires { ⌜ p + n ≤ length (now words) ⌝ ∗ ⌜ at + n ≤ length (now row) ⌝ }
+    ensures { λ _. ⌜ now (words .exit) ≡ sets (now (words .entry)) p (map (spec.word countKind) (take n (drop at (now (row .entry))))) ⌝ }
+{
+    for i in 0..n {
+        words[p + i] = format::count_word(row[at + i]);
+    }
+}
+
+// The words of 32 slots, from group g on, if nothing is merged there.
+pub fn put_clear(words: &mut [u32], p: usize, row: &[u8], g: usize)
+    requires { ⌜ 8 * g + 32 ≤ length (now row) ⌝ ∗ ⌜ p + 33 ≤ length (now words) ⌝ }
+    ensures { λ _. ⌜ now (words .exit) ≡ sets (now (words .entry)) p (spec.word layoutKind 0 ∷ map (spec.word countKind) (take 32 (drop (8 * g) (now (row .entry))))) ⌝ }
+{
+    words[p] = 0x2000_0000;
+    put_counts(words, p + 1, row, 8 * g, 32);
+}
+
+// The words of 32 slots, from group g on, by group.
+pub fn put_mixed(words: &mut [u32], p: usize, row: &[u8], w: usize, g: usize) -> usize
     requires { ⌜ 8 * g + 32 ≤ w ⌝ ∗ ⌜ w + g + 4 ≤ length (now row) ⌝ ∗ ⌜ p + length (fourWords w (now row) g) ≤ length (now words) ⌝ }
     ensures { λ r. ⌜ r ≡ p + length (fourWords w (now (row .entry)) g) ⌝ }
     ensures { λ _. ⌜ now (words .exit) ≡ sets (now (words .entry)) p (fourWords w (now (row .entry)) g) ⌝ }
 {
     words[p] = word(format::LAYOUT, layout_at(row, w, g));
     put_groups(words, p + 1, row, w, g)
+}
+
+// The words of 32 slots, from group g on.
+pub fn put_four(words: &mut [u32], p: usize, row: &[u8], w: usize, g: usize) -> usize
+    requires { ⌜ 8 * g + 32 ≤ w ⌝ ∗ ⌜ w + g + 4 ≤ length (now row) ⌝ ∗ ⌜ p + length (fourWords w (now row) g) ≤ length (now words) ⌝ }
+    ensures { λ r. ⌜ r ≡ p + length (fourWords w (now (row .entry)) g) ⌝ }
+    ensures { λ _. ⌜ now (words .exit) ≡ sets (now (words .entry)) p (fourWords w (now (row .entry)) g) ⌝ }
+{
+    if clear(row, w + g) {
+        put_clear(words, p, row, g);
+        return p + 33;
+    }
+    put_mixed(words, p, row, w, g)
 }
 
 // The words of a row.

@@ -1,11 +1,12 @@
 use native.Mathlib.Nat.{zero-add, add-zero}
-use mathlib.Core.Path.{_≡_, ap, _∙_}
+use mathlib.Core.Path.{_≡_, sym, ap, _∙_}
 use Prim.Native.Nat.{ℕ, _+_, _-_, _*_, _≤_}
 use native.Mathlib.Omega.{arith}
 use borrow.Author.Needs.{needs}
 use lib.ListN.{length}
 use Rattle.image.specs.Image.{groupsWords}
 use Rattle.image.proofs.Laws.{groups-size-step, groups-none}
+use Rattle.image.proofs.Plain.{clear-size}
 use Rattle.image.proofs.writer.groups_size.Statement.{statement}
 use Rattle.image.proofs.writer.groups_size.Tie as tie
 
@@ -15,8 +16,18 @@ Inv-loop row w g n₀ i₀ n i = (i ≤ 4) × (n ≤ 24 * i) × (n + length (gro
 abbrev μ-loop : tie.MeasureT-loop
 μ-loop row w g n₀ i₀ n i = 4 - i
 
+add-clear : tie.Need-add-clear Inv-loop μ-loop
+add-clear c = search needs
+
+clear-requires : tie.Need-clear-requires Inv-loop μ-loop
+clear-requires c κs = search needs
+
+returns : tie.Need-returns Inv-loop μ-loop
+returns c = let a = c .before .before .before .args in
+    (sym (clear-size (a .w) (a .g) (a .row .now) (c .before .clear .ensures (c .if1 .taken) .1)), omega arith)
+
 loop-holds : tie.Need-loop-holds Inv-loop μ-loop
-loop-holds c = let a = c .before .args in
+loop-holds c = let a = c .before .before .before .args in
     (omega arith, omega arith, zero-add _ ∙ ap (λ (x : ℕ). length (groupsWords 4 x (a .w) (a .row .now))) (add-zero (a .g)))
 
 add-group-size : tie.Need-add-group-size Inv-loop μ-loop
@@ -42,12 +53,12 @@ loop-less c = search needs
 
 loop-again : tie.Need-loop-again Inv-loop μ-loop
 loop-again c = let l = c .before .before .before .loop in
-    let a = c .before .before .before .before .before .args in
+    let a = c .before .before .before .before .before .before .before .args in
     (omega arith, omega arith, omega (arith, groups-size-step 4 (l .i) (a .g) (a .w) (a .row .now) (omega arith), c .group-size .ensures .0))
 
-returns : tie.Need-returns Inv-loop μ-loop
-returns c = let l = c .before .loop in
-    let a = c .before .before .before .args in
+returns-2 : tie.Need-returns-2 Inv-loop μ-loop
+returns-2 c = let l = c .before .loop in
+    let a = c .before .before .before .before .before .args in
     (omega (arith, ap length (groups-none (4 - l .i) (a .g + l .i) (a .w) (a .row .now) (omega arith))), omega arith)
 
 pub groups-size-spec : {M : Type 1} → statement M
@@ -56,6 +67,9 @@ groups-size-spec =
     (tie.spec
     Inv-loop
     μ-loop
+    add-clear
+    clear-requires
+    returns
     loop-holds
     add-group-size
     add-group-size-2
@@ -65,4 +79,4 @@ groups-size-spec =
     add-i
     loop-less
     loop-again
-    returns)
+    returns-2)

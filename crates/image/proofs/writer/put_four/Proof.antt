@@ -1,57 +1,61 @@
-use mathlib.Core.Path.{_≡_, ap, ap₂, _∙_}
+use mathlib.Core.Path.{_≡_, sym, ap, _∙_}
+use mathlib.Core.List.{List}
 use Prim.Native.Nat.{ℕ, _+_}
 use native.Mathlib.Omega.{arith}
-use native.Mathlib.Numerals.{add-one}
-use lib.ListN.{length, set, length-set}
-use lib.Seq.{sets, length-sets}
-use Rattle.image.specs.Image.{word, layoutKind, layoutAt, groupsWords, fourWords}
+use lib.ListN.{length}
+use lib.Seq.{sets}
+use Rattle.group.proofs.Bytes.{Bytes}
 use Rattle.image.proofs.Laws.{four-length}
+use Rattle.image.proofs.Plain.{clear-words, clear-size}
 use borrow.Author.Needs.{needs}
 use Rattle.image.proofs.writer.put_four.Statement.{statement}
 use Rattle.image.proofs.writer.put_four.Tie as tie
 
-layout-at-requires : tie.Need-layout-at-requires
-layout-at-requires c κs = search needs
+add-clear : tie.Need-add-clear
+add-clear c = search needs
 
-word-requires : tie.Need-word-requires
-word-requires c κs = search needs
+clear-requires : tie.Need-clear-requires
+clear-requires c κs = search needs
 
-mul-words : tie.Need-mul-words
-mul-words c = search needs
+put-clear-requires : tie.Need-put-clear-requires
+put-clear-requires c κs = let a = c .before .before .before .before .before .args in
+    let z = c .before .before .clear .ensures (c .before .if1 .taken) .1 in
+    (omega arith, omega (arith, four-length (a .w) (a .row .now) (a .g), clear-size (a .w) (a .g) (a .row .now) z))
 
-slice-write-words : tie.Need-slice-write-words
-slice-write-words c = let a = c .before .before .before .before .args in omega (arith, four-length (a .w) (a .row .now) (a .g))
-
-add-put-groups : tie.Need-add-put-groups
-add-put-groups c = let a = c .before .before .before .before .before .args in omega (arith, four-length (a .w) (a .row .now) (a .g))
-
-put-groups-requires : tie.Need-put-groups-requires
-put-groups-requires c κs = let a = c .before .before .before .before .before .args in
-    (omega arith, (omega arith, rw (length-set (a .words .now) (a .p) (c .before .word .result)) (omega (arith, four-length (a .w) (a .row .now) (a .g)))))
+add-result : tie.Need-add-result
+add-result c = search needs
 
 same-length : tie.Need-same-length
-same-length c = let a = c .before .before .before .before .before .before .before .before .args in
-    let s = c .before .before .put-groups in
-    ap length (s .ensures .1) ∙ length-sets (set (a .words .now) (a .p) (c .before .before .before .before .word .result)) (a .p + 1) (groupsWords 4 (a .g) (a .w) (a .row .now)) ∙ length-set (a .words .now) (a .p) (c .before .before .before .before .word .result)
+same-length c = search needs
 
 returns : tie.Need-returns
-unfolding fourWords
 returns c = let a = c .before .before .before .before .before .before .before .before .args in
-    let s = c .before .before .put-groups in
-    let x : c .before .before .before .before .word .result ≡ word layoutKind (layoutAt (a .w) (a .row .now) (a .g)) = c .before .before .before .before .word .ensures ∙ ap (word layoutKind) (c .before .before .before .before .before .layout-at .ensures .0) in (
-      omega (arith, four-length (a .w) (a .row .now) (a .g), s .ensures .0),
-      s .ensures .1 ∙ ap₂ (λ (v i : ℕ). sets (set (a .words .now) (a .p) v) i (groupsWords 4 (a .g) (a .w) (a .row .now))) x (add-one (a .p)),
+    let b = c .before .before .before .before .before in
+    let z = b .clear .ensures (c .before .before .before .before .if1 .taken) .1 in
+    let t : Bytes (a .row .now) = λ i. b .before .shared-slice-known .given i .fits in (
+      omega (arith, four-length (a .w) (a .row .now) (a .g), clear-size (a .w) (a .g) (a .row .now) z),
+      c .before .before .put-clear .ensures ∙ ap (sets (a .words .now) (a .p)) (sym (clear-words (a .w) (a .g) (a .row .now) t (omega arith) z)),
     )
+
+put-mixed-requires : tie.Need-put-mixed-requires
+put-mixed-requires c κs = search needs
+
+same-length-2 : tie.Need-same-length-2
+same-length-2 c = search needs
+
+returns-2 : tie.Need-returns-2
+returns-2 c = search needs
 
 pub put-four-spec : {M : Type 1} → statement M
 put-four-spec =
     tie.close
     (tie.spec
-    layout-at-requires
-    word-requires
-    mul-words
-    slice-write-words
-    add-put-groups
-    put-groups-requires
+    add-clear
+    clear-requires
+    put-clear-requires
+    add-result
     same-length
-    returns)
+    returns
+    put-mixed-requires
+    same-length-2
+    returns-2)

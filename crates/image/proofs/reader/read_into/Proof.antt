@@ -1,0 +1,91 @@
+use mathlib.Core.Path.{_≡_, sym, ap, _∙_}
+use mathlib.Core.List.{List}
+use Prim.Native.Nat.{ℕ, _+_}
+use native.Mathlib.Omega.{arith}
+use lib.ListN.{set}
+use Rattle.row.specs.Rows.{withGroup}
+use Rattle.image.specs.Write.{groupSize}
+use Rattle.image.specs.Read.{readGroup}
+use Rattle.image.proofs.Plain.{plain-read, plain-size}
+use borrow.Author.Needs.{needs}
+use Rattle.image.proofs.reader.read_into.Statement.{statement}
+use Rattle.image.proofs.reader.read_into.Tie as tie
+
+are-counts-requires : tie.Need-are-counts-requires
+are-counts-requires c κs = search needs
+
+mul-read-counts : tie.Need-mul-read-counts
+mul-read-counts c = search needs
+
+read-counts-requires : tie.Need-read-counts-requires
+read-counts-requires c κs = let z = c .before .before .are-counts .ensures (c .before .if2 .taken) in
+    (omega arith, z .0)
+
+add-row : tie.Need-add-row
+add-row c = search needs
+
+slice-write-row : tie.Need-slice-write-row
+slice-write-row c = search needs
+
+add-result : tie.Need-add-result
+add-result c = search needs
+
+same-length : tie.Need-same-length
+same-length c = search needs
+
+returns : tie.Need-returns
+returns c = let a = c .before .before .before .before .before .before .before .before .before .args in
+    let z = c .before .before .before .before .before .are-counts .ensures (c .before .before .before .before .if2 .taken) in
+    let m = c .before .before .before .before .before .before .if1 .taken in
+    let n : groupSize (a .merge) ≡ 8 = plain-size (a .merge) m in (
+      omega (arith, n),
+      (
+        omega arith,
+        ap (λ (x : List ℕ). set x (a .w + a .g) 0) (c .before .before .read-counts .ensures)
+            ∙ plain-read (a .w) (a .g) (a .row .now) (a .words .now) (a .p) (omega arith) (z .0) (z .1)
+            ∙ ap (λ (x : ℕ). withGroup (a .w) (a .row .now) (a .g) (readGroup x (a .words .now) (a .p))) (sym m),
+      ),
+    )
+
+read-group-requires : tie.Need-read-group-requires
+read-group-requires c κs = search needs
+
+store-requires : tie.Need-store-requires
+store-requires c κs = search needs
+
+group-size-requires : tie.Need-group-size-requires
+group-size-requires c κs = search needs
+
+add-result-2 : tie.Need-add-result-2
+add-result-2 c = search needs
+
+same-length-2 : tie.Need-same-length-2
+same-length-2 c = search needs
+
+returns-2 : tie.Need-returns-2
+returns-2 c = let a = c .before .before .before .before .before .before .before .before .before .args in (
+  omega (arith, c .group-size .ensures .0),
+  (
+    omega arith,
+    c .before .before .before .store .ensures ∙ ap (withGroup (a .w) (a .row .now) (a .g)) (c .before .before .before .before .read-group .ensures),
+  ),
+)
+
+pub read-into-spec : {M : Type 1} → statement M
+read-into-spec =
+    tie.close
+    (tie.spec
+    are-counts-requires
+    mul-read-counts
+    read-counts-requires
+    add-row
+    slice-write-row
+    add-result
+    same-length
+    returns
+    read-group-requires
+    store-requires
+    group-size-requires
+    add-result-2
+    same-length-2
+    returns-2)
