@@ -7,15 +7,13 @@ use native.Mathlib.Omega.{arith}
 use borrow.Author.Tests.{eqb-true}
 use lib.Bits.{bitAnd, bitOr}
 use lib.Dec.{eqb}
-use Rattle.layout.specs.Layout.{bit, marks, layout, valid, ones, widest}
-use Rattle.layout.specs.Code.{layouts, mergedCode, code, uncode}
+use Rattle.layout.specs.Layout.{bit, layout, valid, ones, widest}
 use Rattle.layout.proofs.Laws.{marks-lt, marks-layout}
 use Rattle.block.specs.Block.{cap, block, counterAt}
 use Rattle.block.specs.Sum.{fits, unite}
 use Rattle.block.proofs.Carries.{bounds, carries, unite-in-place}
 use Rattle.block.proofs.Laws.{shape-fill}
 use Rattle.block.proofs.Slots.{levelOf, level-is}
-use Rattle.group.specs.Pack.{mergeCode}
 
 -- a test passed by every number below n
 pub every : (ℕ → Bool) → ℕ → Bool
@@ -86,28 +84,6 @@ all-widest = refl
 
 pub bits-widest : (m : ℕ) → m < 256 → valid 3 m ≡ true → bitsWidest m ≡ widest (layout 3 m)
 bits-widest m h v = eqb-true (bitsWidest m) (widest (layout 3 m)) (valid-at (λ m. eqb (bitsWidest m) (widest (layout 3 m))) all-widest m h v)
-
--- the layout code: a half's is 2 for its first pair, 1 for its second and 1 for itself
-abbrev pub bitsCode : ℕ → ℕ
-bitsCode m = (m % 2 * 2 + m / 2 % 2 + m / 4 % 2) * 5 + (m / 16 % 2 * 2 + m / 32 % 2 + m / 64 % 2) + m / 8 % 2
-
-all-codes : every (λ m. cond (valid 3 m) (eqb (bitsCode m) (mergeCode m)) true) 256 ≡ true
-unfolding every valid ones layout bit code mergedCode layouts
-all-codes = refl
-
-pub bits-code : (m : ℕ) → m < 256 → valid 3 m ≡ true → bitsCode m ≡ mergeCode m
-bits-code m h v = eqb-true (bitsCode m) (mergeCode m) (valid-at (λ m. eqb (bitsCode m) (mergeCode m)) all-codes m h v)
-
--- the merge bits of a half by its code
-abbrev pub codeBits : ℕ → ℕ
-codeBits c = c / 2 % 2 + c / 4 + c / 4 * 2 + (c % 2 + c / 4) * 4
-
-all-halves : every (λ c. eqb (codeBits c) (marks (uncode 2 c))) 5 ≡ true
-unfolding every marks ones uncode mergedCode layouts
-all-halves = refl
-
-pub code-bits : (c : ℕ) → c < 5 → codeBits c ≡ marks (uncode 2 c)
-code-bits c h = eqb-true (codeBits c) (marks (uncode 2 c)) (every-at (λ c. eqb (codeBits c) (marks (uncode 2 c))) 5 c all-halves h)
 
 -- where counters start: bit k of the merge byte at bit 8 * (k + 1), turned over
 pub valid-below : (m : ℕ) → valid 3 m ≡ true → m < 128

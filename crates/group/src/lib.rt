@@ -329,18 +329,6 @@ pub fn widest(merge: u8) -> Answer
     accepted(widest_level(merge) as u64)
 }
 
-// The layout code of a valid merge byte. A half's code is 2 for its first pair, 1 for its second and 1 for itself, a group's 5 for
-// each of its left half's, one for each of its right half's and 1 for itself.
-fn merge_code(merge: u8) -> u32
-    requires { ⌜ valid 3 merge ≡ true ⌝ }
-    ensures { λ r. ⌜ r ≡ mergeCode merge ⌝ }
-    ensures { λ r. ⌜ r ≤ 25 ⌝ }
-{
-    let left = (merge % 2) * 2 + ((merge >> 1) % 2) + ((merge >> 2) % 2);
-    let right = ((merge >> 4) % 2) * 2 + ((merge >> 5) % 2) + ((merge >> 6) % 2);
-    (left * 5 + right + ((merge >> 3) % 2)) as u32
-}
-
 // The layout code of a group.
 pub fn code(merge: u8) -> Answer
     ensures { λ r. ⌜ r ≡ groupCode merge ⌝ }
@@ -348,7 +336,7 @@ pub fn code(merge: u8) -> Answer
     if !is_valid(merge) {
         return rejected(INVALID_MERGE);
     }
-    accepted(merge_code(merge) as u64)
+    accepted(layout::code(3, merge) as u64)
 }
 
 fn four_valid(a: u8, b: u8, c: u8, d: u8) -> bool
@@ -371,30 +359,8 @@ pub fn pack(a: u8, b: u8, c: u8, d: u8) -> Answer
     if !four_valid(a, b, c, d) {
         return rejected(INVALID_MERGE);
     }
-    let high = merge_code(a) * 17576 + merge_code(b) * 676;
-    accepted((high + merge_code(c) * 26 + merge_code(d)) as u64)
-}
-
-// The merge bits of a half of a group by its layout code.
-fn half_merge(code: u32) -> u8
-    requires { ⌜ code < 5 ⌝ }
-    ensures { λ r. ⌜ r ≡ marks (uncode 2 code) ⌝ }
-    ensures { λ r. ⌜ r < 8 ⌝ }
-{
-    let both = code / 4;
-    (code / 2 % 2 + both + both * 2 + (code % 2 + both) * 4) as u8
-}
-
-// The merge byte of a layout code.
-fn code_merge(code: u32) -> u8
-    requires { ⌜ code < 26 ⌝ }
-    ensures { λ r. ⌜ r ≡ codeMerge code ⌝ }
-{
-    if code == 25 {
-        return 127;
-    }
-    let left = half_merge(code / 5);
-    half_merge(code % 5) * 16 + left
+    let high = layout::code(3, a) * 17576 + layout::code(3, b) * 676;
+    accepted((high + layout::code(3, c) * 26 + layout::code(3, d)) as u64)
 }
 
 // The merge bytes of the four groups that a layout code stands for.
@@ -407,10 +373,10 @@ pub fn unpack(code: u32) -> Unpacked
             merges: [0; 4],
         };
     }
-    let a = code_merge(code / 17576);
-    let b = code_merge(code / 676 % 26);
-    let c = code_merge(code / 26 % 26);
-    let d = code_merge(code % 26);
+    let a = layout::unpack(3, code / 17576);
+    let b = layout::unpack(3, code / 676 % 26);
+    let c = layout::unpack(3, code / 26 % 26);
+    let d = layout::unpack(3, code % 26);
     Unpacked {
         answer: accepted(0),
         merges: [a, b, c, d],

@@ -1,13 +1,15 @@
 -- Laws of layout codes, for any level.
 use mathlib.Core.Path.{_≡_, refl, sym}
 use mathlib.Core.Bool.{Bool, true, false, cond}
-use Prim.Native.Nat.{ℕ, zero, suc, _+_, _*_, _/_, _%_, _<_}
-use native.Mathlib.Nat.{mod-lt, div-lt-iff-lt-mul, div-add-mod'}
+use Prim.Native.Nat.{ℕ, zero, suc, _+_, _-_, _*_, _/_, _%_, _^_, _≤_, _<_}
+use native.Mathlib.Nat.{mod-lt, div-lt-iff-lt-mul, div-add-mod', mul-le-mul-right}
+use native.Mathlib.Decide.{le-ind}
+use native.Mathlib.Numerals.{sub-one}
 use native.Mathlib.Omega.{arith}
 use borrow.Author.Tests.{eq-eqb, ne-eqb, eqb-true, eqb-false}
 use lib.Arith.{digits-lt, digits-div, digits-mod, lt-of-le-ne}
 use lib.Dec.{eqb}
-use Rattle.layout.specs.Layout.{Layout, merged, halves}
+use Rattle.layout.specs.Layout.{Layout, merged, halves, marks, layout}
 use Rattle.layout.specs.Code.{layouts, mergedCode, code, uncode}
 
 pub layouts-pos : (n : ℕ) → 0 < layouts n
@@ -63,3 +65,47 @@ code-uncode (suc n) c h = go (eqb c (layouts n * layouts n)) refl
     go false e l r =
         let below : c < layouts n * layouts n = lt-of-le-ne (omega arith) (eqb-false c (layouts n * layouts n) e) in
         rw (l below, r) (div-add-mod' c (layouts n))
+
+-- a higher level has more layouts
+layouts-up : (m n : ℕ) → m ≤ n → layouts m ≤ layouts n
+unfolding layouts
+layouts-up m n h =
+    le-ind (λ (k : ℕ). layouts m ≤ layouts k) (omega arith)
+    (λ k l e. omega (arith, mul-le-mul-right {m = 1} {n = layouts k} (layouts k) (layouts-pos k))) n h
+
+pub layouts-below-three : (n : ℕ) → n ≤ 2 → layouts n ≤ 5
+unfolding layouts
+layouts-below-three n h = layouts-up n 2 h
+
+pub code-small : (n : ℕ) → n ≤ 3 → (L : Layout n) → code L ≤ 25
+unfolding layouts
+code-small n h L = omega (arith, code-lt L, layouts-up n 3 h)
+
+-- a code as the contract has it
+pub with-bound : {x : ℕ} (n m : ℕ) → n ≤ 3 → x ≡ code (layout n m) → (x ≡ code (layout n m)) × (x ≤ 25)
+with-bound n m h e = (e, rw e (code-small n h (layout n m)))
+
+pub layouts-more : (n : ℕ) → 0 < n → layouts n ≡ layouts (n - 1) * layouts (n - 1) + 1
+unfolding layouts
+layouts-more zero h = absurd (omega arith)
+layouts-more (suc n) h = rw (sub-one (suc n))
+
+-- the codes of the halves
+pub halves-lt : (n c : ℕ) → 0 < n → c < layouts n → (c ≡ layouts (n - 1) * layouts (n - 1) → ⊥)
+    → (c / layouts (n - 1) < layouts (n - 1)) × (c % layouts (n - 1) < layouts (n - 1))
+halves-lt n c h k e =
+    let a = layouts (n - 1) in
+    let below : c < a * a = lt-of-le-ne (omega (arith, layouts-more n h)) e in
+    (div-lt-iff-lt-mul {k = a} {x = c} {y = a} (layouts-pos (n - 1)) .1 below, mod-lt c (layouts-pos (n - 1)))
+
+-- what unpacking meets
+pub uncode-merged : (n c : ℕ) → 0 < n → c ≡ layouts (n - 1) * layouts (n - 1) → uncode n c ≡ merged
+unfolding uncode mergedCode
+uncode-merged zero c h e = absurd (omega arith)
+uncode-merged (suc n) c h e = rw (eq-eqb c (layouts n * layouts n) (rw (sub-one (suc n)) at e))
+
+pub uncode-apart : (n c : ℕ) → 0 < n → (c ≡ layouts (n - 1) * layouts (n - 1) → ⊥)
+    → marks (uncode n c) ≡ marks (uncode (n - 1) (c % layouts (n - 1))) * 2 ^ (2 ^ (n - 1)) + marks (uncode (n - 1) (c / layouts (n - 1)))
+unfolding uncode mergedCode marks
+uncode-apart zero c h e = absurd (omega arith)
+uncode-apart (suc n) c h e = rw (sub-one (suc n), ne-eqb c (layouts n * layouts n) (rw (sub-one (suc n)) at e))

@@ -6,7 +6,7 @@ use Prim.Native.Nat.{ℕ, zero, suc, _+_, _-_, _*_, _/_, _%_, _^_, _≤_, _<_}
 use native.Mathlib.Nat.{mul-assoc, mul-comm, pow-suc, mul-mod-left, one-mul, mod-eq-of-lt}
 use native.Mathlib.Numerals.{sub-one}
 use native.Mathlib.Omega.{arith}
-use borrow.Author.Tests.{eq-eqb, eqb-true}
+use borrow.Author.Tests.{eq-eqb, ne-eqb, eqb-true}
 use lib.Arith.{digits-lt}
 use lib.Dec.{eqb}
 use lib.Pow.{pow-pos, pow-lt, pow-add, ones-lt, ones-split, high, low, split}
@@ -113,7 +113,8 @@ unfolding widest
 widest-le merged = omega arith
 widest-le (halves l r) = omega (arith, widest-le l, widest-le r)
 
--- what the recursions on the level meet: a merged block or two halves
+-- What the recursions on the level meet: a merged block or two halves. A function of the layout is taken where the halves' level is
+-- n - 1, since n is its successor only by a proof.
 pub is-merged : {n : ℕ} (L : Layout n) → isMerged L ≡ true → L ≡ merged
 unfolding isMerged
 is-merged merged e = refl
@@ -140,8 +141,23 @@ pub layout-suc : (n m : ℕ) → isMerged (layout (suc n) m) ≡ false → layou
 unfolding layout
 layout-suc n m e = rw (own-clear n m e)
 
+pub layout-apart : {A : Type 0} (f : (n : ℕ) → Layout n → A) (n m : ℕ) → isMerged (layout n m) ≡ false
+    → f n (layout n m) ≡ f (suc (n - 1)) (halves (layout (n - 1) (m % 2 ^ (2 ^ (n - 1)))) (layout (n - 1) (m / 2 ^ (2 ^ (n - 1)))))
+layout-apart f zero m e = absurd (omega (arith, above-slot zero m e))
+layout-apart f (suc n) m e = rw (sub-one (suc n)) (ap (f (suc n)) (layout-suc n m e))
+
 -- valid bits of a block that is not merged are valid in both halves
 pub valid-apart : (n m : ℕ) → isMerged (layout n m) ≡ false → valid n m ≡ true
     → (valid (n - 1) (m % 2 ^ (2 ^ (n - 1))) ≡ true) × (valid (n - 1) (m / 2 ^ (2 ^ (n - 1))) ≡ true)
 valid-apart zero m e v = absurd (omega (arith, above-slot zero m e))
 valid-apart (suc n) m e v = rw (sub-one (suc n)) (valid-halves n m v (own-clear n m e))
+
+pub valid-all : (n m : ℕ) → m ≡ ones n → valid n m ≡ true
+unfolding marks
+valid-all n m e = ap (valid n) e ∙ valid-marks {n = n} merged
+
+pub valid-more : (n m : ℕ) → 0 < n → (m ≡ ones n → ⊥)
+    → valid n m ≡ (valid (n - 1) (m % 2 ^ (2 ^ (n - 1))) && valid (n - 1) (m / 2 ^ (2 ^ (n - 1))))
+unfolding valid
+valid-more zero m h k = absurd (omega arith)
+valid-more (suc n) m h k = rw (ne-eqb m (ones (suc n)) k, sub-one (suc n))

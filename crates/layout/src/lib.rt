@@ -1,8 +1,10 @@
-// The merge bits of a block, as a number: whether it is merged, its halves, and the block that has these halves.
+// The merge bits of a block and its layout code. Each function takes the block's level and its merge bits as a number; those that
+// take a block apart recurse on the level.
 ghost use mathlib.Core.Path.{_≡_};
 ghost use Prim.Native.Nat.{_+_, _-_, _*_, _/_, _%_, _^_, _<_, _≤_};
 ghost use Rattle.layout.specs.Layout as spec;
-ghost use Rattle.layout.specs.Layout.{bit, layout};
+ghost use Rattle.layout.specs.Layout.{bit, layout, marks};
+ghost use Rattle.layout.specs.Code as code_spec;
 
 // The number of slots of a block of level 0 to 2, half of a larger one.
 pub fn slots(half: u32) -> u8
@@ -64,4 +66,48 @@ pub fn beside(half: u32, left: u8, right: u8) -> u8
     ensures { λ r. ⌜ r ≡ right * 2 ^ (2 ^ half) + left ⌝ }
 {
     (right << slots(half)) | left
+}
+
+// The number of layouts of a block.
+pub fn layouts(level: u32) -> u32
+    requires { ⌜ level ≤ 3 ⌝ }
+    ensures { λ r. ⌜ r ≡ code_spec.layouts level ⌝ }
+    ensures { λ r. ⌜ (1 ≤ r) × (r ≤ 26) ⌝ }
+{
+    if level == 0 {
+        return 1;
+    }
+    let n = layouts(level - 1);
+    n * n + 1
+}
+
+// The layout code of a block.
+pub fn code(level: u32, merge: u8) -> u32
+    requires { ⌜ level ≤ 3 ⌝ }
+    ensures { λ r. ⌜ r ≡ code_spec.code (layout level merge) ⌝ }
+    ensures { λ r. ⌜ r ≤ 25 ⌝ }
+{
+    if is_merged(level, merge) {
+        return layouts(level) - 1;
+    }
+    let half = level - 1;
+    let left = code(half, low(half, merge));
+    left * layouts(half) + code(half, high(half, merge))
+}
+
+// The merge bits of the layout that a code stands for.
+pub fn unpack(level: u32, code: u32) -> u8
+    requires { ⌜ level ≤ 3 ⌝ ∗ ⌜ code < code_spec.layouts level ⌝ }
+    ensures { λ r. ⌜ r ≡ marks (code_spec.uncode level code) ⌝ }
+{
+    if level == 0 {
+        return 0;
+    }
+    let half = level - 1;
+    let n = layouts(half);
+    if code == n * n {
+        return ones(level);
+    }
+    let left = unpack(half, code / n);
+    beside(half, left, unpack(half, code % n))
 }

@@ -8,9 +8,6 @@ use borrow.Author.Needs.{needs}
 use Rattle.group.proofs.code.Statement.{statement}
 use Rattle.group.proofs.code.Tie as tie
 
-is-sane : (c : tie.Else1) → valid 3 (c .before .before .args .merge) ≡ true
-is-sane c = sym (c .before .is-valid .ensures) ∙ not-false _ (c .if1 .left)
-
 is-valid-requires : tie.Need-is-valid-requires
 is-valid-requires c κs = search needs
 
@@ -22,8 +19,8 @@ unfolding groupCode
 returns c = let v : valid 3 (c .before .before .before .args .merge) ≡ false = sym (c .before .before .is-valid .ensures) ∙ not-true _ (c .before .if1 .taken) in
     rw v (c .rejected .ensures)
 
-merge-code-requires : tie.Need-merge-code-requires
-merge-code-requires c κs = is-sane c
+code-requires : tie.Need-code-requires
+code-requires c κs = search needs
 
 cast-accepted : tie.Need-cast-accepted
 cast-accepted c = search needs
@@ -33,7 +30,8 @@ accepted-requires c κs = search needs
 
 returns-2 : tie.Need-returns-2
 unfolding groupCode
-returns-2 c = rw (is-sane (c .before .before)) (c .accepted .ensures ∙ ap accepted (c .before .merge-code .ensures .0))
+returns-2 c = let v : valid 3 (c .before .before .before .before .args .merge) ≡ true = sym (c .before .before .before .is-valid .ensures) ∙ not-false _ (c .before .before .if1 .left) in
+    rw v (c .accepted .ensures ∙ ap accepted (c .before .code .ensures .0))
 
 pub code-spec : {M : Type 1} → statement M
 code-spec =
@@ -42,7 +40,7 @@ code-spec =
     is-valid-requires
     rejected-requires
     returns
-    merge-code-requires
+    code-requires
     cast-accepted
     accepted-requires
     returns-2)

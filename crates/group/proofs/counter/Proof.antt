@@ -5,7 +5,6 @@ use native.Mathlib.Omega.{arith}
 use borrow.Author.Tests.{not-true, not-false}
 use Rattle.layout.specs.Layout.{valid}
 use Rattle.block.specs.Block.{cap}
-use Rattle.group.specs.declared.Reading.{Reading}
 use Rattle.group.specs.Group.{read, reading, decode}
 use Rattle.group.proofs.Places.{counter-at}
 use borrow.Author.Needs.{needs}

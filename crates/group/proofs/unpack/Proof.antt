@@ -2,6 +2,7 @@ use mathlib.Core.Path.{ap}
 use native.Mathlib.Omega.{arith}
 use mathlib.Core.List.{_∷_, []}
 use borrow.Author.Tests.{lt-ltb, le-ltb}
+use Rattle.layout.specs.Code.{layouts}
 use Rattle.group.specs.declared.Answer.{Answer}
 use Rattle.group.specs.Pack.{unpacked, fourMerges}
 use borrow.Author.Needs.{needs}
@@ -16,17 +17,21 @@ unfolding unpacked
 returns c = rw (le-ltb (c .before .before .args .code) 456976 (c .before .if1 .taken))
     (ap (λ (x : Answer). record { answer = x; merges = 0 ∷ 0 ∷ 0 ∷ 0 ∷ [] }) (c .rejected .ensures))
 
-code-merge-requires : tie.Need-code-merge-requires
-code-merge-requires c κs = omega arith
+unpack-requires : tie.Need-unpack-requires
+unfolding layouts
+unpack-requires c κs = (omega arith, omega arith)
 
-code-merge-requires-2 : tie.Need-code-merge-requires-2
-code-merge-requires-2 c κs = omega arith
+unpack-requires-2 : tie.Need-unpack-requires-2
+unfolding layouts
+unpack-requires-2 c κs = (omega arith, omega arith)
 
-code-merge-requires-3 : tie.Need-code-merge-requires-3
-code-merge-requires-3 c κs = omega arith
+unpack-requires-3 : tie.Need-unpack-requires-3
+unfolding layouts
+unpack-requires-3 c κs = (omega arith, omega arith)
 
-code-merge-requires-4 : tie.Need-code-merge-requires-4
-code-merge-requires-4 c κs = omega arith
+unpack-requires-4 : tie.Need-unpack-requires-4
+unfolding layouts
+unpack-requires-4 c κs = (omega arith, omega arith)
 
 accepted-requires : tie.Need-accepted-requires
 accepted-requires c κs = search needs
@@ -36,10 +41,10 @@ unfolding unpacked fourMerges
 returns-2 c = rw (
   lt-ltb (c .before .before .before .before .before .before .args .code) 456976 (c .before .before .before .before .before .if1 .left),
   c .accepted .ensures,
-  c .before .before .before .before .code-merge .ensures,
-  c .before .before .before .code-merge2 .ensures,
-  c .before .before .code-merge3 .ensures,
-  c .before .code-merge4 .ensures,
+  c .before .before .before .before .unpack .ensures,
+  c .before .before .before .unpack2 .ensures,
+  c .before .before .unpack3 .ensures,
+  c .before .unpack4 .ensures,
 )
 
 pub unpack-spec : {M : Type 1} → statement M
@@ -48,9 +53,9 @@ unpack-spec =
     (tie.spec
     rejected-requires
     returns
-    code-merge-requires
-    code-merge-requires-2
-    code-merge-requires-3
-    code-merge-requires-4
+    unpack-requires
+    unpack-requires-2
+    unpack-requires-3
+    unpack-requires-4
     accepted-requires
     returns-2)
