@@ -123,7 +123,7 @@ fn rate(calls: usize, time: f64) -> String {
 }
 
 fn heading(first: &str) {
-    println!("\n| {first} | proved | plain C | Count-Min | time, proved to C | time, proved to Count-Min |");
+    println!("\n| {first} | proved | plain C | Count-Min | speed, proved to C | speed, proved to Count-Min |");
     println!("|---|---|---|---|---|---|");
 }
 
@@ -134,8 +134,8 @@ fn line(name: &str, calls: usize, times: &[f64]) {
         rate(calls, times[0]),
         rate(calls, times[1]),
         count_min.map_or("–".into(), |t| rate(calls, *t)),
-        times[0] / times[1],
-        count_min.map_or("–".into(), |t| format!("{:.2}", times[0] / t)),
+        times[1] / times[0],
+        count_min.map_or("–".into(), |t| format!("{:.2}", t / times[0])),
     );
 }
 
