@@ -1,19 +1,20 @@
 -- What a call does in each row by the slots of the rows, and that these are the key's.
 use mathlib.Core.Path.{_≡_, refl, sym, ap, ap₂, _∙_}
-use mathlib.Core.List.{List, [], _∷_, _++_}
+use mathlib.Core.List.{List, [], _∷_, _++_, append-nil}
 use Prim.Native.Nat.{ℕ, zero, suc, _+_, _*_, _/_, _≤_, _<_}
-use native.Mathlib.Nat.{zero-mul, suc-mul, zero-add, add-zero, le-of-suc-le-suc}
+use native.Mathlib.Nat.{zero-mul, suc-mul, zero-add, add-zero, one-mul}
 use native.Mathlib.Decide.{decLt}
 use native.Mathlib.Omega.{arith}
-use lib.ListN.{length, getD, take, drop, set}
-use lib.Seq.{drop-drop, getD-set-same, getD-set-other}
+use lib.ListN.{length, getD, take, drop, set, drop-of-length-le}
+use lib.Seq.{take-all, drop-drop, getD-set-same, getD-set-other}
 use Rattle.group.specs.declared.Group.{Group}
 use Rattle.group.specs.Group.{read}
 use Rattle.group.specs.Hash.{basis}
-use Rattle.row.specs.Geometry.{stride}
+use Rattle.row.specs.Geometry.{stride, size}
 use Rattle.row.specs.Order.{earliest}
-use Rattle.row.specs.Rows.{mapRows, ofRows, groupAt, withGroup, least}
+use Rattle.row.specs.Rows.{mapRows, ofRows, groupAt, withGroup, leastOr, least}
 use Rattle.row.specs.Row.{keySlot, addedIn, updateStatus, updateRow, readRow}
+use Rattle.row.proofs.Widths.{earlier-none}
 use Rattle.meter.specs.Meter.{rowOf, readStatus, readValue}
 
 -- an array filled from the front: one element more
@@ -53,6 +54,15 @@ module _ (s : ℕ) where
   unfolding mapRows
   maps-same f g zero r memory h = refl
   maps-same f g (suc n) r memory h = ap₂ _++_ (first f g n r memory h) (maps-same f g n (r + 1) (drop s memory) (later f g n r memory h))
+
+-- a memory of one row
+pub one-read : (f : ℕ → List ℕ → ℕ) (s : ℕ) (memory : List ℕ) → length memory ≡ s → ofRows f s 1 0 memory ≡ f 0 memory ∷ []
+unfolding ofRows
+one-read f s memory l = rw (take-all s memory (omega arith))
+
+pub one-map : (f : ℕ → List ℕ → List ℕ) (s : ℕ) (memory : List ℕ) → length memory ≡ s → mapRows f s 1 0 memory ≡ f 0 memory
+unfolding mapRows
+one-map f s memory l = rw (take-all s memory (omega arith), drop-of-length-le memory {i = s} (omega arith)) (append-nil (f 0 memory))
 
 -- what an update and an estimate read of a row by its slot, and what an update leaves of it
 abbrev pub addedStatus : ℕ → List ℕ → ℕ → ℕ → List ℕ → ℕ
@@ -112,3 +122,40 @@ module _ (d w : ℕ) (memory key slots : List ℕ) {state : ℕ} (start : state 
       (λ k h.
       let row = take (stride w) (drop (k * stride w) memory) in
       ap (λ (s : ℕ). withGroup w row (s / 8) (addedIn w row s amount .group)) (slot-at k h))
+
+-- the same of a meter of one row, by its one slot
+pub one-long : (d w bytes : ℕ) → d ≡ 1 → bytes ≡ size d w → bytes ≡ stride w
+unfolding size
+one-long d w bytes one l = l ∙ ap (λ (n : ℕ). n * stride w) one ∙ one-mul (stride w)
+
+module _ (d w : ℕ) (memory key : List ℕ) (one : d ≡ 1) (long : length memory ≡ stride w) {state slot : ℕ} (start : state ≡ basis) (at : slot ≡ keySlot state w key 0) where
+  at-basis : slot ≡ keySlot basis w key 0
+  at-basis = at ∙ ap (λ (s : ℕ). keySlot s w key 0) start
+
+  one-earliest : (f : ℕ → List ℕ → ℕ) → f 0 memory ≡ earliest (ofRows f (stride w) d 0 memory)
+  unfolding earliest
+  one-earliest f =
+      sym (earlier-none (f 0 memory)) ∙ ap earliest (sym (one-read f (stride w) memory long)) ∙ ap (λ (n : ℕ). earliest (ofRows f (stride w) n 0 memory)) (sym one)
+
+  pub one-status : (amount : ℕ) → addedIn w memory slot amount .status ≡ earliest (ofRows (updateStatus basis w key amount) (stride w) d 0 memory)
+  unfolding updateStatus
+  one-status amount = ap (λ (s : ℕ). addedIn w memory s amount .status) at-basis ∙ one-earliest (updateStatus basis w key amount)
+
+  pub one-added : (amount : ℕ)
+      → withGroup w memory (slot / 8) (addedIn w memory slot amount .group) ≡ mapRows (updateRow basis w key amount) (stride w) d 0 memory
+  unfolding updateRow
+  one-added amount =
+      ap (λ (s : ℕ). withGroup w memory (s / 8) (addedIn w memory s amount .group)) at-basis
+      ∙ sym (one-map (updateRow basis w key amount) (stride w) memory long)
+      ∙ ap (λ (n : ℕ). mapRows (updateRow basis w key amount) (stride w) n 0 memory) (sym one)
+
+  pub one-read-status : read (groupAt w memory (slot / 8)) slot .status ≡ earliest (ofRows (readStatus w key) (stride w) d 0 memory)
+  unfolding readStatus readRow
+  one-read-status = ap (λ (s : ℕ). read (groupAt w memory (s / 8)) s .status) at-basis ∙ one-earliest (readStatus w key)
+
+  pub one-read-value : read (groupAt w memory (slot / 8)) slot .value ≡ least (ofRows (readValue w key) (stride w) d 0 memory)
+  unfolding readValue readRow least leastOr
+  one-read-value =
+      ap (λ (s : ℕ). read (groupAt w memory (s / 8)) s .value) at-basis
+      ∙ ap least (sym (one-read (readValue w key) (stride w) memory long))
+      ∙ ap (λ (n : ℕ). least (ofRows (readValue w key) (stride w) n 0 memory)) (sym one)

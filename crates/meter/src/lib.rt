@@ -8,6 +8,7 @@ use row::bad_key;
 use row::bad_shape;
 use row::earlier;
 use row::keys::key_slots;
+use row::keys::row_slot;
 ghost use mathlib.Core.Path.{_≡_};
 ghost use mathlib.Core.Bool.{cond};
 ghost use mathlib.Core.List.{List};
@@ -71,8 +72,8 @@ fn row_at(w: usize, memory: &[u8], r: usize) -> &[u8]
 
 // The groups that an update leaves in the rows, and the first status.
 struct Trial {
-    status: u8,
     groups: [Group; 8],
+    status: u8,
 }
 
 // An amount added in the slot's group of each row. Stores nothing.
@@ -85,15 +86,19 @@ fn try_rows(d: usize, w: usize, memory: &[u8], slots: &[usize; 8], amount: u32) 
         counts: [0u8; 8],
         merge: 0,
     };
-    let mut groups = [none; 8];
+    let mut t = Trial {
+        groups: [none; 8],
+        status: 0,
+    };
     let mut status = 0u8;
     for r in 0..d {
         let o = row::added_in(row_at(w, memory, r), w, slots[r], amount);
         let g = o.group;
-        groups[r] = g;
+        t.groups[r] = g;
         status = earlier(status, o.status);
     }
-    Trial { status, groups }
+    t.status = status;
+    t
 }
 
 // An update of each row in the group of a slot, once every row is known to take it; else the first status.
@@ -123,6 +128,10 @@ pub fn update(d: usize, w: usize, memory: &mut [u8], key: &[u8], amount: u32) ->
     let bad = bad_call(d, w, memory, key);
     if bad != 0 {
         return answer(bad, 0);
+    }
+    if d == 1 {
+        let slot = row_slot(Hash::start(), w, key, 0);
+        return answer(row::update_one(memory, w, slot, amount), 0);
     }
     let slots = key_slots(Hash::start(), w, key, d);
     answer(update_rows(d, w, memory, &slots, amount), 0)
@@ -162,6 +171,10 @@ pub fn estimate(d: usize, w: usize, memory: &[u8], key: &[u8]) -> Answer
     let bad = bad_call(d, w, memory, key);
     if bad != 0 {
         return answer(bad, 0);
+    }
+    if d == 1 {
+        let c = row::read_row(memory, w, row_slot(Hash::start(), w, key, 0));
+        return answer(c.status, c.value);
     }
     let slots = key_slots(Hash::start(), w, key, d);
     let found = read_rows(d, w, memory, &slots);

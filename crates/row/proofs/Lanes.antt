@@ -21,12 +21,8 @@ pub lane-slot : (state w : ℕ) (key : List ℕ) (r : ℕ) {s x y : ℕ} → s �
 unfolding keySlot fnv
 lane-slot state w key r e f g = e ∙ ap (λ (h : ℕ). slotOf h w) (f ∙ ap (λ (h : ℕ). fnv h key) g)
 
--- what holds of one row, of each of four rows, and of each of eight
+-- what holds of each of four rows, and of each of eight
 module _ (P : ℕ → ℕ → Type 0) where
-  pub in-one : (a : ℕ) (rest : List ℕ) → P 0 a → (r : ℕ) → r < 1 → P r (getD (a ∷ rest) r 0)
-  in-one a rest p zero h = p
-  in-one a rest p (suc r) h = absurd (omega arith)
-
   pub in-four : (a b c d : ℕ) (rest : List ℕ) → P 0 a → P 1 b → P 2 c → P 3 d → (r : ℕ) → r < 4 → P r (getD (a ∷ b ∷ c ∷ d ∷ rest) r 0)
   in-four a b c d rest p q s t zero h = p
   in-four a b c d rest p q s t (suc zero) h = q

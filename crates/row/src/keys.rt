@@ -1,4 +1,4 @@
-// The slots of a key, in one row and in all rows of a meter. The hashes of four rows advance side by side: none waits for another.
+// The slots of a key, in one row and in several. The hashes of four rows advance side by side: none waits for another.
 use group::hash::Hash;
 ghost use mathlib.Core.Path.{_≡_};
 ghost use mathlib.Core.Bool.{true};
@@ -64,7 +64,7 @@ impl Four {
 }
 
 // The slot of a key in row r, by a hash that goes on from `start`.
-fn row_slot(start: Hash, w: usize, key: &[u8], r: u8) -> usize
+pub fn row_slot(start: Hash, w: usize, key: &[u8], r: u8) -> usize
     requires { ⌜ validWidth w ≡ true ⌝ }
     ensures { λ s. ⌜ s ≡ keySlot (start .state) w (now (key .entry)) r ⌝ }
     ensures { λ s. ⌜ s < w ⌝ }
@@ -93,10 +93,6 @@ pub fn key_slots(start: Hash, w: usize, key: &[u8], d: usize) -> [usize; 8]
     ensures { λ s. ⌜ ((r : ℕ) → r < d → getD s r 0 ≡ keySlot (start .state) w (now (key .entry)) r) ⌝ }
     ensures { λ s. ⌜ ((r : ℕ) → r < d → getD s r 0 < w) ⌝ }
 {
-    if d <= 1 {
-        let s = row_slot(start, w, key, 0);
-        return [s, 0, 0, 0, 0, 0, 0, 0];
-    }
     let low = four_slots(start, w, key, 0);
     if d <= 4 {
         return [low[0], low[1], low[2], low[3], 0, 0, 0, 0];

@@ -6,10 +6,11 @@ use group::Group;
 use group::Outcome;
 use group::Reading;
 ghost use mathlib.Core.Path.{_≡_};
-ghost use mathlib.Core.Bool.{true};
+ghost use mathlib.Core.Bool.{true, cond};
 ghost use mathlib.Core.List.{_++_};
-ghost use Prim.Native.Nat.{ℕ, _+_, _*_, _/_, _<_, _≤_, max};
-ghost use lib.ListN.{length, getD, take, drop};
+ghost use Prim.Native.Nat.{_+_, _*_, _/_, _<_, _≤_, max};
+ghost use lib.Dec.{eqb};
+ghost use lib.ListN.{length, take, drop};
 ghost use Rattle.row.specs.Geometry.{validDepth, validWidth};
 ghost use Rattle.row.specs.Geometry as geometry;
 ghost use Rattle.row.specs.Order.{badKey, badShape, answerOf};
@@ -167,6 +168,21 @@ pub fn update_row(row: &mut [u8], w: usize, slot: usize, x: Group)
     ensures { λ _. ⌜ now (row .exit) ≡ withGroup w (now (row .entry)) (slot / 8) x ⌝ }
 {
     store(row, w, slot / 8, x);
+}
+
+// An amount added in the group of a slot, if the group takes it; and the group's status.
+pub fn update_one(row: &mut [u8], w: usize, slot: usize, amount: u32) -> u8
+    requires { ⌜ validWidth w ≡ true ⌝ ∗ ⌜ length (now row) ≡ geometry.stride w ⌝ ∗ ⌜ slot < w ⌝ }
+    ensures { λ s. ⌜ s ≡ addedIn w (now (row .entry)) slot amount .status ⌝ }
+    ensures { λ s. ⌜ now (row .exit) ≡ cond (eqb s 0) (withGroup w (now (row .entry)) (slot / 8) (addedIn w (now (row .entry)) slot amount .group)) (now (row .entry)) ⌝ }
+{
+    let o = added_in(row, w, slot, amount);
+    if o.status != 0 {
+        return o.status;
+    }
+    let g = o.group;
+    update_row(row, w, slot, g);
+    0
 }
 
 // The counter of a slot.

@@ -17,13 +17,13 @@ use Rattle.meter.proofs.try_rows.Statement.{statement}
 use Rattle.meter.proofs.try_rows.Tie as tie
 
 abbrev Inv-loop : tie.InvT-loop
-Inv-loop d w memory slots amount groups₀ status₀ r₀ groups status r = (r ≤ d)
+Inv-loop d w memory slots amount t₀ status₀ r₀ t status r = (r ≤ d)
     × (earlier status (earliest (ofRows (addedStatus w slots amount) (stride w) (d - r) r (drop (r * stride w) memory))) ≡ earliest (ofRows (addedStatus w slots amount) (stride w) d 0 memory))
-    × ((z : Group) (k : ℕ) → k < r → getD groups k z ≡ addedIn w (rowOf w memory k) (getD slots k 0) amount .group)
-    × (length groups ≡ 8)
+    × ((z : Group) (k : ℕ) → k < r → getD (t .groups) k z ≡ addedIn w (rowOf w memory k) (getD slots k 0) amount .group)
+    × (length (t .groups) ≡ 8)
 
 abbrev μ-loop : tie.MeasureT-loop
-μ-loop d w memory slots amount groups₀ status₀ r₀ groups status r = d - r
+μ-loop d w memory slots amount t₀ status₀ r₀ t status r = d - r
 
 loop-holds : tie.Need-loop-holds Inv-loop μ-loop
 loop-holds c = let a = c .before .args in
@@ -43,11 +43,11 @@ added-in-requires : tie.Need-added-in-requires Inv-loop μ-loop
 added-in-requires c κs = let s = c .before .before .before .before .before in
     (s .pre .0 .0, (c .before .row-at .ensures .1, s .pre .1 (c .before .before .before .loop .r) (c .before .before .loop-test .taken)))
 
-mul-groups : tie.Need-mul-groups Inv-loop μ-loop
-mul-groups c = search needs
+mul-g : tie.Need-mul-g Inv-loop μ-loop
+mul-g c = search needs
 
-array-set-from-groups : tie.Need-array-set-from-groups Inv-loop μ-loop
-array-set-from-groups c = let s = c .before .before .before .before .before .before .before in
+element-set-from-g : tie.Need-element-set-from-g Inv-loop μ-loop
+element-set-from-g c = let s = c .before .before .before .before .before .before .before in
     omega (arith, s .pre .0 .1)
 
 earlier-requires : tie.Need-earlier-requires Inv-loop μ-loop
@@ -68,8 +68,8 @@ loop-again c = let s = c .before .before .before .before .before .before .before
       omega arith,
       rw (c .earlier .ensures)
           (status-turn (addedStatus (a .w) (a .slots .now) (a .amount)) (a .w) (a .d) (l .r) (a .memory .now) (l .status) (o .result .status) (omega arith) (ap (λ (x : Outcome). x .status) e) ∙ l .inv .1),
-      λ z k h. filled-more (λ (i : ℕ). addedIn (a .w) (rowOf (a .w) (a .memory .now) i) (getD (a .slots .now) i 0) (a .amount) .group) (l .groups) (l .r) (o .result .group) z (omega (arith, s .pre .0 .1, l .inv .3)) (ap (λ (x : Outcome). x .group) e) (l .inv .2 z) k h,
-      length-set (l .groups) (l .r) (o .result .group) ∙ l .inv .3,
+      λ z k h. filled-more (λ (i : ℕ). addedIn (a .w) (rowOf (a .w) (a .memory .now) i) (getD (a .slots .now) i 0) (a .amount) .group) (l .t .groups) (l .r) (o .result .group) z (omega (arith, s .pre .0 .1, l .inv .3)) (ap (λ (x : Outcome). x .group) e) (l .inv .2 z) k h,
+      length-set (l .t .groups) (l .r) (o .result .group) ∙ l .inv .3,
     )
 
 returns : tie.Need-returns Inv-loop μ-loop
@@ -90,8 +90,8 @@ try-rows-spec =
     mul-added-in
     element-copy-out-added-in
     added-in-requires
-    mul-groups
-    array-set-from-groups
+    mul-g
+    element-set-from-g
     earlier-requires
     add-r
     loop-less

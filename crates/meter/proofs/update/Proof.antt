@@ -5,7 +5,7 @@ use Prim.Native.Nat.{ℕ}
 use lib.Dec.{eqb}
 use Rattle.meter.specs.Meter.{badCall}
 use Rattle.meter.proofs.Calls.{call-rows, updated-bad, updated-rows}
-use Rattle.meter.proofs.Slots.{status-by-key, added-by-key}
+use Rattle.meter.proofs.Slots.{status-by-key, added-by-key, one-long, one-status, one-added}
 use borrow.Author.Needs.{needs}
 use Rattle.meter.proofs.update.Statement.{statement}
 use Rattle.meter.proofs.update.Tie as tie
@@ -31,12 +31,13 @@ returns c = let a = c .before .before .before .before .before .before .args in
 start-requires : tie.Need-start-requires
 start-requires c κs = search needs
 
-key-slots-requires : tie.Need-key-slots-requires
-key-slots-requires c κs = let p = call-rows _ _ _ _ (good (c .before)) .1 in
-    (p .0, p .1)
+row-slot-requires : tie.Need-row-slot-requires
+row-slot-requires c κs = call-rows _ _ _ _ (good (c .before .before)) .1 .0
 
-update-rows-requires : tie.Need-update-rows-requires
-update-rows-requires c κs = (call-rows _ _ _ _ (good (c .before .before .before .before)) .1, c .before .before .key-slots .ensures .1)
+update-one-requires : tie.Need-update-one-requires
+update-one-requires c κs = let two = c .before .before .before in
+    let p = call-rows _ _ _ _ (good (two .before)) .1 in
+    (p .0, (one-long _ _ _ (two .if2 .taken) (p .2), c .before .row-slot .ensures .1))
 
 answer-requires-2 : tie.Need-answer-requires-2
 answer-requires-2 c κs = search needs
@@ -45,16 +46,47 @@ same-length-2 : tie.Need-same-length-2
 same-length-2 c = search needs
 
 returns-2 : tie.Need-returns-2
-returns-2 c = let u = c .before .before .before .update-rows in
-    let k = c .before .before .before .before .before .before in
-    let a = k .before .before .before .before .before .before .before .args in
-    let slots = k .key-slots in
+returns-2 c = let u = c .before .before .before .update-one in
+    let k = c .before .before .before .before .before in
+    let two = k .before .before in
+    let a = two .before .before .before .before .before .before .args in
+    let long = one-long (a .d) (a .w) _ (two .if2 .taken) (call-rows _ _ _ _ (good (two .before)) .1 .2) in
+    let at = k .row-slot .ensures .0 in
     let start = k .before .start .ensures in
-    let status = u .ensures .0 ∙ status-by-key (a .d) (a .w) (a .memory .now) (a .key .now) (slots .result) start (slots .ensures .0) (a .amount) in
-    let after = added-by-key (a .d) (a .w) (a .memory .now) (a .key .now) (slots .result) start (slots .ensures .0) (a .amount) in
-    let p = updated-rows (a .d) (a .w) (a .memory .now) (a .key .now) (a .amount) (good (k .before .before)) (u .result) (u .last .1 .1 .0) status
+    let status = u .ensures .0 ∙ one-status (a .d) (a .w) (a .memory .now) (a .key .now) (two .if2 .taken) long start at (a .amount) in
+    let after = one-added (a .d) (a .w) (a .memory .now) (a .key .now) (two .if2 .taken) long start at (a .amount) in
+    let p = updated-rows (a .d) (a .w) (a .memory .now) (a .key .now) (a .amount) (good (two .before)) (u .result) (u .last .0) status
     (u .ensures .1 ∙ ap (λ (m : List ℕ). cond (eqb (u .result) 0) m (a .memory .now)) after) in
     (c .answer2 .ensures ∙ p .0, p .1)
+
+start-requires-2 : tie.Need-start-requires-2
+start-requires-2 c κs = search needs
+
+key-slots-requires : tie.Need-key-slots-requires
+key-slots-requires c κs = let p = call-rows _ _ _ _ (good (c .before .before)) .1 in
+    (p .0, p .1)
+
+update-rows-requires : tie.Need-update-rows-requires
+update-rows-requires c κs = (call-rows _ _ _ _ (good (c .before .before .before .before .before)) .1, c .before .before .key-slots .ensures .1)
+
+answer-requires-3 : tie.Need-answer-requires-3
+answer-requires-3 c κs = search needs
+
+same-length-3 : tie.Need-same-length-3
+same-length-3 c = search needs
+
+returns-3 : tie.Need-returns-3
+returns-3 c = let u = c .before .before .before .update-rows in
+    let k = c .before .before .before .before .before .before in
+    let e = k .before .before .before in
+    let a = e .before .before .before .before .before .args in
+    let slots = k .key-slots in
+    let start = k .before .start2 .ensures in
+    let status = u .ensures .0 ∙ status-by-key (a .d) (a .w) (a .memory .now) (a .key .now) (slots .result) start (slots .ensures .0) (a .amount) in
+    let after = added-by-key (a .d) (a .w) (a .memory .now) (a .key .now) (slots .result) start (slots .ensures .0) (a .amount) in
+    let p = updated-rows (a .d) (a .w) (a .memory .now) (a .key .now) (a .amount) (good e) (u .result) (u .last .1 .1 .0) status
+    (u .ensures .1 ∙ ap (λ (m : List ℕ). cond (eqb (u .result) 0) m (a .memory .now)) after) in
+    (c .answer3 .ensures ∙ p .0, p .1)
 
 pub update-spec : {M : Type 1} → statement M
 update-spec =
@@ -65,8 +97,14 @@ update-spec =
     same-length
     returns
     start-requires
-    key-slots-requires
-    update-rows-requires
+    row-slot-requires
+    update-one-requires
     answer-requires-2
     same-length-2
-    returns-2)
+    returns-2
+    start-requires-2
+    key-slots-requires
+    update-rows-requires
+    answer-requires-3
+    same-length-3
+    returns-3)

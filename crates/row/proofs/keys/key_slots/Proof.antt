@@ -3,39 +3,28 @@ use mathlib.Core.List.{List, [], _∷_}
 use Prim.Native.Nat.{ℕ, _<_}
 use native.Mathlib.Omega.{arith}
 use Rattle.row.specs.Row.{keySlot}
-use Rattle.row.proofs.Lanes.{in-one, in-four, in-eight}
+use Rattle.row.proofs.Lanes.{in-four, in-eight}
 use borrow.Author.Needs.{needs}
 use Rattle.row.proofs.keys.key_slots.Statement.{statement}
 use Rattle.row.proofs.keys.key_slots.Tie as tie
 
-row-slot-requires : tie.Need-row-slot-requires
-row-slot-requires c κs = search needs
-
-returns : tie.Need-returns
-returns c = let a = c .before .before .before .args in
-    let e = c .row-slot .ensures in
-    let rest : List ℕ = 0 ∷ 0 ∷ 0 ∷ 0 ∷ 0 ∷ 0 ∷ 0 ∷ [] in (
-      λ r h. in-one (λ (i : ℕ) (s : ℕ). s ≡ keySlot (a .start .state) (a .w) (a .key .now) i) _ rest (e .0) r (omega arith),
-      λ r h. in-one (λ (i : ℕ) (s : ℕ). s < a .w) _ rest (e .1) r (omega arith),
-    )
-
 four-slots-requires : tie.Need-four-slots-requires
 four-slots-requires c κs = search needs
 
-array-read-t12 : tie.Need-array-read-t12
-array-read-t12 c = search needs
+array-read-t11 : tie.Need-array-read-t11
+array-read-t11 c = search needs
 
-array-read-t15 : tie.Need-array-read-t15
-array-read-t15 c = search needs
+array-read-t14 : tie.Need-array-read-t14
+array-read-t14 c = search needs
 
-array-read-t18 : tie.Need-array-read-t18
-array-read-t18 c = search needs
+array-read-t17 : tie.Need-array-read-t17
+array-read-t17 c = search needs
 
-array-read-t21 : tie.Need-array-read-t21
-array-read-t21 c = search needs
+array-read-t20 : tie.Need-array-read-t20
+array-read-t20 c = search needs
 
-returns-2 : tie.Need-returns-2
-returns-2 c = let a = c .before .before .before .before .args in
+returns : tie.Need-returns
+returns c = let a = c .before .before .before .args in
     let e = c .before .four-slots .ensures .0 in
     let l = c .before .four-slots .ensures .1 in
     let rest : List ℕ = 0 ∷ 0 ∷ 0 ∷ 0 ∷ [] in (
@@ -48,32 +37,32 @@ returns-2 c = let a = c .before .before .before .before .args in
 four-slots-requires-2 : tie.Need-four-slots-requires-2
 four-slots-requires-2 c κs = search needs
 
-array-read-t24 : tie.Need-array-read-t24
-array-read-t24 c = search needs
+array-read-t23 : tie.Need-array-read-t23
+array-read-t23 c = search needs
 
-array-read-t27 : tie.Need-array-read-t27
-array-read-t27 c = search needs
+array-read-t26 : tie.Need-array-read-t26
+array-read-t26 c = search needs
 
-array-read-t30 : tie.Need-array-read-t30
-array-read-t30 c = search needs
+array-read-t29 : tie.Need-array-read-t29
+array-read-t29 c = search needs
 
-array-read-t33 : tie.Need-array-read-t33
-array-read-t33 c = search needs
+array-read-t32 : tie.Need-array-read-t32
+array-read-t32 c = search needs
 
-array-read-t36 : tie.Need-array-read-t36
-array-read-t36 c = search needs
+array-read-t35 : tie.Need-array-read-t35
+array-read-t35 c = search needs
 
-array-read-t39 : tie.Need-array-read-t39
-array-read-t39 c = search needs
+array-read-t38 : tie.Need-array-read-t38
+array-read-t38 c = search needs
 
-array-read-t42 : tie.Need-array-read-t42
-array-read-t42 c = search needs
+array-read-t41 : tie.Need-array-read-t41
+array-read-t41 c = search needs
 
-array-read-t45 : tie.Need-array-read-t45
-array-read-t45 c = search needs
+array-read-t44 : tie.Need-array-read-t44
+array-read-t44 c = search needs
 
-returns-3 : tie.Need-returns-3
-returns-3 c = let a = c .before .before .before .before .before .args in
+returns-2 : tie.Need-returns-2
+returns-2 c = let a = c .before .before .before .before .args in
     let e = c .before .before .four-slots .ensures .0 in
     let f = c .four-slots2 .ensures .0 in
     let l = c .before .before .four-slots .ensures .1 in
@@ -90,21 +79,19 @@ pub key-slots-spec : {M : Type 1} → statement M
 key-slots-spec =
     tie.close
     (tie.spec
-    row-slot-requires
-    returns
     four-slots-requires
-    array-read-t12
-    array-read-t15
-    array-read-t18
-    array-read-t21
-    returns-2
+    array-read-t11
+    array-read-t14
+    array-read-t17
+    array-read-t20
+    returns
     four-slots-requires-2
-    array-read-t24
-    array-read-t27
-    array-read-t30
-    array-read-t33
-    array-read-t36
-    array-read-t39
-    array-read-t42
-    array-read-t45
-    returns-3)
+    array-read-t23
+    array-read-t26
+    array-read-t29
+    array-read-t32
+    array-read-t35
+    array-read-t38
+    array-read-t41
+    array-read-t44
+    returns-2)
