@@ -8,3 +8,5 @@ pub mod Exact
 pub mod Sharp
 pub mod Theorems
 pub mod Plain
+pub mod Blocks
+pub mod Halves
