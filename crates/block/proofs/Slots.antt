@@ -10,8 +10,9 @@ use lib.Dec.{ltb}
 use lib.Pow.{pow-add, pow-pos}
 use Rattle.layout.specs.Layout.{Layout, merged, halves, isMerged}
 use Rattle.block.specs.declared.Counter.{Counter}
-use Rattle.block.specs.Block.{Block, counter, split, cap, Fits, shape, counterAt}
+use Rattle.block.specs.Block.{Block, counter, split, cap, Fits, shape, counterAt, total}
 use Rattle.block.specs.Change.{change}
+use Rattle.block.proofs.Laws.{total-lt}
 
 pub counter-halves : {n : ℕ} (l r : Block n) (k : ℕ) (P : Counter → Type 0)
     → (ltb k (2 ^ n) ≡ true → P (counterAt l k))
@@ -141,3 +142,22 @@ counters-ext (split {n} l r) (split l′ r′) e f =
     ap₂ split
     (counters-ext l l′ (ap leftOf e) (λ k h. sym (in-left l r k h) ∙ f k (omega arith) ∙ in-left l′ r′ k h))
     (counters-ext r r′ (ap rightOf e) (λ k h. sym (from-right l r k) ∙ f (2 ^ n + k) (omega arith) ∙ from-right l′ r′ k))
+
+-- a counter of the block's own level is the whole block; another leaves both halves below their caps
+pub whole-total : {n : ℕ} (b : Block n) (k : ℕ) → counterAt b k .level ≡ n → total b ≡ counterAt b k .value
+unfolding total counterAt
+whole-total (counter v) k e = refl
+whole-total (split {n} l r) k e = absurd (omega (arith, below))
+  where
+    below : counterAt (split l r) k .level ≤ n
+    below = counter-halves l r k (λ c. c .level ≤ n) (λ e. level-le l k) (λ e. level-le r (k - 2 ^ n))
+
+pub halves-sum : {n : ℕ} (b : Block (suc n)) → Fits b → isMerged (shape b) ≡ false → total b < cap n + cap n
+unfolding total Fits shape isMerged
+halves-sum (counter v) f e = absurd (true≢false e)
+halves-sum (split l r) f e = omega (arith, total-lt l (f .0), total-lt r (f .1))
+
+pub halves-total : {n : ℕ} (b : Block (suc n)) (k : ℕ) → Fits b → (counterAt b k .level ≡ suc n → ⊥) → total b < cap n + cap n
+unfolding total counterAt Fits
+halves-total (counter v) k f e = absurd (e refl)
+halves-total (split l r) k f e = omega (arith, total-lt l (f .0), total-lt r (f .1))

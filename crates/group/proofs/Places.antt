@@ -4,14 +4,20 @@ use mathlib.Core.Bool.{true, false}
 use Prim.Native.Nat.{ℕ, _+_, _-_, _*_, _/_, _%_, _^_, _≤_, _<_}
 use native.Mathlib.Nat.{mod-le, div-mul-le-self, mul-le-mul-right}
 use native.Mathlib.Omega.{arith}
+use native.Mathlib.Decide.{decLt}
+use borrow.Author.Tests.{ne-eqb, lt-ltb, le-ltb, le-leb, lt-leb}
+use lib.Dec.{leb, ltb}
+use lib.Bits.{bitAnd, bitOr, and-mask, or-shr, or-step}
 use lib.Pow.{pow-pos, pow-mono, ones-lt, ones-split, high}
-use Rattle.layout.specs.Layout.{valid}
-use Rattle.block.specs.Block.{cap, word, block, counterAt}
+use Rattle.layout.specs.Layout.{bit, isMerged, layout, valid}
+use Rattle.layout.proofs.Laws.{own-bit}
+use Rattle.block.specs.Block.{cap, word, block, counterAt, total}
 use Rattle.block.specs.Change.{change}
 use Rattle.block.specs.Sum.{add, Sound}
-use Rattle.block.proofs.Laws.{word-lt, word-block, marks-block, block-fits}
+use Rattle.block.proofs.Laws.{word-lt, shape-fill, word-block, marks-block, block-fits}
 use Rattle.block.proofs.Adding.{add-sound}
 use Rattle.block.proofs.Changing.{change-fits}
+use Rattle.block.proofs.Slots.{whole-total, halves-total, halves-sum}
 use Rattle.block.proofs.Places.{first, first-is, value-is, InPlace, add-in-place, change-word}
 use Rattle.group.specs.declared.Group.{Group}
 use Rattle.group.specs.Group.{number, decode, encode, stored, settle, added}
@@ -38,6 +44,14 @@ module _ (w m k L q : ℕ) (h : w < cap 3) (i : k < 8) (e : counterAt (block 3 w
 
   pub counter-at : counterAt (block 3 w m) k ≡ record { value = w / 2 ^ q % cap L; level = L }
   counter-at = rw (← value-place, ← e)
+
+  -- the total of a group that is one counter, and of another
+  pub whole-is : L ≡ 3 → total (block 3 w m) ≡ w / 2 ^ q % cap L
+  whole-is l = whole-total (block 3 w m) k (e ∙ l) ∙ value-place
+
+  pub halves-lt : (L ≡ 3 → ⊥) → total (block 3 w m) < 2 ^ 33
+  unfolding cap
+  halves-lt l = halves-total (block 3 w m) k (block-fits 3 w m h) (λ f. l (sym e ∙ f))
 
   -- an addition that the counter holds
   module _ (a : ℕ) (small : w / 2 ^ q % cap L + a < cap L) where
@@ -81,3 +95,21 @@ module _ (w m k L q : ℕ) (h : w < cap 3) (i : k < 8) (e : counterAt (block 3 w
 pub added-is : (g : Group) (slot amount : ℕ) → valid 3 (g .merge) ≡ true → added g slot amount ≡ settle g (add (block 3 (number (g .counts)) (g .merge)) (slot % 8) amount)
 unfolding added decode
 added-is g slot amount v = rw v
+
+-- a group whose own bit is clear has two halves
+pub bit-total : (w m : ℕ) → w < cap 3 → m / 8 % 2 ≡ 0 → total (block 3 w m) < 2 ^ 33
+unfolding block cap bit
+bit-total w m h z =
+    halves-sum (block 3 w m) (block-fits 3 w m h)
+    (ap isMerged (shape-fill (layout 3 m) w) ∙ own-bit 3 m (omega arith) ∙ ne-eqb (m / 8 % 2) 1 (λ e. omega arith))
+
+pub both-clear : (m n : ℕ) → bitAnd (bitOr m n / 8) 1 ≡ 0 → (m / 8 % 2 ≡ 0) × (n / 8 % 2 ≡ 0)
+both-clear m n z =
+    let e : bitOr (m / 8) (n / 8) % 2 ≡ 0 = sym (and-mask (bitOr (m / 8) (n / 8)) 1) ∙ rw (← or-shr m n 3) z in
+    (omega (arith, or-step (m / 8) (n / 8)), omega (arith, or-step (m / 8) (n / 8)))
+
+pub room-test : (a b : ℕ) → a < 2 ^ 64 → leb b (2 ^ 64 - 1 - a) ≡ ltb (a + b) (2 ^ 64)
+room-test a b h = elim (decLt (a + b) (2 ^ 64)) [
+  | yes l ↦ le-leb b (2 ^ 64 - 1 - a) (omega arith) ∙ sym (lt-ltb (a + b) (2 ^ 64) l)
+  | no l ↦ lt-leb b (2 ^ 64 - 1 - a) (omega arith) ∙ sym (le-ltb (a + b) (2 ^ 64) (omega arith))
+]

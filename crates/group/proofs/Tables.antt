@@ -1,7 +1,7 @@
 -- Facts about every merge byte, each shown by one computation over all of them.
 use mathlib.Core.Path.{_≡_, refl, sym, ap, _∙_}
 use mathlib.Core.Bool.{Bool, true, false, cond, not, _&&_, and-eq-true-iff}
-use Prim.Native.Nat.{ℕ, zero, suc, _+_, _-_, _*_, _/_, _%_, _^_, _<_}
+use Prim.Native.Nat.{ℕ, zero, suc, _+_, _-_, _*_, _/_, _^_, _<_}
 use native.Mathlib.Decide.{decLt}
 use native.Mathlib.Omega.{arith}
 use borrow.Author.Tests.{eqb-true}
@@ -58,7 +58,7 @@ module _ (p : ℕ → Bool) (all : every (λ m. cond (valid 3 m) (p m) true) 256
 
 -- the level of a slot's counter: the merged blocks around the slot, its pair, its half and the group
 abbrev pub bitsLevel : ℕ → ℕ → ℕ
-bitsLevel m k = m / 2 ^ (k / 2 * 2) % 2 + m / 2 ^ (k / 4 * 4 + 1) % 2 + m / 8 % 2
+bitsLevel m k = bitAnd (m / 2 ^ (k / 2 * 2)) 1 + bitAnd (m / 2 ^ (k / 4 * 4 + 1)) 1 + bitAnd (m / 8) 1
 
 slots-level : ℕ → Bool
 slots-level m = every (λ k. eqb (bitsLevel m k) (levelOf (layout 3 m) k)) 8
@@ -76,7 +76,7 @@ bits-level w m k h v i =
 
 -- the largest level: whether any pair is merged, any half, and the group
 abbrev pub bitsWidest : ℕ → ℕ
-bitsWidest m = bitOr (bitOr (bitOr m (m / 4)) (m / 16)) (m / 64) % 2 + bitOr (m / 2) (m / 32) % 2 + m / 8 % 2
+bitsWidest m = bitAnd (bitOr (bitOr (bitOr m (m / 4)) (m / 16)) (m / 64)) 1 + bitAnd (bitOr (m / 2) (m / 32)) 1 + bitAnd (m / 8) 1
 
 all-widest : every (λ m. cond (valid 3 m) (eqb (bitsWidest m) (widest (layout 3 m))) true) 256 ≡ true
 unfolding every valid ones layout bit widest

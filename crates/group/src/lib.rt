@@ -5,9 +5,9 @@ use block::Summed;
 ghost use mathlib.Core.Path.{_≡_};
 ghost use mathlib.Core.Bool.{true, _&&_};
 ghost use Prim.Native.Nat.{ℕ, _+_, _-_, _*_, _/_, _%_, _^_, _<_, _≤_};
-ghost use Rattle.layout.specs.Layout.{layout, marks, valid};
+ghost use lib.Dec.{ltb};
+ghost use Rattle.layout.specs.Layout.{layout, valid};
 ghost use Rattle.layout.specs.Layout as layout_spec;
-ghost use Rattle.layout.specs.Code.{uncode};
 ghost use Rattle.block.specs.Block.{cap, block, counterAt};
 ghost use Rattle.block.specs.Block as block_spec;
 ghost use Rattle.block.specs.Change as change_spec;
@@ -16,7 +16,7 @@ ghost use Rattle.block.specs.Sum as sum_spec;
 ghost use Rattle.group.specs.Group.{number, bytes, read, stored, added, united, widestOf, changed};
 ghost use Rattle.group.specs.Group as spec;
 ghost use Rattle.group.specs.Status as status_spec;
-ghost use Rattle.group.specs.Pack.{mergeCode, codeMerge, groupCode, packed, unpacked};
+ghost use Rattle.group.specs.Pack.{groupCode, packed, unpacked};
 
 // Document 01's numbers of rejected calls.
 pub const INVALID_MERGE: u8 = 5;
@@ -135,9 +135,9 @@ fn level_at(merge: u8, slot: usize) -> u32
     ensures { λ r. ⌜ ((w : ℕ) → counterAt (block 3 w merge) slot .level ≡ r) ⌝ }
     ensures { λ r. ⌜ r ≤ 3 ⌝ }
 {
-    let pair = (merge >> (slot / 2 * 2)) % 2;
-    let half = (merge >> (slot / 4 * 4 + 1)) % 2;
-    let group = (merge >> 3) % 2;
+    let pair = (merge >> (slot / 2 * 2)) & 1;
+    let half = (merge >> (slot / 4 * 4 + 1)) & 1;
+    let group = (merge >> 3) & 1;
     (pair + half + group) as u32
 }
 
@@ -207,20 +207,8 @@ fn unchanged(status: u8, g: Group) -> Outcome
     Outcome { status, group: g }
 }
 
-// An amount added to the counter that a slot is in, where the counter may have to widen.
-fn add_widening(g: Group, slot: usize, amount: u32) -> Outcome
-    requires { ⌜ valid 3 (g .merge) ≡ true ⌝ }
-    ensures { λ r. ⌜ r ≡ added g slot amount ⌝ }
-{
-    let counts = g.counts;
-    let word = number_of(counts);
-    if 18446744073709551615 - block::total(3, word, g.merge) < amount as u64 {
-        return unchanged(COUNTER_FULL, g);
-    }
-    settled(block::add(3, word, g.merge, slot % 8, amount as u64))
-}
-
 // An amount added to the counter that a slot is in. Where the counter holds the sum, the layout stays and no other byte changes.
+// Only the counter of a whole group can be full.
 pub fn add(g: Group, slot: usize, amount: u32) -> Outcome
     ensures { λ r. ⌜ r ≡ added g slot amount ⌝ }
 {
@@ -240,7 +228,10 @@ pub fn add(g: Group, slot: usize, amount: u32) -> Outcome
             merge: g.merge,
         });
     }
-    add_widening(g, slot, amount)
+    if level == 3 {
+        return unchanged(COUNTER_FULL, g);
+    }
+    settled(block::add(3, word, g.merge, k, amount as u64))
 }
 
 // Whether in the sum of the count bytes of two groups, taken as numbers, nothing is carried from one counter to the next. In a
@@ -268,6 +259,17 @@ fn may_add(word: u64, merge: u8, other_word: u64, other_merge: u8) -> bool
     no_carry(merge, word, other_word)
 }
 
+// Whether the sum of all counters of two groups is below 2 ^ 64. It is where neither group is one counter.
+fn sum_fits(word: u64, merge: u8, other_word: u64, other_merge: u8) -> bool
+    ensures { λ r. ⌜ r ≡ ltb (block_spec.total (block 3 word merge) + block_spec.total (block 3 «other_word» «other_merge»)) (2 ^ 64) ⌝ }
+{
+    if ((merge | other_merge) >> 3) & 1 == 0 {
+        return true;
+    }
+    let room = 18446744073709551615 - block::total(3, word, merge);
+    block::total(3, other_word, other_merge) <= room
+}
+
 // A source group united with a target, where counters may have to widen.
 fn unite_widening(target: Group, source: Group) -> Outcome
     requires { ⌜ valid 3 (target .merge) ≡ true ⌝ ∗ ⌜ valid 3 (source .merge) ≡ true ⌝ }
@@ -277,8 +279,7 @@ fn unite_widening(target: Group, source: Group) -> Outcome
     let source_counts = source.counts;
     let word = number_of(target_counts);
     let source_word = number_of(source_counts);
-    let room = 18446744073709551615 - block::total(3, word, target.merge);
-    if room < block::total(3, source_word, source.merge) {
+    if !sum_fits(word, target.merge, source_word, source.merge) {
         return unchanged(COUNTER_FULL, target);
     }
     settled(block::unite(3, word, target.merge, source_word, source.merge))
@@ -313,9 +314,9 @@ fn widest_level(merge: u8) -> u32
     requires { ⌜ valid 3 merge ≡ true ⌝ }
     ensures { λ r. ⌜ r ≡ layout_spec.widest (layout 3 merge) ⌝ }
 {
-    let any_pair = (merge | (merge >> 2) | (merge >> 4) | (merge >> 6)) % 2;
-    let any_half = ((merge >> 1) | (merge >> 5)) % 2;
-    let group = (merge >> 3) % 2;
+    let any_pair = (merge | (merge >> 2) | (merge >> 4) | (merge >> 6)) & 1;
+    let any_half = ((merge >> 1) | (merge >> 5)) & 1;
+    let group = (merge >> 3) & 1;
     (any_pair + any_half + group) as u32
 }
 

@@ -1,15 +1,15 @@
-use mathlib.Core.Path.{_≡_, sym, _∙_}
+use mathlib.Core.Path.{_≡_, sym, ap, _∙_}
 use mathlib.Core.Bool.{true, false}
-use Prim.Native.Nat.{_+_, _*_, _/_, _%_, _^_, _<_}
+use Prim.Native.Nat.{_+_, _-_, _*_, _/_, _%_, _^_, _≤_, _<_}
 use native.Mathlib.Nat.{mod-eq-of-lt, mod-lt}
 use native.Mathlib.Omega.{arith}
 use borrow.Author.Tests.{not-true, not-false}
 use Rattle.layout.specs.Layout.{valid}
-use Rattle.block.specs.Block.{cap}
-use Rattle.group.specs.Group.{stored, added}
+use Rattle.block.specs.Block.{cap, total, block}
 use Rattle.block.proofs.Laws.{cap-pos}
-use Rattle.group.proofs.Laws.{added-invalid}
-use Rattle.group.proofs.Places.{sum-in, settle-is, added-is}
+use Rattle.group.specs.Group.{number, decode, stored, added}
+use Rattle.group.proofs.Laws.{cap-three, added-invalid, added-full, added-stored}
+use Rattle.group.proofs.Places.{whole-is, halves-lt, sum-in, settle-is, added-is}
 use borrow.Author.Needs.{needs}
 use Rattle.group.proofs.add.Statement.{statement}
 use Rattle.group.proofs.add.Tie as tie
@@ -21,16 +21,9 @@ word-in : (c : tie.After-number-of) → c .number-of .result < cap 3
 unfolding cap
 word-in c = omega arith
 
--- the counter's value is below its cap, so the sum is below that of the group's number
 module _ (c : tie.After-value-at) where
-  value-lt : c .value-at .result < cap (c .before .before .before .level-at .result)
-  value-lt =
-      rw (c .value-at .ensures)
-      (mod-lt (c .before .before .before .before .number-of .result / 2 ^ c .before .before .place .result) (cap-pos (c .before .before .before .level-at .result)))
-
-module _ (c : tie.Then2) where
   abbrev p : tie.After-place
-  p = c .before .before .before
+  p = c .before .before
 
   abbrev l : tie.After-level-at
   l = p .before
@@ -41,31 +34,55 @@ module _ (c : tie.Then2) where
   abbrev s : tie.Start
   s = n .before .before .before .before
 
-  small : n .number-of .result / 2 ^ p .place .result % cap (l .level-at .result) + s .args .amount < cap (l .level-at .result)
-  small = rw (← c .before .value-at .ensures) (omega (arith, c .if2 .taken, c .before .before .most .ensures, value-lt (c .before)))
+  -- the counter's value is below its cap
+  value-lt : c .value-at .result < cap (l .level-at .result)
+  value-lt = omega (arith, c .value-at .ensures, mod-lt (n .number-of .result / 2 ^ p .place .result) (cap-pos (l .level-at .result)))
 
-  abbrev InPlace : Type 0
-  InPlace =
-      (n .number-of .result + s .args .amount * 2 ^ p .place .result < 2 ^ 64)
-      × (stored (record { over = false; word = n .number-of .result + s .args .amount * 2 ^ p .place .result; merge = s .args .g .merge })
-      ≡ added (s .args .g) (s .args .slot) (s .args .amount))
+  amount-lt : s .args .amount < 2 ^ 32
+  amount-lt = omega arith
 
-  in-place : InPlace
-  in-place = let w = n .number-of .result in
-      let m = s .args .g .merge in
-      let k = s .args .slot % 8 in
-      let level = l .level-at .result in
-      let q = p .place .result in
-      let e = l .level-at .ensures .0 w in
-      let v = is-sane (n .before) in (
-        sum-in w m k level q (word-in n) (omega arith) e (p .place .ensures .0) (s .args .amount) small,
-        sym
-            (added-is (s .args .g) (s .args .slot) (s .args .amount) v
-            ∙ rw (← n .number-of .ensures) (settle-is w m k level q (word-in n) (omega arith) e (p .place .ensures .0) (s .args .amount) small (s .args .g) v)),
-      )
+  number-in : number (s .args .g .counts) < cap 3
+  number-in = rw (← n .number-of .ensures) (word-in n)
 
-  shifted : s .args .amount * 2 ^ p .place .result % 2 ^ 64 ≡ s .args .amount * 2 ^ p .place .result
-  shifted = mod-eq-of-lt {n = s .args .amount * 2 ^ p .place .result} {m = 2 ^ 64} (omega (arith, in-place .0))
+  -- the group's total
+  total-whole : l .level-at .result ≡ 3 → total (block 3 (n .number-of .result) (s .args .g .merge)) ≡ c .value-at .result
+  total-whole e =
+      whole-is (n .number-of .result) (s .args .g .merge) (s .args .slot % 8) (l .level-at .result) (p .place .result) (word-in n) (omega arith)
+      (l .level-at .ensures .0 (n .number-of .result)) (p .place .ensures .0) e
+      ∙ sym (c .value-at .ensures)
+
+  total-halves : (l .level-at .result ≡ 3 → ⊥) → total (block 3 (n .number-of .result) (s .args .g .merge)) < 2 ^ 33
+  total-halves e =
+      halves-lt (n .number-of .result) (s .args .g .merge) (s .args .slot % 8) (l .level-at .result) (p .place .result) (word-in n) (omega arith)
+      (l .level-at .ensures .0 (n .number-of .result)) (p .place .ensures .0) e
+
+  -- where the counter holds the sum
+  module _ (fits : s .args .amount ≤ c .before .most .result - c .value-at .result) where
+    small : n .number-of .result / 2 ^ p .place .result % cap (l .level-at .result) + s .args .amount < cap (l .level-at .result)
+    small = rw (← c .value-at .ensures) (omega (arith, c .before .most .ensures, value-lt))
+
+    abbrev InPlace : Type 0
+    InPlace =
+        (n .number-of .result + s .args .amount * 2 ^ p .place .result < 2 ^ 64)
+        × (stored (record { over = false; word = n .number-of .result + s .args .amount * 2 ^ p .place .result; merge = s .args .g .merge })
+        ≡ added (s .args .g) (s .args .slot) (s .args .amount))
+
+    in-place : InPlace
+    in-place = let w = n .number-of .result in
+        let m = s .args .g .merge in
+        let k = s .args .slot % 8 in
+        let level = l .level-at .result in
+        let q = p .place .result in
+        let e = l .level-at .ensures .0 w in
+        let v = is-sane (n .before) in (
+          sum-in w m k level q (word-in n) (omega arith) e (p .place .ensures .0) (s .args .amount) small,
+          sym
+              (added-is (s .args .g) (s .args .slot) (s .args .amount) v
+              ∙ rw (← n .number-of .ensures) (settle-is w m k level q (word-in n) (omega arith) e (p .place .ensures .0) (s .args .amount) small (s .args .g) v)),
+        )
+
+    shifted : s .args .amount * 2 ^ p .place .result % 2 ^ 64 ≡ s .args .amount * 2 ^ p .place .result
+    shifted = mod-eq-of-lt {n = s .args .amount * 2 ^ p .place .result} {m = 2 ^ 64} (omega (arith, in-place .0))
 
 is-valid-requires : tie.Need-is-valid-requires
 is-valid-requires c κs = search needs
@@ -99,19 +116,46 @@ shl-t16 : tie.Need-shl-t16
 shl-t16 c = search needs
 
 add-t17 : tie.Need-add-t17
-add-t17 c = omega (arith, shifted c, in-place c .0)
+add-t17 c = omega (arith, shifted (c .before) (c .if2 .taken), in-place (c .before) (c .if2 .taken) .0)
 
 settled-requires : tie.Need-settled-requires
 settled-requires c κs = search needs
 
 returns-2 : tie.Need-returns-2
-returns-2 c = c .settled .ensures ∙ rw (shifted (c .before)) (in-place (c .before) .1)
+returns-2 c = let d = c .before in
+    c .settled .ensures ∙ rw (shifted (d .before) (d .if2 .taken)) (in-place (d .before) (d .if2 .taken) .1)
 
-add-widening-requires : tie.Need-add-widening-requires
-add-widening-requires c κs = is-sane (c .before .before .before .before .before .before)
+unchanged-requires-2 : tie.Need-unchanged-requires-2
+unchanged-requires-2 c κs = search needs
 
 returns-3 : tie.Need-returns-3
-returns-3 c = search needs
+unfolding decode
+returns-3 c = let d = c .before .before in
+    let a = s (d .before) .args in
+    let three = c .before .if3 .taken in
+    c .unchanged2 .ensures
+    ∙ sym
+    (added-full (a .g) (a .slot) (a .amount) (number-in (d .before)) (is-sane (n (d .before) .before))
+    (rw (← n (d .before) .number-of .ensures) (omega (arith, d .if2 .left, d .before .before .most .ensures, total-whole (d .before) three, ap cap three, cap-three))))
+
+add-requires : tie.Need-add-requires
+unfolding cap
+add-requires c κs = let d = c .before .before in
+    (omega arith, ((omega arith, is-sane (n d .before)), omega (arith, total-halves d (c .if3 .left))))
+
+settled-requires-2 : tie.Need-settled-requires-2
+settled-requires-2 c κs = search needs
+
+returns-4 : tie.Need-returns-4
+unfolding decode
+returns-4 c = let e = c .before .before in
+    let d = e .before .before in
+    let a = s d .args in
+    c .settled2 .ensures
+    ∙ rw (c .before .add .ensures, n d .number-of .ensures)
+    (sym
+    (added-stored (a .g) (a .slot) (a .amount) (number-in d) (is-sane (n d .before))
+    (rw (← n d .number-of .ensures) (omega (arith, amount-lt d, total-halves d (e .if3 .left))))))
 
 pub add-spec : {M : Type 1} → statement M
 add-spec =
@@ -130,5 +174,8 @@ add-spec =
     add-t17
     settled-requires
     returns-2
-    add-widening-requires
-    returns-3)
+    unchanged-requires-2
+    returns-3
+    add-requires
+    settled-requires-2
+    returns-4)

@@ -1,8 +1,20 @@
+use Prim.Native.Nat.{_+_, _*_, _/_, _^_, _≤_}
 use native.Mathlib.Omega.{arith}
+use lib.Bits.{bitAnd, and-le-r}
 use Rattle.group.proofs.Tables.{bits-level}
 use borrow.Author.Needs.{needs}
 use Rattle.group.proofs.level_at.Statement.{statement}
 use Rattle.group.proofs.level_at.Tie as tie
+
+module _ (c : tie.Start) where
+  pair-le : bitAnd (c .args .merge / 2 ^ (c .args .slot / 2 * 2)) 1 ≤ 1
+  pair-le = and-le-r (c .args .merge / 2 ^ (c .args .slot / 2 * 2)) 1
+
+  half-le : bitAnd (c .args .merge / 2 ^ (c .args .slot / 4 * 4 + 1)) 1 ≤ 1
+  half-le = and-le-r (c .args .merge / 2 ^ (c .args .slot / 4 * 4 + 1)) 1
+
+  group-le : bitAnd (c .args .merge / 8) 1 ≤ 1
+  group-le = and-le-r (c .args .merge / 8) 1
 
 mul-pair : tie.Need-mul-pair
 mul-pair c = search needs
@@ -26,16 +38,16 @@ shr-half : tie.Need-shr-half
 shr-half c = search needs
 
 add-result : tie.Need-add-result
-add-result c = search needs
+add-result c = omega (arith, pair-le c, half-le c, group-le c)
 
 add-result-2 : tie.Need-add-result-2
-add-result-2 c = search needs
+add-result-2 c = omega (arith, pair-le c, half-le c, group-le c)
 
 cast-result : tie.Need-cast-result
-cast-result c = search needs
+cast-result c = omega (arith, pair-le c, half-le c, group-le c)
 
 returns : tie.Need-returns
-returns c = (λ w. bits-level w (c .args .merge) (c .args .slot) (omega arith) (c .pre .0) (c .pre .1), omega arith)
+returns c = (λ w. bits-level w (c .args .merge) (c .args .slot) (omega arith) (c .pre .0) (c .pre .1), omega (arith, pair-le c, half-le c, group-le c))
 
 pub level-at-spec : {M : Type 1} → statement M
 level-at-spec =
