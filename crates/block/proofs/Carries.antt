@@ -12,7 +12,7 @@ use lib.Pow.{pow-pos, pow-lt}
 use Rattle.layout.specs.Layout.{Layout, merged, halves}
 use Rattle.block.specs.Block.{cap, fill, total}
 use Rattle.block.specs.Sum.{fits, held, join, unite}
-use Rattle.block.proofs.Laws.{cap-pos, cap-square, high-lt}
+use Rattle.block.proofs.Laws.{cap-square, high-lt}
 
 -- the lowest bit of each counter but the first
 unfoldable pub bounds : {n : ℕ} → Layout n → ℕ

@@ -8,5 +8,3 @@ pub mod Exact
 pub mod Sharp
 pub mod Theorems
 pub mod Plain
-pub mod Blocks
-pub mod Halves

@@ -1,12 +1,10 @@
 // Words, and the counters that they hold.
 use group::Group;
 ghost use mathlib.Core.Path.{_≡_};
-ghost use Prim.Native.Nat.{_+_, _*_, _/_, _%_, _^_, _<_, _≤_};
+ghost use Prim.Native.Nat.{_+_, _*_, _%_, _^_, _<_, _≤_};
 ghost use lib.Dec.{eqb};
 ghost use Rattle.image.specs.Image as spec;
 ghost use Rattle.image.specs.Image.{countKind, wordsOf, levelAt};
-ghost use mathlib.Core.Bool.{true, cond};
-ghost use Rattle.layout.specs.Layout.{bit, valid};
 ghost use Rattle.image.specs.Write.{slotSize, groupSize};
 ghost use Rattle.image.specs.Read.{firstBits};
 
@@ -87,36 +85,14 @@ pub fn slot_size(merge: u8, k: usize) -> usize
     0
 }
 
-// The number of words of two slots with this merge bit.
-pub fn pair_size(merge: u8) -> usize
-    ensures { λ r. ⌜ r ≡ cond (bit merge 0) 1 2 ⌝ }
-    ensures { λ r. ⌜ r ≤ 2 ⌝ }
-{
-    if merge % 2 == 1 {
-        return 1;
-    }
-    2
-}
-
-// The number of words of four slots with these merge bits.
-pub fn half_size(merge: u8) -> usize
-    ensures { λ r. ⌜ r ≡ cond (bit merge 1) 2 (cond (bit (merge % 4) 0) 1 2 + cond (bit (merge / 4) 0) 1 2) ⌝ }
-    ensures { λ r. ⌜ r ≤ 4 ⌝ }
-{
-    if merge / 2 % 2 == 1 {
-        return 2;
-    }
-    pair_size(merge % 4) + pair_size(merge / 4)
-}
-
 // The number of words of a group's counters.
 pub fn group_size(merge: u8) -> usize
-    requires { ⌜ valid 3 merge ≡ true ⌝ }
     ensures { λ r. ⌜ r ≡ groupSize merge ⌝ }
     ensures { λ r. ⌜ r ≤ 24 ⌝ }
 {
-    if merge / 8 % 2 == 1 {
-        return 3;
+    let mut n = 0;
+    for k in 0..8 {
+        n += slot_size(merge, k);
     }
-    half_size(merge % 16) + half_size(merge / 16)
+    n
 }

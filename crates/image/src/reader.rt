@@ -10,17 +10,15 @@ use word::payload;
 use word::stop;
 use word::tested;
 ghost use mathlib.Core.Path.{_≡_};
-ghost use mathlib.Core.Bool.{true, cond};
+ghost use mathlib.Core.Bool.{true};
 ghost use mathlib.Core.List.{_++_, map};
 ghost use Prim.Native.Nat.{ℕ, _+_, _*_, _/_, _%_, _^_, _<_, _≤_};
 ghost use lib.ListN.{length, getD, take, drop};
 ghost use lib.Seq.{sets};
-ghost use Rattle.layout.specs.Layout.{bit, valid};
 ghost use Rattle.row.specs.Geometry.{stride};
 ghost use Rattle.row.specs.Rows.{withGroup};
-ghost use Rattle.word.specs.Word.{next};
-ghost use Rattle.image.specs.Write.{allValid, groupSize};
-ghost use Rattle.image.specs.Read.{checkHead, checkParts, checkSlots, checkGroups, checkFour, checkFours, checkEnd, checked, valueFrom, mergesAt, readGroup, readGroups, afterGroups, readFours, afterFours, readRows};
+ghost use Rattle.image.specs.Write.{groupSize};
+ghost use Rattle.image.specs.Read.{checkHead, checkParts, checkSlot, checkSlots, checkGroups, checkFour, checkFours, checkEnd, checked, valueFrom, mergesAt, readSlot, readGroup, readGroups, afterGroups, readFours, afterFours, readRows};
 
 pub fn check_head(words: &[u32], d: usize, w: usize) -> Step
     requires { ⌜ d ≤ 8 ⌝ }
@@ -88,52 +86,39 @@ pub fn check_parts(words: &[u32], p: usize, n: u32, limit: u32) -> Step
     go(at)
 }
 
-// The words of two slots with this merge bit.
-pub fn check_pair(words: &[u32], p: usize, merge: u8) -> Step
-    ensures { λ s. ⌜ s ≡ cond (bit merge 0) (checkParts 1 (now (words .entry)) p (2 ^ 16)) (next (checkParts 1 (now (words .entry)) p (2 ^ 8)) (λ r. checkParts 1 (now (words .entry)) r (2 ^ 8))) ⌝ }
+// The words of the counter that starts at a slot, if one does.
+pub fn check_slot(words: &[u32], p: usize, merge: u8, k: usize) -> Step
+    ensures { λ r. ⌜ r ≡ checkSlot merge k (now (words .entry)) p ⌝ }
 {
-    if merge % 2 == 1 {
-        return check_parts(words, p, 1, 65536);
+    let level = format::level_at(merge, k);
+    if !format::starts(level, k) {
+        return go(p);
     }
-    let s = check_parts(words, p, 1, 256);
-    if s.status != 0 {
-        return s;
-    }
-    check_parts(words, s.position, 1, 256)
-}
-
-// The words of four slots with these merge bits.
-pub fn check_half(words: &[u32], p: usize, merge: u8) -> Step
-    ensures { λ s. ⌜ s ≡ cond (bit merge 1) (checkParts 2 (now (words .entry)) p (2 ^ 8)) (next (cond (bit (merge % 4) 0) (checkParts 1 (now (words .entry)) p (2 ^ 16)) (next (checkParts 1 (now (words .entry)) p (2 ^ 8)) (λ r. checkParts 1 (now (words .entry)) r (2 ^ 8)))) (λ q. cond (bit (merge / 4) 0) (checkParts 1 (now (words .entry)) q (2 ^ 16)) (next (checkParts 1 (now (words .entry)) q (2 ^ 8)) (λ r. checkParts 1 (now (words .entry)) r (2 ^ 8))))) ⌝ }
-{
-    if merge / 2 % 2 == 1 {
-        return check_parts(words, p, 2, 256);
-    }
-    let s = check_pair(words, p, merge % 4);
-    if s.status != 0 {
-        return s;
-    }
-    check_pair(words, s.position, merge / 4)
+    check_parts(
+        words,
+        p,
+        format::words_of(level),
+        1 << format::first_bits(level),
+    )
 }
 
 // The words of a group's counters.
 pub fn check_group(words: &[u32], p: usize, merge: u8) -> Step
-    requires { ⌜ valid 3 merge ≡ true ⌝ }
-    ensures { λ s. ⌜ s ≡ checkSlots 8 0 merge (now (words .entry)) p ⌝ }
+    ensures { λ r. ⌜ r ≡ checkSlots 8 0 merge (now (words .entry)) p ⌝ }
 {
-    if merge / 8 % 2 == 1 {
-        return check_parts(words, p, 3, 65536);
+    let mut at = p;
+    for k in 0..8 {
+        let s = check_slot(words, at, merge, k);
+        if s.status != 0 {
+            return s;
+        }
+        at = s.position;
     }
-    let s = check_half(words, p, merge % 16);
-    if s.status != 0 {
-        return s;
-    }
-    check_half(words, s.position, merge / 16)
+    go(at)
 }
 
 // The words of the counters of four groups.
 pub fn check_groups(words: &[u32], p: usize, merges: [u8; 4]) -> Step
-    requires { ⌜ allValid merges ≡ true ⌝ }
     ensures { λ r. ⌜ r ≡ checkGroups merges (now (words .entry)) p ⌝ }
 {
     let mut at = p;
@@ -150,7 +135,6 @@ pub fn check_groups(words: &[u32], p: usize, merges: [u8; 4]) -> Step
 // The merge bytes of the layout word at a position.
 pub fn merges_at(words: &[u32], p: usize) -> [u8; 4]
     ensures { λ r. ⌜ r ≡ mergesAt (now (words .entry)) p ⌝ }
-    ensures { λ r. ⌜ allValid r ≡ true ⌝ }
 {
     let code = payload(words, p);
     if code == 0 {
@@ -241,49 +225,34 @@ pub fn value_at(words: &[u32], p: usize, n: u32) -> u64
     v
 }
 
-// The count bytes of two slots with this merge bit, as one number.
-pub fn read_pair(words: &[u32], p: usize, merge: u8) -> u64
+// A group with the counter that starts at a slot, if one does.
+pub fn read_slot(g: Group, k: usize, words: &[u32], p: usize) -> Group
     requires { ⌜ p < 2 ^ 32 ⌝ }
-    ensures { λ r. ⌜ r ≡ cond (bit merge 0) (valueFrom 1 0 (now (words .entry)) p % 2 ^ 16) (valueFrom 1 0 (now (words .entry)) (p + 1) % 2 ^ 8 * 2 ^ 8 + valueFrom 1 0 (now (words .entry)) p % 2 ^ 8) ⌝ }
-    ensures { λ r. ⌜ r < 2 ^ 16 ⌝ }
+    ensures { λ r. ⌜ r ≡ readSlot k g (now (words .entry)) p ⌝ }
 {
-    if merge % 2 == 1 {
-        return value_at(words, p, 1) % 65536;
+    let level = format::level_at(g.merge, k);
+    if !format::starts(level, k) {
+        return g;
     }
-    let low = value_at(words, p, 1) % 256;
-    value_at(words, p + 1, 1) % 256 * 256 + low
-}
-
-// The count bytes of four slots with these merge bits, as one number.
-pub fn read_half(words: &[u32], p: usize, merge: u8) -> u64
-    requires { ⌜ p < 2 ^ 31 + 4 ⌝ }
-    ensures { λ r. ⌜ r ≡ cond (bit merge 1) (valueFrom 2 0 (now (words .entry)) p % 2 ^ 32) ((cond (bit (merge / 4) 0) (valueFrom 1 0 (now (words .entry)) (p + cond (bit (merge % 4) 0) 1 2) % 2 ^ 16) (valueFrom 1 0 (now (words .entry)) ((p + cond (bit (merge % 4) 0) 1 2) + 1) % 2 ^ 8 * 2 ^ 8 + valueFrom 1 0 (now (words .entry)) (p + cond (bit (merge % 4) 0) 1 2) % 2 ^ 8)) * 2 ^ 16 + cond (bit (merge % 4) 0) (valueFrom 1 0 (now (words .entry)) p % 2 ^ 16) (valueFrom 1 0 (now (words .entry)) (p + 1) % 2 ^ 8 * 2 ^ 8 + valueFrom 1 0 (now (words .entry)) p % 2 ^ 8)) ⌝ }
-    ensures { λ r. ⌜ r < 2 ^ 32 ⌝ }
-{
-    if merge / 2 % 2 == 1 {
-        return value_at(words, p, 2) % 4294967296;
-    }
-    let low = read_pair(words, p, merge % 4);
-    read_pair(words, p + format::pair_size(merge % 4), merge / 4) * 65536 + low
+    let o = group::change(g, k, value_at(words, p, format::words_of(level)));
+    o.group
 }
 
 // A group with the counters at a position.
 pub fn read_group(merge: u8, words: &[u32], p: usize) -> Group
-    requires { ⌜ p < 2 ^ 31 ⌝ ∗ ⌜ valid 3 merge ≡ true ⌝ }
+    requires { ⌜ p < 2 ^ 31 ⌝ }
     ensures { λ r. ⌜ r ≡ readGroup merge (now (words .entry)) p ⌝ }
 {
-    if merge / 8 % 2 == 1 {
-        return Group {
-            counts: group::bytes_of(value_at(words, p, 3)),
-            merge,
-        };
-    }
-    let low = read_half(words, p, merge % 16);
-    let high = read_half(words, p + format::half_size(merge % 16), merge / 16);
-    Group {
-        counts: group::bytes_of(high * 4294967296 + low),
+    let mut g = Group {
+        counts: [0; 8],
         merge,
+    };
+    let mut at = p;
+    for k in 0..8 {
+        g = read_slot(g, k, words, at);
+        at += format::slot_size(merge, k);
     }
+    g
 }
 
 // n count bytes of a row from `at` on, each from a word.
@@ -298,7 +267,7 @@ pub fn read_counts(row: &mut [u8], at: usize, words: &[u32], p: usize, n: usize)
 
 // Group g of a row. Gives the position after its words.
 pub fn read_into(row: &mut [u8], w: usize, g: usize, merge: u8, words: &[u32], p: usize) -> usize
-    requires { ⌜ 8 * g + 8 ≤ w ⌝ ∗ ⌜ w + g < length (now row) ⌝ ∗ ⌜ p < 2 ^ 31 ⌝ ∗ ⌜ valid 3 merge ≡ true ⌝ }
+    requires { ⌜ 8 * g + 8 ≤ w ⌝ ∗ ⌜ w + g < length (now row) ⌝ ∗ ⌜ p < 2 ^ 31 ⌝ }
     ensures { λ r. ⌜ r ≡ p + groupSize merge ⌝ }
     ensures { λ r. ⌜ r ≤ p + 24 ⌝ }
     ensures { λ _. ⌜ now (row .exit) ≡ withGroup w (now (row .entry)) g (readGroup merge (now (words .entry)) p) ⌝ }
@@ -323,7 +292,7 @@ pub fn read_groups(
     words: &[u32],
     p: usize,
 ) -> usize
-    requires { ⌜ 8 * g + 32 ≤ w ⌝ ∗ ⌜ w + g + 4 ≤ length (now row) ⌝ ∗ ⌜ p < 2 ^ 30 ⌝ ∗ ⌜ allValid merges ≡ true ⌝ }
+    requires { ⌜ 8 * g + 32 ≤ w ⌝ ∗ ⌜ w + g + 4 ≤ length (now row) ⌝ ∗ ⌜ p < 2 ^ 30 ⌝ }
     ensures { λ r. ⌜ r ≡ afterGroups merges p ⌝ }
     ensures { λ r. ⌜ r ≤ p + 96 ⌝ }
     ensures { λ _. ⌜ now (row .exit) ≡ readGroups merges g w (now (row .entry)) (now (words .entry)) p ⌝ }

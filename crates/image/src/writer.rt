@@ -6,18 +6,16 @@ use crate::geometry::log_width;
 use group::Group;
 use row::load;
 ghost use mathlib.Core.Path.{_≡_};
-ghost use mathlib.Core.Bool.{true, false, cond};
+ghost use mathlib.Core.Bool.{true, false};
 ghost use mathlib.Core.List.{_∷_, [], _++_, map};
 ghost use Prim.Native.Nat.{_+_, _*_, _/_, _%_, _^_, _<_, _≤_};
 ghost use lib.ListN.{length, getD, take, drop};
 ghost use lib.Seq.{sets};
-ghost use Rattle.layout.specs.Layout.{bit, valid};
-ghost use Rattle.group.specs.Group.{bytes};
 ghost use Rattle.row.specs.Geometry.{stride};
 ghost use Rattle.row.specs.Rows.{groupAt};
 ghost use Rattle.image.specs.Image as spec;
-ghost use Rattle.image.specs.Image.{layoutKind, countKind, parts, groupWords, groupsWords, layoutAt, fourWords, rowWords, rowsWords, image};
-ghost use Rattle.image.specs.Write.{allValid, validRows, groupSize};
+ghost use Rattle.image.specs.Image.{layoutKind, countKind, parts, slotWords, groupWords, groupsWords, layoutAt, fourWords, rowWords, rowsWords, image};
+ghost use Rattle.image.specs.Write.{allValid, validRows, slotSize, groupSize};
 
 // Whether four bytes are there and all are 0.
 pub fn clear(row: &[u8], at: usize) -> bool
@@ -79,7 +77,7 @@ pub fn rows_valid(memory: &[u8], d: usize, w: usize) -> bool
 
 // The number of words of the counters of four groups, from group g on.
 pub fn groups_size(row: &[u8], w: usize, g: usize) -> usize
-    requires { ⌜ w + g + 4 ≤ length (now row) ⌝ ∗ ⌜ allValid (drop w (now row)) ≡ true ⌝ }
+    requires { ⌜ w + g + 4 ≤ length (now row) ⌝ }
     ensures { λ r. ⌜ r ≡ length (groupsWords 4 g w (now (row .entry))) ⌝ }
     ensures { λ r. ⌜ r ≤ 96 ⌝ }
 {
@@ -95,7 +93,7 @@ pub fn groups_size(row: &[u8], w: usize, g: usize) -> usize
 
 // The number of words of a row.
 pub fn row_size(row: &[u8], w: usize) -> usize
-    requires { ⌜ w + w / 8 ≤ length (now row) ⌝ ∗ ⌜ w ≤ 65536 ⌝ ∗ ⌜ allValid (drop w (now row)) ≡ true ⌝ }
+    requires { ⌜ w + w / 8 ≤ length (now row) ⌝ ∗ ⌜ w ≤ 65536 ⌝ }
     ensures { λ r. ⌜ r ≡ length (rowWords (w / 32) 0 w (now (row .entry))) ⌝ }
     ensures { λ r. ⌜ r ≤ 97 * 2048 ⌝ }
 {
@@ -108,7 +106,7 @@ pub fn row_size(row: &[u8], w: usize) -> usize
 
 // The number of words of d rows.
 pub fn rows_size(memory: &[u8], d: usize, w: usize) -> usize
-    requires { ⌜ d * stride w ≤ length (now memory) ⌝ ∗ ⌜ w ≤ 65536 ⌝ ∗ ⌜ d ≤ 8 ⌝ ∗ ⌜ validRows d w (now memory) ≡ true ⌝ }
+    requires { ⌜ d * stride w ≤ length (now memory) ⌝ ∗ ⌜ w ≤ 65536 ⌝ ∗ ⌜ d ≤ 8 ⌝ }
     ensures { λ r. ⌜ r ≡ length (rowsWords d w (now (memory .entry))) ⌝ }
     ensures { λ r. ⌜ r ≤ 97 * 16384 ⌝ }
 {
@@ -138,58 +136,36 @@ pub fn put_parts(words: &mut [u32], p: usize, n: u32, value: u64) -> usize
     at
 }
 
-// The words of two slots: their count bytes as one number, and their merge bit.
-pub fn put_pair(words: &mut [u32], p: usize, v: u64, merge: u8) -> usize
-    requires { ⌜ p + length (cond (bit merge 0) (parts 1 v) (parts 1 (v % 2 ^ 8) ++ parts 1 (v / 2 ^ 8))) ≤ length (now words) ⌝ }
-    ensures { λ r. ⌜ r ≡ p + length (cond (bit merge 0) (parts 1 v) (parts 1 (v % 2 ^ 8) ++ parts 1 (v / 2 ^ 8))) ⌝ }
-    ensures { λ _. ⌜ now (words .exit) ≡ sets (now (words .entry)) p (cond (bit merge 0) (parts 1 v) (parts 1 (v % 2 ^ 8) ++ parts 1 (v / 2 ^ 8))) ⌝ }
+// The words of the counter that starts at a slot, if one does.
+pub fn put_slot(words: &mut [u32], p: usize, g: Group, k: usize) -> usize
+    requires { ⌜ p + slotSize (g .merge) k ≤ length (now words) ⌝ }
+    ensures { λ r. ⌜ r ≡ p + slotSize (g .merge) k ⌝ }
+    ensures { λ _. ⌜ now (words .exit) ≡ sets (now (words .entry)) p (slotWords g k) ⌝ }
 {
-    if merge % 2 == 1 {
-        return put_parts(words, p, 1, v);
+    let level = format::level_at(g.merge, k);
+    if !format::starts(level, k) {
+        return p;
     }
-    let at = put_parts(words, p, 1, v % 256);
-    put_parts(words, at, 1, v / 256)
-}
-
-// The words of four slots: their count bytes as one number, and their merge bits.
-pub fn put_half(words: &mut [u32], p: usize, v: u64, merge: u8) -> usize
-    requires { ⌜ p + length (cond (bit merge 1) (parts 2 v) (cond (bit (merge % 4) 0) (parts 1 (v % 2 ^ 16)) (parts 1 ((v % 2 ^ 16) % 2 ^ 8) ++ parts 1 ((v % 2 ^ 16) / 2 ^ 8)) ++ cond (bit (merge / 4) 0) (parts 1 (v / 2 ^ 16)) (parts 1 ((v / 2 ^ 16) % 2 ^ 8) ++ parts 1 ((v / 2 ^ 16) / 2 ^ 8)))) ≤ length (now words) ⌝ }
-    ensures { λ r. ⌜ r ≡ p + length (cond (bit merge 1) (parts 2 v) (cond (bit (merge % 4) 0) (parts 1 (v % 2 ^ 16)) (parts 1 ((v % 2 ^ 16) % 2 ^ 8) ++ parts 1 ((v % 2 ^ 16) / 2 ^ 8)) ++ cond (bit (merge / 4) 0) (parts 1 (v / 2 ^ 16)) (parts 1 ((v / 2 ^ 16) % 2 ^ 8) ++ parts 1 ((v / 2 ^ 16) / 2 ^ 8)))) ⌝ }
-    ensures { λ _. ⌜ now (words .exit) ≡ sets (now (words .entry)) p (cond (bit merge 1) (parts 2 v) (cond (bit (merge % 4) 0) (parts 1 (v % 2 ^ 16)) (parts 1 ((v % 2 ^ 16) % 2 ^ 8) ++ parts 1 ((v % 2 ^ 16) / 2 ^ 8)) ++ cond (bit (merge / 4) 0) (parts 1 (v / 2 ^ 16)) (parts 1 ((v / 2 ^ 16) % 2 ^ 8) ++ parts 1 ((v / 2 ^ 16) / 2 ^ 8)))) ⌝ }
-{
-    if merge / 2 % 2 == 1 {
-        return put_parts(words, p, 2, v);
-    }
-    let at = put_pair(words, p, v % 65536, merge % 4);
-    put_pair(words, at, v / 65536, merge / 4)
-}
-
-// The words of a group's counters: its count bytes as one number, and its merge byte.
-pub fn put_block(words: &mut [u32], p: usize, v: u64, merge: u8) -> usize
-    requires { ⌜ p + groupSize merge ≤ length (now words) ⌝ ∗ ⌜ valid 3 merge ≡ true ⌝ }
-    ensures { λ r. ⌜ r ≡ p + groupSize merge ⌝ }
-    ensures { λ _. ⌜ now (words .exit) ≡ sets (now (words .entry)) p (groupWords (record { counts = bytes 8 v; merge = merge })) ⌝ }
-{
-    if merge / 8 % 2 == 1 {
-        return put_parts(words, p, 3, v);
-    }
-    let at = put_half(words, p, v % 4294967296, merge % 16);
-    put_half(words, at, v / 4294967296, merge / 16)
+    let c = group::counter(g, k);
+    put_parts(words, p, format::words_of(level), c.value)
 }
 
 // The words of a group's counters.
 pub fn put_group(words: &mut [u32], p: usize, g: Group) -> usize
-    requires { ⌜ p + groupSize (g .merge) ≤ length (now words) ⌝ ∗ ⌜ valid 3 (g .merge) ≡ true ⌝ }
+    requires { ⌜ p + groupSize (g .merge) ≤ length (now words) ⌝ }
     ensures { λ r. ⌜ r ≡ p + groupSize (g .merge) ⌝ }
     ensures { λ _. ⌜ now (words .exit) ≡ sets (now (words .entry)) p (groupWords g) ⌝ }
 {
-    let counts = g.counts;
-    put_block(words, p, group::number_of(counts), g.merge)
+    let mut at = p;
+    for k in 0..8 {
+        at = put_slot(words, at, g, k);
+    }
+    at
 }
 
 // The words of the counters of four groups, from group g on.
 pub fn put_groups(words: &mut [u32], p: usize, row: &[u8], w: usize, g: usize) -> usize
-    requires { ⌜ 8 * g + 32 ≤ w ⌝ ∗ ⌜ w + g + 4 ≤ length (now row) ⌝ ∗ ⌜ p + length (groupsWords 4 g w (now row)) ≤ length (now words) ⌝ ∗ ⌜ allValid (drop w (now row)) ≡ true ⌝ }
+    requires { ⌜ 8 * g + 32 ≤ w ⌝ ∗ ⌜ w + g + 4 ≤ length (now row) ⌝ ∗ ⌜ p + length (groupsWords 4 g w (now row)) ≤ length (now words) ⌝ }
     ensures { λ r. ⌜ r ≡ p + length (groupsWords 4 g w (now (row .entry))) ⌝ }
     ensures { λ _. ⌜ now (words .exit) ≡ sets (now (words .entry)) p (groupsWords 4 g w (now (row .entry))) ⌝ }
 {
@@ -232,7 +208,7 @@ pub fn put_clear(words: &mut [u32], p: usize, row: &[u8], g: usize)
 
 // The words of 32 slots, from group g on, by group.
 pub fn put_mixed(words: &mut [u32], p: usize, row: &[u8], w: usize, g: usize) -> usize
-    requires { ⌜ 8 * g + 32 ≤ w ⌝ ∗ ⌜ w + g + 4 ≤ length (now row) ⌝ ∗ ⌜ p + length (fourWords w (now row) g) ≤ length (now words) ⌝ ∗ ⌜ allValid (drop w (now row)) ≡ true ⌝ }
+    requires { ⌜ 8 * g + 32 ≤ w ⌝ ∗ ⌜ w + g + 4 ≤ length (now row) ⌝ ∗ ⌜ p + length (fourWords w (now row) g) ≤ length (now words) ⌝ }
     ensures { λ r. ⌜ r ≡ p + length (fourWords w (now (row .entry)) g) ⌝ }
     ensures { λ _. ⌜ now (words .exit) ≡ sets (now (words .entry)) p (fourWords w (now (row .entry)) g) ⌝ }
 {
@@ -242,7 +218,7 @@ pub fn put_mixed(words: &mut [u32], p: usize, row: &[u8], w: usize, g: usize) ->
 
 // The words of 32 slots, from group g on.
 pub fn put_four(words: &mut [u32], p: usize, row: &[u8], w: usize, g: usize) -> usize
-    requires { ⌜ 8 * g + 32 ≤ w ⌝ ∗ ⌜ w + g + 4 ≤ length (now row) ⌝ ∗ ⌜ p + length (fourWords w (now row) g) ≤ length (now words) ⌝ ∗ ⌜ allValid (drop w (now row)) ≡ true ⌝ }
+    requires { ⌜ 8 * g + 32 ≤ w ⌝ ∗ ⌜ w + g + 4 ≤ length (now row) ⌝ ∗ ⌜ p + length (fourWords w (now row) g) ≤ length (now words) ⌝ }
     ensures { λ r. ⌜ r ≡ p + length (fourWords w (now (row .entry)) g) ⌝ }
     ensures { λ _. ⌜ now (words .exit) ≡ sets (now (words .entry)) p (fourWords w (now (row .entry)) g) ⌝ }
 {
@@ -255,7 +231,7 @@ pub fn put_four(words: &mut [u32], p: usize, row: &[u8], w: usize, g: usize) -> 
 
 // The words of a row.
 pub fn put_row(words: &mut [u32], p: usize, row: &[u8], w: usize) -> usize
-    requires { ⌜ w + w / 8 ≤ length (now row) ⌝ ∗ ⌜ w ≤ 65536 ⌝ ∗ ⌜ p + length (rowWords (w / 32) 0 w (now row)) ≤ length (now words) ⌝ ∗ ⌜ allValid (drop w (now row)) ≡ true ⌝ }
+    requires { ⌜ w + w / 8 ≤ length (now row) ⌝ ∗ ⌜ w ≤ 65536 ⌝ ∗ ⌜ p + length (rowWords (w / 32) 0 w (now row)) ≤ length (now words) ⌝ }
     ensures { λ r. ⌜ r ≡ p + length (rowWords (w / 32) 0 w (now (row .entry))) ⌝ }
     ensures { λ _. ⌜ now (words .exit) ≡ sets (now (words .entry)) p (rowWords (w / 32) 0 w (now (row .entry))) ⌝ }
 {
@@ -268,7 +244,7 @@ pub fn put_row(words: &mut [u32], p: usize, row: &[u8], w: usize) -> usize
 
 // The words of d rows.
 pub fn put_rows(words: &mut [u32], p: usize, memory: &[u8], d: usize, w: usize) -> usize
-    requires { ⌜ d * stride w ≤ length (now memory) ⌝ ∗ ⌜ w ≤ 65536 ⌝ ∗ ⌜ p + length (rowsWords d w (now memory)) ≤ length (now words) ⌝ ∗ ⌜ validRows d w (now memory) ≡ true ⌝ }
+    requires { ⌜ d * stride w ≤ length (now memory) ⌝ ∗ ⌜ w ≤ 65536 ⌝ ∗ ⌜ p + length (rowsWords d w (now memory)) ≤ length (now words) ⌝ }
     ensures { λ r. ⌜ r ≡ p + length (rowsWords d w (now (memory .entry))) ⌝ }
     ensures { λ _. ⌜ now (words .exit) ≡ sets (now (words .entry)) p (rowsWords d w (now (memory .entry))) ⌝ }
 {
@@ -284,7 +260,7 @@ pub fn put_rows(words: &mut [u32], p: usize, memory: &[u8], d: usize, w: usize) 
 
 // The whole image.
 pub fn put_image(words: &mut [u32], memory: &[u8], d: usize, w: usize)
-    requires { ⌜ d * stride w ≤ length (now memory) ⌝ ∗ ⌜ w ≤ 65536 ⌝ ∗ ⌜ d ≤ 8 ⌝ ∗ ⌜ length (image d w (now memory)) ≤ length (now words) ⌝ ∗ ⌜ validRows d w (now memory) ≡ true ⌝ }
+    requires { ⌜ d * stride w ≤ length (now memory) ⌝ ∗ ⌜ w ≤ 65536 ⌝ ∗ ⌜ d ≤ 8 ⌝ ∗ ⌜ length (image d w (now memory)) ≤ length (now words) ⌝ }
     ensures { λ _. ⌜ now (words .exit) ≡ image d w (now (memory .entry)) ++ drop (length (image d w (now (memory .entry)))) (now (words .entry)) ⌝ }
 {
     words[0] = word(word::HEAD, log_width(w) * 16 + d as u32);

@@ -46,8 +46,7 @@ rows-size-requires c κs = let a = c .before .before .before .before .before .be
     let s = c .before .before .before .bad-shape in
     let z = c .before .before .if1 .left in
     let k = sound-call (a .d) (a .w) (length (a .memory .now)) (sym (s .ensures) ∙ z) in
-    let v = sym (c .before .rows-valid .ensures) ∙ not-false _ (c .if2 .left) in
-    (omega arith, (omega arith, (omega arith, v)))
+    (omega arith, (omega arith, omega arith))
 
 add-count : tie.Need-add-count
 add-count c = search needs
@@ -68,8 +67,7 @@ put-image-requires c κs = let a = c .before .before .before .before .before .be
     let s = c .before .before .before .before .before .before .bad-shape in
     let z = c .before .before .before .before .before .if1 .left in
     let k = sound-call (a .d) (a .w) (length (a .memory .now)) (sym (s .ensures) ∙ z) in
-    let v = sym (c .before .before .before .before .rows-valid .ensures) ∙ not-false _ (c .before .before .before .if2 .left) in
-    (omega arith, (omega arith, (omega arith, (omega (arith, image-length (a .d) (a .w) (a .memory .now), c .before .before .rows-size .ensures .0), v))))
+    (omega arith, (omega arith, (omega arith, omega (arith, image-length (a .d) (a .w) (a .memory .now), c .before .before .rows-size .ensures .0))))
 
 accepted-requires : tie.Need-accepted-requires
 accepted-requires c κs = search needs

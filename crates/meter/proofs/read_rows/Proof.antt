@@ -9,7 +9,6 @@ use Rattle.group.specs.Group.{read}
 use Rattle.row.specs.Geometry.{stride}
 use Rattle.row.specs.Order.{earlier, earliest}
 use Rattle.row.specs.Rows.{ofRows, groupAt, least, leastOr}
-use Rattle.meter.specs.Meter.{rowOf}
 use Rattle.meter.proofs.Gather.{one-row, status-turn, status-end, least-start, least-turn, least-end, statuses-start}
 use Rattle.meter.proofs.Slots.{slotStatus, slotValue}
 use Rattle.meter.proofs.read_rows.Statement.{statement}

@@ -39,7 +39,7 @@ unfolding checkFour
 returns-3 c = let a = c .before .before .before .before .before .before .before .before .args in
     let s = c .before .before .before .before .below in
     c .check-groups .ensures
-    ∙ ap (λ (m : List ℕ). checkGroups m (a .words .now) (s .result .position)) (c .before .merges-at .ensures .0)
+    ∙ ap (λ (m : List ℕ). checkGroups m (a .words .now) (s .result .position)) (c .before .merges-at .ensures)
     ∙ sym (turn (s .result) _ _ (s .ensures) (c .before .before .if2 .left))
 
 pub check-four-spec : {M : Type 1} → statement M

@@ -6,7 +6,6 @@ use lib.ListN.{length, drop}
 use Rattle.image.specs.Read.{checkGroups}
 use Rattle.word.proofs.Laws.{turn, halt}
 use Rattle.image.proofs.Laws.{check-groups-step, check-groups-none}
-use Rattle.image.proofs.Blocks.{merge-valid}
 use Rattle.image.proofs.reader.check_groups.Statement.{statement}
 use Rattle.image.proofs.reader.check_groups.Tie as tie
 
@@ -23,10 +22,7 @@ array-read-check-group : tie.Need-array-read-check-group Inv-loop μ-loop
 array-read-check-group c = search needs
 
 check-group-requires : tie.Need-check-group-requires Inv-loop μ-loop
-check-group-requires c κs = let l = c .before .loop in
-    let a = c .before .before .before .args in
-    let long : length (a .t3) ≡ 4 = search needs in
-    merge-valid (a .t3) (l .i) (c .before .before .before .pre) (omega arith)
+check-group-requires c κs = search needs
 
 returns : tie.Need-returns Inv-loop μ-loop
 returns c = let l = c .before .before .before .before .loop in

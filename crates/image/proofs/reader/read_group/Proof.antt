@@ -1,66 +1,66 @@
-use mathlib.Core.Path.{sym, ap, ap₂, _∙_}
-use mathlib.Core.List.{List}
-use Prim.Native.Nat.{ℕ, _+_, _*_, _/_, _%_, _^_, _<_}
-use native.Mathlib.Nat.{mod-eq-of-lt}
+use mathlib.Core.Path.{_≡_, refl, sym, ap, ap₂, _∙_}
+use Prim.Native.Nat.{ℕ, _+_, _-_, _*_, _≤_}
 use native.Mathlib.Omega.{arith}
-use Rattle.group.specs.Group.{bytes}
-use Rattle.image.proofs.Halves.{halfRead, group-read-one, group-read-two}
 use borrow.Author.Needs.{needs}
+use Rattle.group.specs.declared.Group.{Group}
+use Rattle.image.specs.Write.{slotSize}
+use Rattle.image.specs.Read.{readSlots, readGroup}
+use Rattle.image.proofs.Laws.{read-slot-merge, read-slots-step, read-slots-none}
 use Rattle.image.proofs.reader.read_group.Statement.{statement}
 use Rattle.image.proofs.reader.read_group.Tie as tie
 
-value-at-requires : tie.Need-value-at-requires
-value-at-requires c κs = search needs
+abbrev Inv-loop : tie.InvT-loop
+Inv-loop merge words p g₀ at₀ k₀ g at k = (k ≤ 8) × (at ≤ p + 3 * k) × (g .merge ≡ merge) × (readSlots (8 - k) k g words at ≡ readGroup merge words p)
 
-bytes-of-requires : tie.Need-bytes-of-requires
-bytes-of-requires c κs = search needs
+abbrev μ-loop : tie.MeasureT-loop
+μ-loop merge words p g₀ at₀ k₀ g at k = 8 - k
 
-returns : tie.Need-returns
-returns c = let a = c .before .before .before .before .args in
-    let v = c .before .value-at in
-    let low : v .result < 2 ^ 64 = omega arith in
-    let e = c .bytes-of .ensures ∙ ap (bytes 8) (sym (mod-eq-of-lt {n = v .result} {m = 2 ^ 64} low) ∙ ap (λ (x : ℕ). x % 2 ^ 64) (v .ensures)) in
-    ap (λ (l : List ℕ). record { counts = l; merge = a .merge }) e ∙ sym (group-read-one (a .words .now) (a .merge) (a .p) (c .before .before .before .before .pre .1) (c .before .before .if1 .taken))
+loop-holds : tie.Need-loop-holds Inv-loop μ-loop
+unfolding readGroup
+loop-holds c = (omega arith, omega arith, refl, refl)
 
-read-half-requires : tie.Need-read-half-requires
-read-half-requires c κs = search needs
+read-slot-requires : tie.Need-read-slot-requires Inv-loop μ-loop
+read-slot-requires c κs = search needs
 
-half-size-requires : tie.Need-half-size-requires
-half-size-requires c κs = search needs
+slot-size-requires : tie.Need-slot-size-requires Inv-loop μ-loop
+slot-size-requires c κs = search needs
 
-add-read-half : tie.Need-add-read-half
-add-read-half c = search needs
+add-at : tie.Need-add-at Inv-loop μ-loop
+add-at c = search needs
 
-read-half-requires-2 : tie.Need-read-half-requires-2
-read-half-requires-2 c κs = search needs
+add-k : tie.Need-add-k Inv-loop μ-loop
+add-k c = search needs
 
-mul-bytes-of : tie.Need-mul-bytes-of
-mul-bytes-of c = search needs
+loop-less : tie.Need-loop-less Inv-loop μ-loop
+loop-less c = search needs
 
-add-bytes-of : tie.Need-add-bytes-of
-add-bytes-of c = search needs
+loop-again : tie.Need-loop-again Inv-loop μ-loop
+loop-again c = let l = c .before .before .before .loop in
+    let a = c .before .before .before .before .before .args in
+    let s = c .before .read-slot in
+    let z : c .slot-size .result ≡ slotSize (l .g .merge) (l .k) = c .slot-size .ensures .0 ∙ ap (λ (m : ℕ). slotSize m (l .k)) (sym (l .inv .2)) in (
+      omega arith,
+      omega arith,
+      ap (λ (g : Group). g .merge) (s .ensures) ∙ read-slot-merge (l .k) (l .g) (a .words .now) (l .at) ∙ l .inv .2,
+      ap₂ (λ (g : Group) (n : ℕ). readSlots (8 - (l .k + 1)) (l .k + 1) g (a .words .now) (l .at + n)) (s .ensures) z
+          ∙ sym (read-slots-step 8 (l .k) (l .g) (a .words .now) (l .at) (omega arith)) ∙ l .inv .3,
+    )
 
-bytes-of-requires-2 : tie.Need-bytes-of-requires-2
-bytes-of-requires-2 c κs = search needs
-
-returns-2 : tie.Need-returns-2
-returns-2 c = let a = c .before .before .before .before .before .before .args in
-    let h = c .before .read-half2 .ensures .0 ∙ ap (λ (n : ℕ). halfRead (a .words .now) (a .p + n) (a .merge / 16)) (c .before .before .half-size .ensures .0) in
-    let e = c .bytes-of2 .ensures ∙ ap₂ (λ (x y : ℕ). bytes 8 (x * 2 ^ 32 + y)) h (c .before .before .before .read-half .ensures .0) in
-    ap (λ (l : List ℕ). record { counts = l; merge = a .merge }) e ∙ sym (group-read-two (a .words .now) (a .merge) (a .p) (c .before .before .before .before .before .before .pre .1) (c .before .before .before .before .if1 .left))
+returns : tie.Need-returns Inv-loop μ-loop
+returns c = let l = c .before .loop in
+    sym (read-slots-none (8 - l .k) (l .k) (l .g) (c .before .before .before .args .words .now) (l .at) (omega arith)) ∙ l .inv .3
 
 pub read-group-spec : {M : Type 1} → statement M
 read-group-spec =
     tie.close
     (tie.spec
-    value-at-requires
-    bytes-of-requires
-    returns
-    read-half-requires
-    half-size-requires
-    add-read-half
-    read-half-requires-2
-    mul-bytes-of
-    add-bytes-of
-    bytes-of-requires-2
-    returns-2)
+    Inv-loop
+    μ-loop
+    loop-holds
+    read-slot-requires
+    slot-size-requires
+    add-at
+    add-k
+    loop-less
+    loop-again
+    returns)

@@ -7,7 +7,6 @@ use lib.ListN.{length, drop}
 use native.Mathlib.Nat.{add-zero}
 use Rattle.image.specs.Read.{afterGroups, readGroups}
 use Rattle.image.proofs.Laws.{after-groups-step, after-groups-none, read-groups-step, read-groups-none}
-use Rattle.image.proofs.Blocks.{merge-valid}
 use Rattle.image.proofs.reader.read_groups.Statement.{statement}
 use Rattle.image.proofs.reader.read_groups.Tie as tie
 
@@ -28,10 +27,7 @@ array-read-read-into : tie.Need-array-read-read-into Inv-loop μ-loop
 array-read-read-into c = search needs
 
 read-into-requires : tie.Need-read-into-requires Inv-loop μ-loop
-read-into-requires c κs = let l = c .before .before .loop in
-    let a = c .before .before .before .before .before .args in
-    let long : length (a .t4) ≡ 4 = search needs in
-    (omega arith, (omega arith, (omega arith, merge-valid (a .t4) (l .i) (c .before .before .before .before .before .pre .1 .1 .1) (omega arith))))
+read-into-requires c κs = search needs
 
 add-i : tie.Need-add-i Inv-loop μ-loop
 add-i c = search needs

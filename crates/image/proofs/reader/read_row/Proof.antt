@@ -30,7 +30,7 @@ add-read-groups : tie.Need-add-read-groups Inv-loop μ-loop
 add-read-groups c = search needs
 
 read-groups-requires : tie.Need-read-groups-requires Inv-loop μ-loop
-read-groups-requires c κs = (omega arith, (omega arith, (omega arith, c .merges-at .ensures .1)))
+read-groups-requires c κs = search needs
 
 add-i : tie.Need-add-i Inv-loop μ-loop
 add-i c = search needs
@@ -42,7 +42,7 @@ loop-again : tie.Need-loop-again Inv-loop μ-loop
 loop-again c = let l = c .before .before .before .before .before .before .loop in
     let a = c .before .before .before .before .before .before .before .before .before .args in
     let s = c .before .before .read-groups in
-    let m = c .before .before .before .merges-at .ensures .0 in
+    let m = c .before .before .before .merges-at .ensures in
     let n = a .w / 32 - (l .i + 1) in
     let z : s .result ≡ afterGroups (mergesAt (a .words .now) (l .at)) (l .at + 1) = s .ensures .0 ∙ ap (λ (x : List ℕ). afterGroups x (l .at + 1)) m in (
       omega arith,

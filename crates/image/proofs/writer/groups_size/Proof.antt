@@ -1,5 +1,4 @@
-use native.Mathlib.Nat.{zero-add, add-zero, add-assoc}
-use Rattle.image.proofs.Blocks.{valid-at}
+use native.Mathlib.Nat.{zero-add, add-zero}
 use mathlib.Core.Path.{_≡_, sym, ap, _∙_}
 use Prim.Native.Nat.{ℕ, _+_, _-_, _*_, _≤_}
 use native.Mathlib.Omega.{arith}
@@ -41,9 +40,7 @@ shared-slice-read-group-size : tie.Need-shared-slice-read-group-size Inv-loop μ
 shared-slice-read-group-size c = search needs
 
 group-size-requires : tie.Need-group-size-requires Inv-loop μ-loop
-group-size-requires c κs = let l = c .before .before .loop in
-    let a = c .before .before .before .before .before .before .args in
-    rw (add-assoc (a .w) (a .g) (l .i)) (valid-at (a .row .now) (a .w) (a .g + l .i) (c .before .before .before .before .before .before .pre .1) (omega arith))
+group-size-requires c κs = search needs
 
 add-n : tie.Need-add-n Inv-loop μ-loop
 add-n c = search needs

@@ -1,6 +1,6 @@
 use mathlib.Core.Path.{_≡_, refl, sym, ap, _∙_}
 use mathlib.Core.List.{map}
-use Prim.Native.Nat.{ℕ, suc, _+_, _-_, _≤_}
+use Prim.Native.Nat.{suc, _+_, _-_, _≤_}
 use native.Mathlib.Omega.{arith}
 use borrow.Author.Needs.{needs}
 use lib.ListN.{length, take, drop, length-set}
@@ -9,7 +9,6 @@ use Rattle.image.specs.Image.{word, countKind}
 use Rattle.image.proofs.Plain.{counts-start, counts-step, counts-none}
 use Rattle.image.proofs.writer.put_counts.Statement.{statement}
 use Rattle.image.proofs.writer.put_counts.Tie as tie
-use Rattle.image.proofs.format.count_word.Reads as count-word-reads
 
 abbrev Inv-loop : tie.InvT-loop
 Inv-loop words₀ p row at n i₀ words i = (i ≤ n) × (length words ≡ length words₀) × (sets words (p + i) (map (word countKind) (take (n - i) (drop (at + i) row))) ≡ sets words₀ p (map (word countKind) (take n (drop at row))))

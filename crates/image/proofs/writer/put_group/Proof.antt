@@ -1,35 +1,64 @@
-use mathlib.Core.Path.{_≡_, ap, _∙_}
-use mathlib.Core.List.{List}
-use Prim.Native.Nat.{ℕ}
-use mir.Val.{Fits}
-use mir.Syntax.{w8}
-use lib.ListN.{length, getD}
-use lib.Seq.{sets}
-use Rattle.group.specs.Group.{bytes}
-use Rattle.group.proofs.Bytes.{Bytes, bytes-number}
-use Rattle.image.specs.Image.{groupWords}
+use mathlib.Core.Path.{_≡_, refl, sym, ap, _∙_}
+use Prim.Native.Nat.{ℕ, _+_, _-_, _≤_}
+use native.Mathlib.Omega.{arith}
 use borrow.Author.Needs.{needs}
+use lib.ListN.{length}
+use lib.Seq.{sets}
+use Rattle.image.specs.Image.{slotWords, slotsWords, groupWords}
+use Rattle.image.specs.Write.{slotsSize, groupSize}
+use Rattle.image.proofs.Laws.{sizes-step, sizes-none, put-turn, slot-length, slots-step, slots-none}
 use Rattle.image.proofs.writer.put_group.Statement.{statement}
 use Rattle.image.proofs.writer.put_group.Tie as tie
 
-number-of-requires : tie.Need-number-of-requires
-number-of-requires c κs = search needs
+abbrev Inv-loop : tie.InvT-loop
+Inv-loop words₀ p g at₀ k₀ words at k = (k ≤ 8) × (at + slotsSize (8 - k) k (g .merge) ≡ p + groupSize (g .merge)) × (length words ≡ length words₀) × (sets words at (slotsWords (8 - k) k g) ≡ sets words₀ p (groupWords g))
 
-put-block-requires : tie.Need-put-block-requires
-put-block-requires c κs = search needs
+abbrev μ-loop : tie.MeasureT-loop
+μ-loop words₀ p g at₀ k₀ words at k = 8 - k
 
-same-length : tie.Need-same-length
+loop-holds : tie.Need-loop-holds Inv-loop μ-loop
+unfolding groupSize groupWords
+loop-holds c = (omega arith, refl, refl, refl)
+
+put-slot-requires : tie.Need-put-slot-requires Inv-loop μ-loop
+put-slot-requires c κs = let l = c .before .before .loop in
+    omega (arith, sizes-step 8 (l .k) (c .before .before .before .before .args .g .merge) (omega arith))
+
+add-k : tie.Need-add-k Inv-loop μ-loop
+add-k c = search needs
+
+loop-less : tie.Need-loop-less Inv-loop μ-loop
+loop-less c = search needs
+
+loop-again : tie.Need-loop-again Inv-loop μ-loop
+loop-again c = let l = c .before .before .before .before .before .loop in
+    let a = c .before .before .before .before .before .before .before .args in
+    let s = c .before .before .put-slot in (
+      omega arith,
+      omega (arith, sizes-step 8 (l .k) (a .g .merge) (omega arith), s .ensures .0),
+      omega arith,
+      put-turn (l .words) _ (l .at) (s .result) (slotWords (a .g) (l .k)) _ (s .ensures .1) (s .ensures .0 ∙ ap (λ (n : ℕ). l .at + n) (sym (slot-length (a .g) (l .k))))
+          ∙ ap (sets (l .words) (l .at)) (sym (slots-step 8 (l .k) (a .g) (omega arith))) ∙ l .inv .3,
+    )
+
+same-length : tie.Need-same-length Inv-loop μ-loop
 same-length c = search needs
 
-returns : tie.Need-returns
-returns c = let a = c .before .before .before .before .before .before .before .args in
-    let s = c .before .before .put-block in
-    let n = c .before .before .before .number-of in
-    let xs = a .g .counts in
-    let long : length xs ≡ 8 = search needs in
-    let small : Bytes xs = λ i. let f : Fits w8 (getD xs i 0) = search needs in f .fits in
-    let e : bytes 8 (n .result) ≡ xs = ap (bytes 8) (n .ensures) ∙ (rw long at (bytes-number xs small)) in
-    (s .ensures .0, s .ensures .1 ∙ ap (λ (l : List ℕ). sets (a .words .now) (a .p) (groupWords (record { counts = l; merge = a .g .merge }))) e)
+returns : tie.Need-returns Inv-loop μ-loop
+returns c = let l = c .before .loop in
+    let a = c .before .before .before .args in
+    (omega (arith, sizes-none (8 - l .k) (l .k) (a .g .merge) (omega arith)), sym (ap (sets (l .words) (l .at)) (slots-none (8 - l .k) (l .k) (a .g) (omega arith))) ∙ l .inv .3)
 
 pub put-group-spec : {M : Type 1} → statement M
-put-group-spec = tie.close (tie.spec number-of-requires put-block-requires same-length returns)
+put-group-spec =
+    tie.close
+    (tie.spec
+    Inv-loop
+    μ-loop
+    loop-holds
+    put-slot-requires
+    add-k
+    loop-less
+    loop-again
+    same-length
+    returns)

@@ -6,13 +6,11 @@ use borrow.Author.Needs.{needs}
 use lib.ListN.{length}
 use lib.Seq.{sets}
 use native.Mathlib.Nat.{add-zero}
-use Rattle.layout.specs.Layout.{valid}
 use Rattle.group.specs.declared.Group.{Group}
 use Rattle.row.specs.Rows.{groupAt}
 use Rattle.image.specs.Image.{groupWords, groupsWords}
 use Rattle.image.specs.Write.{groupSize}
 use Rattle.image.proofs.Laws.{put-turn, group-length, groups-length-step, groups-step, groups-none}
-use Rattle.image.proofs.Blocks.{valid-at}
 use Rattle.image.proofs.writer.put_groups.Statement.{statement}
 use Rattle.image.proofs.writer.put_groups.Tie as tie
 
@@ -34,12 +32,9 @@ load-requires : tie.Need-load-requires Inv-loop μ-loop
 load-requires c κs = search needs
 
 put-group-requires : tie.Need-put-group-requires Inv-loop μ-loop
-unfolding groupAt
 put-group-requires c κs = let l = c .before .before .before .loop in
-    let a = c .before .before .before .before .before .before .args in (
-      omega (arith, groups-length-step 4 (l .i) (a .g) (a .w) (a .row .now) (omega arith), ap (λ (x : Group). groupSize (x .merge)) (c .load .ensures)),
-      ap (λ (x : Group). valid 3 (x .merge)) (c .load .ensures) ∙ valid-at (a .row .now) (a .w) (a .g + l .i) (c .before .before .before .before .before .before .pre .1 .1 .1) (omega arith),
-    )
+    let a = c .before .before .before .before .before .before .args in
+    omega (arith, groups-length-step 4 (l .i) (a .g) (a .w) (a .row .now) (omega arith), ap (λ (x : Group). groupSize (x .merge)) (c .load .ensures))
 
 add-i : tie.Need-add-i Inv-loop μ-loop
 add-i c = search needs

@@ -27,7 +27,7 @@ add-put-groups c = let a = c .before .before .before .before .before .args in om
 
 put-groups-requires : tie.Need-put-groups-requires
 put-groups-requires c κs = let a = c .before .before .before .before .before .args in
-    (omega arith, (omega arith, (rw (length-set (a .words .now) (a .p) (c .before .word .result)) (omega (arith, four-length (a .w) (a .row .now) (a .g))), c .before .before .before .before .before .pre .1 .1 .1)))
+    (omega arith, (omega arith, rw (length-set (a .words .now) (a .p) (c .before .word .result)) (omega (arith, four-length (a .w) (a .row .now) (a .g)))))
 
 same-length : tie.Need-same-length
 same-length c = let a = c .before .before .before .before .before .before .before .before .args in

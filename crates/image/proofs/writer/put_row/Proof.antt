@@ -29,7 +29,7 @@ put-four-requires : tie.Need-put-four-requires Inv-loop μ-loop
 put-four-requires c κs = let l = c .before .before .loop in
     let a = c .before .before .before .before .before .args in
     let z = row-length-step (a .w / 32) (l .i) (a .w) (a .row .now) (omega arith) in
-    (omega arith, (omega arith, (omega (arith, z, four-length (a .w) (a .row .now) (4 * l .i)), c .before .before .before .before .before .pre .1 .1 .1)))
+    (omega arith, (omega arith, omega (arith, z, four-length (a .w) (a .row .now) (4 * l .i))))
 
 add-i : tie.Need-add-i Inv-loop μ-loop
 add-i c = search needs

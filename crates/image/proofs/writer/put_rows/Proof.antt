@@ -7,16 +7,13 @@ use lib.ListN.{length, take, drop}
 use lib.Seq.{sets}
 use Rattle.row.specs.Geometry.{stride}
 use native.Mathlib.Nat.{sub-zero, zero-mul}
-use mathlib.Core.Bool.{true}
 use Rattle.image.specs.Image.{rowWords, rowsWords}
-use Rattle.image.specs.Write.{allValid, validRows}
-use Rattle.image.proofs.Blocks.{rows-valid}
 use Rattle.image.proofs.Laws.{put-turn, row-in, row-part, rows-step, rows-length-step, rows-none}
 use Rattle.image.proofs.writer.put_rows.Statement.{statement}
 use Rattle.image.proofs.writer.put_rows.Tie as tie
 
 abbrev Inv-loop : tie.InvT-loop
-Inv-loop words₀ p memory d w size at₀ r₀ words at r = (r ≤ d) × (size ≡ stride w) × (at + length (rowsWords (d - r) w (drop (r * stride w) memory)) ≡ p + length (rowsWords d w memory)) × (length words ≡ length words₀) × (sets words at (rowsWords (d - r) w (drop (r * stride w) memory)) ≡ sets words₀ p (rowsWords d w memory)) × (validRows (d - r) w (drop (r * stride w) memory) ≡ true)
+Inv-loop words₀ p memory d w size at₀ r₀ words at r = (r ≤ d) × (size ≡ stride w) × (at + length (rowsWords (d - r) w (drop (r * stride w) memory)) ≡ p + length (rowsWords d w memory)) × (length words ≡ length words₀) × (sets words at (rowsWords (d - r) w (drop (r * stride w) memory)) ≡ sets words₀ p (rowsWords d w memory))
 
 abbrev μ-loop : tie.MeasureT-loop
 μ-loop words₀ p memory d w size at₀ r₀ words at r = d - r
@@ -28,8 +25,7 @@ loop-holds : tie.Need-loop-holds Inv-loop μ-loop
 unfolding stride
 loop-holds c = let a = c .before .before .args in
     let e = ap₂ (λ (n k : ℕ). rowsWords n (a .w) (drop k (a .memory .now))) (sub-zero (a .d)) (zero-mul (stride (a .w))) in
-    let v = ap₂ (λ (n k : ℕ). validRows n (a .w) (drop k (a .memory .now))) (sub-zero (a .d)) (zero-mul (stride (a .w))) in
-    (omega arith, refl, ap (λ (x : List ℕ). a .p + length x) e, refl, ap (sets (a .words .now) (a .p)) e, v ∙ c .before .before .pre .1 .1 .1)
+    (omega arith, refl, ap (λ (x : List ℕ). a .p + length x) e, refl, ap (sets (a .words .now) (a .p)) e)
 
 row-fits : (c : tie.In-loop Inv-loop μ-loop) → let a = c .before .before .before .before .args in c .before .loop .r * (a .w * 9 / 8) + a .w * 9 / 8 ≤ length (a .memory .now)
 unfolding stride
@@ -57,10 +53,7 @@ put-row-requires c κs = let l = c .before .before .before .loop in
       omega (arith, row-fits (c .before .before)),
       (
         omega arith,
-        (
-          rw (row-part (a .memory .now) (l .r) (a .w) _ (l .inv .1)) (omega (arith, rows-length-step (a .memory .now) (a .d) (l .r) (a .w) (omega arith))),
-          ap (λ (x : List ℕ). allValid (drop (a .w) x)) (row-part (a .memory .now) (l .r) (a .w) _ (l .inv .1)) ∙ rows-valid (a .memory .now) (a .d) (l .r) (a .w) (omega arith) (l .inv .5) .0,
-        ),
+        rw (row-part (a .memory .now) (l .r) (a .w) _ (l .inv .1)) (omega (arith, rows-length-step (a .memory .now) (a .d) (l .r) (a .w) (omega arith))),
       ),
     )
 
@@ -83,7 +76,6 @@ loop-again c = let l = c .before .before .before .before .before .before .loop i
       omega arith,
       put-turn (l .words) _ (l .at) (s .result) row _ (s .ensures .1 ∙ ap (sets (l .words) (l .at)) e) z
           ∙ ap (sets (l .words) (l .at)) (sym (rows-step (a .memory .now) (a .d) (l .r) (a .w) (omega arith))) ∙ l .inv .4,
-      rows-valid (a .memory .now) (a .d) (l .r) (a .w) (omega arith) (l .inv .5) .1,
     )
 
 same-length : tie.Need-same-length Inv-loop μ-loop

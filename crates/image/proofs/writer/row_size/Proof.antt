@@ -23,7 +23,7 @@ mul-groups-size : tie.Need-mul-groups-size Inv-loop μ-loop
 mul-groups-size c = search needs
 
 groups-size-requires : tie.Need-groups-size-requires Inv-loop μ-loop
-groups-size-requires c κs = (omega arith, c .before .before .before .pre .1 .1)
+groups-size-requires c κs = search needs
 
 add-n : tie.Need-add-n Inv-loop μ-loop
 add-n c = search needs

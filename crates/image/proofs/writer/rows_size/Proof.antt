@@ -6,16 +6,13 @@ use borrow.Author.Needs.{needs}
 use lib.ListN.{length, take, drop}
 use Rattle.row.specs.Geometry.{stride}
 use native.Mathlib.Nat.{zero-add, sub-zero, zero-mul}
-use mathlib.Core.Bool.{true}
 use Rattle.image.specs.Image.{rowWords, rowsWords}
-use Rattle.image.specs.Write.{allValid, validRows}
-use Rattle.image.proofs.Blocks.{rows-valid}
 use Rattle.image.proofs.Laws.{row-in, row-part, rows-length-step, rows-none}
 use Rattle.image.proofs.writer.rows_size.Statement.{statement}
 use Rattle.image.proofs.writer.rows_size.Tie as tie
 
 abbrev Inv-loop : tie.InvT-loop
-Inv-loop memory d w size n₀ r₀ n r = (r ≤ d) × (size ≡ stride w) × (n ≤ 198656 * r) × (n + length (rowsWords (d - r) w (drop (r * stride w) memory)) ≡ length (rowsWords d w memory)) × (validRows (d - r) w (drop (r * stride w) memory) ≡ true)
+Inv-loop memory d w size n₀ r₀ n r = (r ≤ d) × (size ≡ stride w) × (n ≤ 198656 * r) × (n + length (rowsWords (d - r) w (drop (r * stride w) memory)) ≡ length (rowsWords d w memory))
 
 abbrev μ-loop : tie.MeasureT-loop
 μ-loop memory d w size n₀ r₀ n r = d - r
@@ -26,8 +23,7 @@ mul-size c = omega arith
 loop-holds : tie.Need-loop-holds Inv-loop μ-loop
 unfolding stride
 loop-holds c = let a = c .before .args in
-    let v = ap₂ (λ (n k : ℕ). validRows n (a .w) (drop k (a .memory .now))) (sub-zero (a .d)) (zero-mul (stride (a .w))) in
-    (omega arith, refl, omega arith, zero-add _ ∙ ap₂ (λ (n k : ℕ). length (rowsWords n (a .w) (drop k (a .memory .now)))) (sub-zero (a .d)) (zero-mul (stride (a .w))), v ∙ c .before .pre .1 .1 .1)
+    (omega arith, refl, omega arith, zero-add _ ∙ ap₂ (λ (n k : ℕ). length (rowsWords n (a .w) (drop k (a .memory .now)))) (sub-zero (a .d)) (zero-mul (stride (a .w))))
 
 row-fits : (c : tie.In-loop Inv-loop μ-loop) → let a = c .before .before .before .args in c .before .loop .r * (a .w * 9 / 8) + a .w * 9 / 8 ≤ length (a .memory .now)
 unfolding stride
@@ -50,14 +46,7 @@ part-row-size-end : tie.Need-part-row-size-end Inv-loop μ-loop
 part-row-size-end c = omega (arith, row-fits c)
 
 row-size-requires : tie.Need-row-size-requires Inv-loop μ-loop
-row-size-requires c κs = let l = c .before .before .loop in
-    let a = c .before .before .before .before .args in (
-      omega (arith, row-fits (c .before)),
-      (
-        omega arith,
-        ap (λ (x : List ℕ). allValid (drop (a .w) x)) (row-part (a .memory .now) (l .r) (a .w) _ (l .inv .1)) ∙ rows-valid (a .memory .now) (a .d) (l .r) (a .w) (omega arith) (l .inv .4) .0,
-      ),
-    )
+row-size-requires c κs = omega (arith, row-fits (c .before))
 
 add-n : tie.Need-add-n Inv-loop μ-loop
 add-n c = search needs
@@ -73,7 +62,7 @@ loop-again c = let l = c .before .before .before .loop in
     let a = c .before .before .before .before .before .args in
     let z : c .row-size .result ≡ length (rowWords (a .w / 32) 0 (a .w) (take (stride (a .w)) (drop (l .r * stride (a .w)) (a .memory .now))))
     = c .row-size .ensures .0 ∙ ap (λ (x : List ℕ). length (rowWords (a .w / 32) 0 (a .w) x)) (row-part (a .memory .now) (l .r) (a .w) _ (l .inv .1)) in
-    (omega arith, l .inv .1, omega arith, omega (arith, rows-length-step (a .memory .now) (a .d) (l .r) (a .w) (omega arith), z), rows-valid (a .memory .now) (a .d) (l .r) (a .w) (omega arith) (l .inv .4) .1)
+    (omega arith, l .inv .1, omega arith, omega (arith, rows-length-step (a .memory .now) (a .d) (l .r) (a .w) (omega arith), z))
 
 returns : tie.Need-returns Inv-loop μ-loop
 returns c = let l = c .before .loop in
