@@ -7,3 +7,4 @@ pub mod Changing
 pub mod Slots
 pub mod Places
 pub mod Carries
+pub mod Twins

@@ -33,11 +33,11 @@ module _ {n : ℕ} (l r : Block n) (k : ℕ) where
   first-right h = rw (le-ltb k (2 ^ n) h)
 
   module _ (a : ℕ) where
-    add-left : k < 2 ^ n → add (split l r) k a ≡ join (add l k a) (fits r)
+    pub add-left : k < 2 ^ n → add (split l r) k a ≡ join (add l k a) (fits r)
     unfolding add
     add-left h = rw (lt-ltb k (2 ^ n) h)
 
-    add-right : 2 ^ n ≤ k → add (split l r) k a ≡ join (fits l) (add r (k - 2 ^ n) a)
+    pub add-right : 2 ^ n ≤ k → add (split l r) k a ≡ join (fits l) (add r (k - 2 ^ n) a)
     unfolding add
     add-right h = rw (le-ltb k (2 ^ n) h)
 
@@ -122,6 +122,19 @@ add-in-place (split {n} l r) k a h = elim (decLt k (2 ^ n)) [
         let e : 8 * (i + j) ≡ 8 * j + 8 * i = omega arith in
         rw (e, pow-add 2 (8 * j) (8 * i), add-mul, mul-assoc a (2 ^ (8 * j)) (2 ^ (8 * i))) (omega arith)
 
+-- an equation of numbers holds higher up too
+pub higher-both : (i j a b y u v : ℕ) → a + u * 2 ^ (8 * j) ≡ b + v * 2 ^ (8 * j)
+    → a * 2 ^ (8 * i) + y + u * 2 ^ (8 * (i + j)) ≡ b * 2 ^ (8 * i) + y + v * 2 ^ (8 * (i + j))
+higher-both i j a b y u v e =
+    let f : 8 * (i + j) ≡ 8 * j + 8 * i = omega arith in
+    rw (f, pow-add 2 (8 * j) (8 * i), ← mul-assoc u (2 ^ (8 * j)) (2 ^ (8 * i)), ← mul-assoc v (2 ^ (8 * j)) (2 ^ (8 * i)))
+    (omega (
+      arith,
+      ap (λ (z : ℕ). z * 2 ^ (8 * i)) e,
+      add-mul a (u * 2 ^ (8 * j)) (2 ^ (8 * i)),
+      add-mul b (v * 2 ^ (8 * j)) (2 ^ (8 * i)),
+    ))
+
 -- another value in the counter changes the number at the counter's place
 pub change-word : {n : ℕ} (b : Block n) (k x : ℕ)
     → word (change b k x) + counterAt b k .value * 2 ^ (8 * first b k) ≡ word b + x % cap (counterAt b k .level) * 2 ^ (8 * first b k)
@@ -134,15 +147,3 @@ change-word (split {n} l r) k x = elim (decLt k (2 ^ n)) [
       rw (change-right l r k x m, first-right l r k m, in-right l r k m)
       (higher-both (2 ^ n) (first r (k - 2 ^ n)) (word (change r (k - 2 ^ n) x)) (word r) (word l) (counterAt r (k - 2 ^ n) .value) (x % cap (counterAt r (k - 2 ^ n) .level)) (change-word r (k - 2 ^ n) x))
 ]
-  where
-    higher-both : (i j a b y u v : ℕ) → a + u * 2 ^ (8 * j) ≡ b + v * 2 ^ (8 * j)
-        → a * 2 ^ (8 * i) + y + u * 2 ^ (8 * (i + j)) ≡ b * 2 ^ (8 * i) + y + v * 2 ^ (8 * (i + j))
-    higher-both i j a b y u v e =
-        let f : 8 * (i + j) ≡ 8 * j + 8 * i = omega arith in
-        rw (f, pow-add 2 (8 * j) (8 * i), ← mul-assoc u (2 ^ (8 * j)) (2 ^ (8 * i)), ← mul-assoc v (2 ^ (8 * j)) (2 ^ (8 * i)))
-        (omega (
-          arith,
-          ap (λ (z : ℕ). z * 2 ^ (8 * i)) e,
-          add-mul a (u * 2 ^ (8 * j)) (2 ^ (8 * i)),
-          add-mul b (v * 2 ^ (8 * j)) (2 ^ (8 * i)),
-        ))

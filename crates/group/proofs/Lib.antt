@@ -3,6 +3,7 @@ pub mod Bytes
 pub mod Laws
 pub mod Tables
 pub mod Places
+pub mod Widening
 pub mod Outcomes
 pub mod Packing
 pub mod Cases

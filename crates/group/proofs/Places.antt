@@ -113,3 +113,6 @@ room-test a b h = elim (decLt (a + b) (2 ^ 64)) [
   | yes l ↦ le-leb b (2 ^ 64 - 1 - a) (omega arith) ∙ sym (lt-ltb (a + b) (2 ^ 64) l)
   | no l ↦ lt-leb b (2 ^ 64 - 1 - a) (omega arith) ∙ sym (le-ltb (a + b) (2 ^ 64) (omega arith))
 ]
+
+pub field-le : (w q c : ℕ) → w / 2 ^ q % c * 2 ^ q ≤ w
+field-le w q c = omega (arith, mul-le-mul-right {m = w / 2 ^ q % c} {n = w / 2 ^ q} (2 ^ q) (mod-le (w / 2 ^ q) c), div-mul-le-self w (2 ^ q))

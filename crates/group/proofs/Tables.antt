@@ -4,7 +4,7 @@ use mathlib.Core.Bool.{Bool, true, false, cond, not, _&&_, and-eq-true-iff}
 use Prim.Native.Nat.{ℕ, zero, suc, _+_, _-_, _*_, _/_, _^_, _<_}
 use native.Mathlib.Decide.{decLt}
 use native.Mathlib.Omega.{arith}
-use borrow.Author.Tests.{eqb-true}
+use borrow.Author.Tests.{eqb-true, eq-eqb}
 use lib.Bits.{bitAnd, bitOr}
 use lib.Dec.{eqb}
 use Rattle.layout.specs.Layout.{bit, layout, valid, ones, widest}
@@ -102,3 +102,26 @@ unfolding block cap
 bits-unite a b m h v s z =
     let e : bitsBounds m ≡ bounds (layout 3 m) = eqb-true (bitsBounds m) (bounds (layout 3 m)) (valid-at (λ m. eqb (bitsBounds m) (bounds (layout 3 m))) all-bounds m h v) in
     unite-in-place (layout 3 m) a b s (rw e at z)
+
+-- the own bit of a block whose halves are two counters of level L from slot p on is clear
+formed-test : ℕ → ℕ → ℕ → Bool
+formed-test m p L =
+    cond (eqb (p % 2 ^ (L + 1)) 0 && (eqb (levelOf (layout 3 m) p) L && eqb (levelOf (layout 3 m) (p + 2 ^ L)) L)) (eqb (bitAnd m (2 ^ (p + 2 ^ L - 1))) 0) true
+
+slots-formed : ℕ → Bool
+slots-formed m = every (λ p. every (formed-test m p) 3) 8
+
+all-formed : every (λ m. cond (valid 3 m) (slots-formed m) true) 256 ≡ true
+unfolding every slots-formed formed-test valid ones layout bit levelOf
+all-formed = refl
+
+pub bits-formed : (m p L : ℕ) → m < 256 → valid 3 m ≡ true → p < 8 → L < 3 → p % 2 ^ (L + 1) ≡ 0
+    → counterAt (block 3 0 m) p .level ≡ L → counterAt (block 3 0 m) (p + 2 ^ L) .level ≡ L → bitAnd m (2 ^ (p + 2 ^ L - 1)) ≡ 0
+unfolding slots-formed formed-test block
+bits-formed m p L h v i j z one two =
+    let at : (k : ℕ) → levelOf (layout 3 m) k ≡ counterAt (block 3 0 m) k .level =
+    λ k. sym (level-is (block 3 0 m) k ∙ ap (λ l. levelOf l k) (shape-fill (layout 3 m) 0)) in
+    let t : formed-test m p L ≡ true =
+    every-at (formed-test m p) 3 L (every-at (λ p. every (formed-test m p) 3) 8 p (valid-at slots-formed all-formed m h v) i) j in
+    eqb-true (bitAnd m (2 ^ (p + 2 ^ L - 1))) 0
+    (rw (eq-eqb (p % 2 ^ (L + 1)) 0 z, eq-eqb (levelOf (layout 3 m) p) L (at p ∙ one), eq-eqb (levelOf (layout 3 m) (p + 2 ^ L)) L (at (p + 2 ^ L) ∙ two)) at t)

@@ -3,7 +3,7 @@ pub mod hash;
 
 use block::Summed;
 ghost use mathlib.Core.Path.{_≡_};
-ghost use mathlib.Core.Bool.{true, _&&_};
+ghost use mathlib.Core.Bool.{true, false, _&&_};
 ghost use Prim.Native.Nat.{ℕ, _+_, _-_, _*_, _/_, _%_, _^_, _<_, _≤_};
 ghost use lib.Dec.{ltb};
 ghost use Rattle.layout.specs.Layout.{layout, valid};
@@ -11,7 +11,7 @@ ghost use Rattle.layout.specs.Layout as layout_spec;
 ghost use Rattle.block.specs.Block.{cap, block, counterAt};
 ghost use Rattle.block.specs.Block as block_spec;
 ghost use Rattle.block.specs.Change as change_spec;
-ghost use Rattle.block.specs.Sum.{fits};
+ghost use Rattle.block.specs.Sum.{fits, summed};
 ghost use Rattle.block.specs.Sum as sum_spec;
 ghost use Rattle.group.specs.Group.{number, bytes, read, stored, added, united, widestOf, changed};
 ghost use Rattle.group.specs.Group as spec;
@@ -207,6 +207,73 @@ fn unchanged(status: u8, g: Group) -> Outcome
     Outcome { status, group: g }
 }
 
+// Whether from this slot on two counters of this level lie side by side.
+fn twins(merge: u8, level: u32, first: usize) -> bool
+    requires { ⌜ valid 3 merge ≡ true ⌝ ∗ ⌜ level ≤ 2 ⌝ ∗ ⌜ first + 2 ^ level < 8 ⌝ }
+    ensures { λ r. ⌜ (r ≡ true → (w : ℕ) → (counterAt (block 3 w merge) first .level ≡ level) × (counterAt (block 3 w merge) (first + 2 ^ level) .level ≡ level)) ⌝ }
+{
+    if level_at(merge, first) != level {
+        return false;
+    }
+    level_at(merge, first + (1 << level)) == level
+}
+
+// The sum of the two counters of this level side by side at a place.
+fn twin_sum(word: u64, level: u32, place: usize) -> u64
+    requires { ⌜ level ≤ 2 ⌝ ∗ ⌜ place < 64 ⌝ }
+    ensures { λ r. ⌜ r ≡ word / 2 ^ place % cap (level + 1) % cap level + word / 2 ^ place % cap (level + 1) / cap level ⌝ }
+    ensures { λ r. ⌜ r < 2 ^ 33 ⌝ }
+{
+    let both = value_at(word, level + 1, place);
+    block::low_word(level, both) + block::high_word(level, both)
+}
+
+// The count bytes, taken as one number, with another value of this level at a place.
+fn put(word: u64, level: u32, place: usize, value: u64) -> u64
+    requires { ⌜ level ≤ 3 ⌝ ∗ ⌜ place < 64 ⌝ ∗ ⌜ word + value * 2 ^ place < 2 ^ 64 + word / 2 ^ place % cap level * 2 ^ place ⌝ }
+    ensures { λ r. ⌜ r + word / 2 ^ place % cap level * 2 ^ place ≡ word + value * 2 ^ place ⌝ }
+{
+    let old = value_at(word, level, place);
+    word - (old << place) + (value << place)
+}
+
+// The merge byte with the own bit of the block set whose halves are two counters of this level from this slot on.
+fn formed(merge: u8, level: u32, first: usize) -> u8
+    requires { ⌜ valid 3 merge ≡ true ⌝ ∗ ⌜ level ≤ 2 ⌝ ∗ ⌜ first + 2 ^ level < 8 ⌝ ∗ ⌜ first % 2 ^ (level + 1) ≡ 0 ⌝ ∗ ⌜ (counterAt (block 3 0 merge) first .level ≡ level) × (counterAt (block 3 0 merge) (first + 2 ^ level) .level ≡ level) ⌝ }
+    ensures { λ r. ⌜ r ≡ merge + 2 ^ (2 ^ level - 1) * 2 ^ first ⌝ }
+{
+    merge | (1 << (first + (1 << level) - 1))
+}
+
+// An amount added to a counter that cannot hold the sum, where the counter beside it has the same level and one counter of the next
+// level holds the sum of both; over elsewhere.
+fn widened(word: u64, merge: u8, level: u32, slot: usize, amount: u32) -> Summed
+    requires { ⌜ valid 3 merge ≡ true ⌝ ∗ ⌜ level ≤ 2 ⌝ ∗ ⌜ slot < 8 ⌝ ∗ ⌜ cap level ≤ counterAt (block 3 word merge) slot .value + amount ⌝ }
+    ensures { λ r. ⌜ (r .over ≡ false → r ≡ summed (sum_spec.add (block 3 word merge) slot amount)) ⌝ }
+{
+    let at = place(level + 1, slot);
+    if !twins(merge, level, at / 8) {
+        return Summed {
+            over: true,
+            word: 0,
+            merge: 0,
+        };
+    }
+    let sum = twin_sum(word, level, at) + amount as u64;
+    if most(level + 1) < sum {
+        return Summed {
+            over: true,
+            word: 0,
+            merge: 0,
+        };
+    }
+    Summed {
+        over: false,
+        word: put(word, level + 1, at, sum),
+        merge: formed(merge, level, at / 8),
+    }
+}
+
 // An amount added to the counter that a slot is in. Where the counter holds the sum, the layout stays and no other byte changes.
 // Only the counter of a whole group can be full.
 pub fn add(g: Group, slot: usize, amount: u32) -> Outcome
@@ -230,6 +297,10 @@ pub fn add(g: Group, slot: usize, amount: u32) -> Outcome
     }
     if level == 3 {
         return unchanged(COUNTER_FULL, g);
+    }
+    let wider = widened(word, g.merge, level, k, amount);
+    if !wider.over {
+        return settled(wider);
     }
     settled(block::add(3, word, g.merge, k, amount as u64))
 }

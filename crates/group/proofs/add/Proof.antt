@@ -5,11 +5,11 @@ use native.Mathlib.Nat.{mod-eq-of-lt, mod-lt}
 use native.Mathlib.Omega.{arith}
 use borrow.Author.Tests.{not-true, not-false}
 use Rattle.layout.specs.Layout.{valid}
-use Rattle.block.specs.Block.{cap, total, block}
+use Rattle.block.specs.Block.{cap, total, block, counterAt}
 use Rattle.block.proofs.Laws.{cap-pos}
 use Rattle.group.specs.Group.{number, decode, stored, added}
 use Rattle.group.proofs.Laws.{cap-three, added-invalid, added-full, added-stored}
-use Rattle.group.proofs.Places.{whole-is, halves-lt, sum-in, settle-is, added-is}
+use Rattle.group.proofs.Places.{counter-at, whole-is, halves-lt, sum-in, settle-is, added-is}
 use borrow.Author.Needs.{needs}
 use Rattle.group.proofs.add.Statement.{statement}
 use Rattle.group.proofs.add.Tie as tie
@@ -37,6 +37,13 @@ module _ (c : tie.After-value-at) where
   -- the counter's value is below its cap
   value-lt : c .value-at .result < cap (l .level-at .result)
   value-lt = omega (arith, c .value-at .ensures, mod-lt (n .number-of .result / 2 ^ p .place .result) (cap-pos (l .level-at .result)))
+
+  value-is : counterAt (block 3 (n .number-of .result) (s .args .g .merge)) (s .args .slot % 8) .value ≡ c .value-at .result
+  value-is =
+      ap (λ x. x .value)
+      (counter-at (n .number-of .result) (s .args .g .merge) (s .args .slot % 8) (l .level-at .result) (p .place .result) (word-in n) (omega arith)
+      (l .level-at .ensures .0 (n .number-of .result)) (p .place .ensures .0))
+      ∙ sym (c .value-at .ensures)
 
   amount-lt : s .args .amount < 2 ^ 32
   amount-lt = omega arith
@@ -112,11 +119,11 @@ value-at-requires c κs = search needs
 sub-room : tie.Need-sub-room
 sub-room c = omega (arith, value-lt c, c .before .most .ensures)
 
-shl-t16 : tie.Need-shl-t16
-shl-t16 c = search needs
+shl-t17 : tie.Need-shl-t17
+shl-t17 c = search needs
 
-add-t17 : tie.Need-add-t17
-add-t17 c = omega (arith, shifted (c .before) (c .if2 .taken), in-place (c .before) (c .if2 .taken) .0)
+add-t18 : tie.Need-add-t18
+add-t18 c = omega (arith, shifted (c .before) (c .if2 .taken), in-place (c .before) (c .if2 .taken) .0)
 
 settled-requires : tie.Need-settled-requires
 settled-requires c κs = search needs
@@ -138,20 +145,42 @@ returns-3 c = let d = c .before .before in
     (added-full (a .g) (a .slot) (a .amount) (number-in (d .before)) (is-sane (n (d .before) .before))
     (rw (← n (d .before) .number-of .ensures) (omega (arith, d .if2 .left, d .before .before .most .ensures, total-whole (d .before) three, ap cap three, cap-three))))
 
-add-requires : tie.Need-add-requires
-unfolding cap
-add-requires c κs = let d = c .before .before in
-    (omega arith, ((omega arith, is-sane (n d .before)), omega (arith, total-halves d (c .if3 .left))))
+widened-requires : tie.Need-widened-requires
+widened-requires c κs = let d = c .before .before in (
+  is-sane (n d .before),
+  (omega (arith, l d .level-at .ensures .1), (omega arith, omega (arith, value-is d, value-lt d, c .before .if2 .left, d .before .most .ensures))),
+)
 
 settled-requires-2 : tie.Need-settled-requires-2
 settled-requires-2 c κs = search needs
 
 returns-4 : tie.Need-returns-4
 unfolding decode
-returns-4 c = let e = c .before .before in
-    let d = e .before .before in
+returns-4 c = let w = c .before .before .before in
+    let d = w .before .before .before in
     let a = s d .args in
     c .settled2 .ensures
+    ∙ ap stored (w .widened .ensures (not-true _ (c .before .if4 .taken)))
+    ∙ rw (n d .number-of .ensures)
+    (sym
+    (added-stored (a .g) (a .slot) (a .amount) (number-in d) (is-sane (n d .before))
+    (rw (← n d .number-of .ensures) (omega (arith, amount-lt d, total-halves d (w .before .if3 .left))))))
+
+add-requires : tie.Need-add-requires
+unfolding cap
+add-requires c κs = let e = c .before .before .before in
+    let d = e .before .before in
+    (omega arith, ((omega (arith, word-in (n d)), is-sane (n d .before)), omega (arith, amount-lt d, total-halves d (e .if3 .left))))
+
+settled-requires-3 : tie.Need-settled-requires-3
+settled-requires-3 c κs = search needs
+
+returns-5 : tie.Need-returns-5
+unfolding decode
+returns-5 c = let e = c .before .before .before .before .before in
+    let d = e .before .before in
+    let a = s d .args in
+    c .settled3 .ensures
     ∙ rw (c .before .add .ensures, n d .number-of .ensures)
     (sym
     (added-stored (a .g) (a .slot) (a .amount) (number-in d) (is-sane (n d .before))
@@ -170,12 +199,15 @@ add-spec =
     most-requires
     value-at-requires
     sub-room
-    shl-t16
-    add-t17
+    shl-t17
+    add-t18
     settled-requires
     returns-2
     unchanged-requires-2
     returns-3
-    add-requires
+    widened-requires
     settled-requires-2
-    returns-4)
+    returns-4
+    add-requires
+    settled-requires-3
+    returns-5)
