@@ -1,6 +1,6 @@
 // Cases run by the compiled code; what they print is compared with `stdout` beside src/.
 use group::Group;
-use group::hash::Hash;
+use hash::Hash;
 use libc::STDOUT_FILENO;
 
 fn text(s: &[u8]) {
@@ -33,10 +33,10 @@ fn vector(s: &[u8]) {
 
 // The hash and the slot of a key in a row.
 fn lands(row: u8, key: &[u8], w: usize) {
-    let h = group::hash::row_hash(row, key);
+    let h = hash::row_hash(row, key);
     text(b"lands");
     hex(h as u64, 8);
-    decimal(group::hash::slot(h, w) as u64);
+    decimal(hash::slot(h, w) as u64);
     text(b"\n");
 }
 

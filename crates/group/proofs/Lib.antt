@@ -1,4 +1,3 @@
-pub mod Hashing
 pub mod Bytes
 pub mod Laws
 pub mod Tables

@@ -1,4 +1,3 @@
-pub mod Hash
 pub mod Status
 pub mod Group
 pub mod Pack

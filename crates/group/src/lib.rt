@@ -1,6 +1,4 @@
-// A group of eight slots: its counters, its merge byte and its layout code; and the hash that finds a key's slot.
-pub mod hash;
-
+// A group of eight slots: its counters, its merge byte and its layout code.
 use block::Summed;
 ghost use mathlib.Core.Path.{_≡_};
 ghost use mathlib.Core.Bool.{true, false, _&&_};

@@ -8,7 +8,7 @@ use native.Mathlib.Omega.{arith}
 use borrow.Author.Tests.{eq-eqb, ne-eqb}
 use lib.Dec.{eqb}
 use lib.ListN.{length, replicate}
-use Rattle.group.specs.Hash.{basis}
+use Rattle.hash.specs.Hash.{basis}
 use Rattle.row.specs.Geometry.{stride, size, RowsIn}
 use Rattle.row.specs.Order.{firstOf, earliest, badDepth, badWidth, badLength, badShape, badKey, answerOf, finish}
 use Rattle.row.specs.Rows.{mapRows, ofRows, least, largest}

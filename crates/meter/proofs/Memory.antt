@@ -12,8 +12,8 @@ use lib.ListN.{length, getD, take, drop, replicate, length-replicate}
 use lib.Seq.{drop-drop, getD-take, getD-drop}
 use Rattle.layout.specs.Layout.{valid, ones}
 use lib.Bits.{bitXor}
-use Rattle.group.specs.Hash.{basis, fnv, fnvStep}
-use Rattle.group.proofs.Hashing.{slot-lt}
+use Rattle.hash.specs.Hash.{basis, fnv, fnvStep}
+use Rattle.hash.proofs.Hashing.{slot-lt}
 use Rattle.group.proofs.Outcomes.{added-eight, added-valid, united-valid}
 use Rattle.row.specs.Geometry.{validWidth, stride, size, RowsIn}
 use Rattle.row.specs.Order.{firstOf, earlier, earliest, unless, badLength, badShape, answerOf, finish}

@@ -9,7 +9,7 @@ use lib.ListN.{length, getD, take, drop, set, drop-of-length-le}
 use lib.Seq.{take-all, drop-drop, getD-set-same, getD-set-other}
 use Rattle.group.specs.declared.Group.{Group}
 use Rattle.group.specs.Group.{read}
-use Rattle.group.specs.Hash.{basis}
+use Rattle.hash.specs.Hash.{basis}
 use Rattle.row.specs.Geometry.{stride, size}
 use Rattle.row.specs.Order.{earliest}
 use Rattle.row.specs.Rows.{mapRows, ofRows, groupAt, withGroup, leastOr, least}

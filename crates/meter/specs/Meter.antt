@@ -3,7 +3,7 @@ use Prim.Native.Nat.{ℕ, _*_}
 use mathlib.Core.List.{List, [], _∷_}
 use lib.ListN.{length, take, drop, replicate}
 use Rattle.group.specs.declared.Answer.{Answer}
-use Rattle.group.specs.Hash.{basis}
+use Rattle.hash.specs.Hash.{basis}
 use Rattle.row.specs.Geometry.{stride}
 use Rattle.row.specs.Order.{firstOf, earliest, badDepth, badWidth, badLength, badShape, badKey, answerOf, Done, finish}
 use Rattle.row.specs.Rows.{mapRows, ofRows, least, largest}

@@ -2,7 +2,7 @@
 // key, and answers by document 01's number, place and figure. A rejected call leaves the memory as it was.
 use group::Answer;
 use group::Group;
-use group::hash::Hash;
+use hash::Hash;
 use row::answer;
 use row::bad_key;
 use row::bad_shape;

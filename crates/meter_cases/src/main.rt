@@ -1,6 +1,6 @@
 // A meter's calls run by the compiled code; what they print is compared with `stdout` beside src/.
 use group::Answer;
-use group::hash::Hash;
+use hash::Hash;
 use libc::STDOUT_FILENO;
 
 fn text(s: &[u8]) {

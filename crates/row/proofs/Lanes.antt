@@ -4,8 +4,8 @@ use mathlib.Core.List.{List, [], _∷_}
 use Prim.Native.Nat.{ℕ, zero, suc, _+_, _≤_, _<_}
 use native.Mathlib.Omega.{arith}
 use lib.ListN.{length, getD, drop}
-use Rattle.group.specs.Hash.{fnvStep, fnv, slotOf}
-use Rattle.group.proofs.Hashing.{fnv-more, fnv-end}
+use Rattle.hash.specs.Hash.{fnvStep, fnv, slotOf}
+use Rattle.hash.proofs.Hashing.{fnv-more, fnv-end}
 use Rattle.row.specs.Row.{keySlot}
 
 -- one of several hashes, a byte further and at the end

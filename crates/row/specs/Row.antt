@@ -3,7 +3,7 @@ use Prim.Native.Nat.{ℕ, zero, suc, _+_, _/_}
 use mathlib.Core.List.{List, _∷_}
 use Rattle.group.specs.declared.Outcome.{Outcome}
 use Rattle.group.specs.declared.Reading.{Reading}
-use Rattle.group.specs.Hash.{fnv, slotOf}
+use Rattle.hash.specs.Hash.{fnv, slotOf}
 use Rattle.group.specs.Group.{read, added, united, widestOf}
 use Rattle.row.specs.Order.{earliest}
 use Rattle.row.specs.Rows.{groupAt, withGroup, ofGroups, largest}

@@ -1,10 +1,10 @@
 // The slots of a key, in one row and in several. The hashes of four rows advance side by side: none waits for another.
-use group::hash::Hash;
+use hash::Hash;
 ghost use mathlib.Core.Path.{_≡_};
 ghost use mathlib.Core.Bool.{true};
 ghost use Prim.Native.Nat.{ℕ, _+_, _<_, _≤_};
 ghost use lib.ListN.{getD};
-ghost use Rattle.group.specs.Hash.{fnvStep, fnv};
+ghost use Rattle.hash.specs.Hash.{fnvStep, fnv};
 ghost use Rattle.row.specs.Geometry.{validWidth};
 ghost use Rattle.row.specs.Row.{keySlot};
 
@@ -70,7 +70,7 @@ pub fn row_slot(start: Hash, w: usize, key: &[u8], r: u8) -> usize
     ensures { λ s. ⌜ s < w ⌝ }
 {
     let h = start.step(r).run(key);
-    group::hash::scaled(h.state, w)
+    hash::scaled(h.state, w)
 }
 
 // The slots of a key in four rows.
@@ -80,10 +80,10 @@ fn four_slots(start: Hash, w: usize, key: &[u8], first: u8) -> [usize; 4]
     ensures { λ s. ⌜ ((r : ℕ) → r < 4 → getD s r 0 < w) ⌝ }
 {
     let h = Four::rows(start, first).run(key);
-    let a = group::hash::scaled(h.a.state, w);
-    let b = group::hash::scaled(h.b.state, w);
-    let c = group::hash::scaled(h.c.state, w);
-    let d = group::hash::scaled(h.d.state, w);
+    let a = hash::scaled(h.a.state, w);
+    let b = hash::scaled(h.b.state, w);
+    let c = hash::scaled(h.c.state, w);
+    let d = hash::scaled(h.d.state, w);
     [a, b, c, d]
 }
 

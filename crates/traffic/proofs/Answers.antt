@@ -14,7 +14,7 @@ use Rattle.block.specs.Block.{Block, shape, counterAt}
 use Rattle.group.specs.declared.Answer.{Answer}
 use Rattle.group.specs.declared.Reading.{Reading}
 use Rattle.group.specs.Status.{accepted}
-use Rattle.group.specs.Hash.{basis}
+use Rattle.hash.specs.Hash.{basis}
 use Rattle.group.specs.Group.{encode, read, reading, widestOf}
 use Rattle.group.proofs.Laws.{decode-encode, encode-valid}
 use Rattle.row.specs.Geometry.{validDepth, validWidth, stride, size}

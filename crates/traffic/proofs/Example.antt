@@ -7,7 +7,7 @@ use Rattle.layout.specs.Code as codes
 use Rattle.block.specs.Block as blocks
 use Rattle.block.specs.Change as changes
 use Rattle.block.specs.Sum as sums
-use Rattle.group.specs.Hash as hashes
+use Rattle.hash.specs.Hash as hashes
 use Rattle.group.specs.Group as groups
 use Rattle.group.specs.Pack as packs
 use Rattle.row.specs.Geometry as geometry

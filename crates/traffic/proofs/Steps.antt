@@ -10,7 +10,7 @@ use lib.ListN.{length, take, drop, replicate, length-replicate, getD-replicate}
 use Rattle.layout.specs.Layout.{marks, ones}
 use Rattle.block.specs.Block.{cap, shape, word}
 use Rattle.group.specs.declared.Group.{Group}
-use Rattle.group.specs.Hash.{basis}
+use Rattle.hash.specs.Hash.{basis}
 use Rattle.group.specs.Group.{bytes, encode, settle, added}
 use Rattle.group.specs.Group as group
 use Rattle.group.proofs.Laws.{decode-encode, encode-valid}

@@ -4,7 +4,7 @@ use mathlib.Core.Bool.{Bool, true, false, cond, _&&_, _||_}
 use mathlib.Core.List.{List, [], _∷_}
 use lib.Dec.{leb, eqb}
 use Rattle.block.specs.Block.{cap}
-use Rattle.group.specs.Hash.{basis}
+use Rattle.hash.specs.Hash.{basis}
 use Rattle.row.specs.Row.{keySlot}
 use Rattle.row.specs.Rows.{ofGroups, least}
 

@@ -2,7 +2,7 @@ use mathlib.Core.Path.{_≡_, sym, ap, _∙_}
 use mathlib.Core.List.{[]}
 use Prim.Native.Nat.{ℕ, _+_, _<_}
 use native.Mathlib.Nat.{add-zero}
-use Rattle.group.specs.Hash.{fnvStep}
+use Rattle.hash.specs.Hash.{fnvStep}
 use Rattle.row.specs.Row.{keySlot}
 use Rattle.row.proofs.Widths.{wide}
 use Rattle.row.proofs.Lanes.{lane-slot, in-four}

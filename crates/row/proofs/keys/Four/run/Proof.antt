@@ -3,7 +3,7 @@ use Prim.Native.Nat.{_-_, _≤_}
 use native.Mathlib.Omega.{arith}
 use borrow.Author.Needs.{needs}
 use lib.ListN.{length, drop}
-use Rattle.group.specs.Hash.{fnv}
+use Rattle.hash.specs.Hash.{fnv}
 use Rattle.row.proofs.Lanes.{lane-turn, lane-end}
 use Rattle.row.proofs.keys.Four.run.Statement.{statement}
 use Rattle.row.proofs.keys.Four.run.Tie as tie

@@ -1,7 +1,7 @@
 use native.Mathlib.Omega.{arith}
-use Rattle.group.proofs.Hashing.{slot-lt, slot-scaled, scaled-in}
-use Rattle.group.proofs.hash.scaled.Statement.{statement}
-use Rattle.group.proofs.hash.scaled.Tie as tie
+use Rattle.hash.proofs.Hashing.{slot-lt, slot-scaled, scaled-in}
+use Rattle.hash.proofs.scaled.Statement.{statement}
+use Rattle.hash.proofs.scaled.Tie as tie
 
 mul-result : tie.Need-mul-result
 mul-result c = omega (arith, scaled-in (c .args .hash) (c .args .w) (c .fits .hash .fits) (c .pre))

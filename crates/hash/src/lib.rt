@@ -1,7 +1,7 @@
 // FNV-1a of 32 bits, and the slot of a hash.
 ghost use mathlib.Core.Path.{_≡_};
 ghost use Prim.Native.Nat.{_%_, _^_, _<_};
-ghost use Rattle.group.specs.Hash.{basis, fnvStep, fnv, rowHash, slotOf};
+ghost use Rattle.hash.specs.Hash.{basis, fnvStep, fnv, rowHash, slotOf};
 
 // The running hash.
 pub struct Hash {

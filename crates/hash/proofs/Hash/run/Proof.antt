@@ -3,10 +3,10 @@ use Prim.Native.Nat.{_-_, _≤_}
 use native.Mathlib.Omega.{arith}
 use borrow.Author.Needs.{needs}
 use lib.ListN.{length, drop}
-use Rattle.group.specs.Hash.{fnv}
-use Rattle.group.proofs.Hashing.{fnv-more, fnv-end}
-use Rattle.group.proofs.hash.Hash.run.Statement.{statement}
-use Rattle.group.proofs.hash.Hash.run.Tie as tie
+use Rattle.hash.specs.Hash.{fnv}
+use Rattle.hash.proofs.Hashing.{fnv-more, fnv-end}
+use Rattle.hash.proofs.Hash.run.Statement.{statement}
+use Rattle.hash.proofs.Hash.run.Tie as tie
 
 abbrev Inv-loop : tie.InvT-loop
 Inv-loop bytes h₀ i₀ i-end h i = (i ≤ i-end) × (i-end ≡ length bytes) × (fnv (h .state) (drop i bytes) ≡ fnv (h₀ .state) bytes)

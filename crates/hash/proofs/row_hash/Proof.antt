@@ -1,9 +1,9 @@
 use mathlib.Core.Path.{ap, _∙_}
 use Prim.Native.Nat.{ℕ}
-use Rattle.group.specs.Hash.{fnv, fnvStep, rowHash}
+use Rattle.hash.specs.Hash.{fnv, fnvStep, rowHash}
 use borrow.Author.Needs.{needs}
-use Rattle.group.proofs.hash.row_hash.Statement.{statement}
-use Rattle.group.proofs.hash.row_hash.Tie as tie
+use Rattle.hash.proofs.row_hash.Statement.{statement}
+use Rattle.hash.proofs.row_hash.Tie as tie
 
 start-requires : tie.Need-start-requires
 start-requires c κs = search needs

@@ -1,11 +1,11 @@
 use mathlib.Core.Path.{refl}
 use Prim.Native.Nat.{_^_}
 use native.Mathlib.Nat.{div-zero}
-use Rattle.group.specs.Hash.{slotOf}
-use Rattle.group.proofs.Hashing.{slot-none, with-lt}
+use Rattle.hash.specs.Hash.{slotOf}
+use Rattle.hash.proofs.Hashing.{slot-none, with-lt}
 use borrow.Author.Needs.{needs}
-use Rattle.group.proofs.hash.slot.Statement.{statement}
-use Rattle.group.proofs.hash.slot.Tie as tie
+use Rattle.hash.proofs.slot.Statement.{statement}
+use Rattle.hash.proofs.slot.Tie as tie
 
 returns : tie.Need-returns
 returns c = let a = c .before .args in

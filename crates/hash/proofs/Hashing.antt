@@ -8,7 +8,7 @@ use native.Mathlib.Numerals.{add-one}
 use native.Mathlib.Omega.{arith}
 use lib.ListN.{length, getD, drop, drop-of-length-le}
 use lib.Seq.{drop-cons}
-use Rattle.group.specs.Hash.{fnvStep, fnv, slotOf}
+use Rattle.hash.specs.Hash.{fnvStep, fnv, slotOf}
 
 -- a run goes on from the state that the bytes before left
 pub fnv-more : (h : ℕ) (s : List ℕ) (i : ℕ) → i < length s → fnv h (drop i s) ≡ fnv (fnvStep h (getD s i 0)) (drop (i + 1) s)

@@ -1,10 +1,10 @@
 use mathlib.Core.Path.{refl}
 use native.Mathlib.Omega.{arith}
 use lib.Bits.{xor-lt}
-use Rattle.group.specs.Hash.{fnvStep}
+use Rattle.hash.specs.Hash.{fnvStep}
 use borrow.Author.Needs.{needs}
-use Rattle.group.proofs.hash.Hash.step.Statement.{statement}
-use Rattle.group.proofs.hash.Hash.step.Tie as tie
+use Rattle.hash.proofs.Hash.step.Statement.{statement}
+use Rattle.hash.proofs.Hash.step.Tie as tie
 
 cast-mixed : tie.Need-cast-mixed
 cast-mixed c = omega (arith, xor-lt 32 (c .before .args .self .state) (c .before .args .byte) (omega arith) (omega arith))
