@@ -37,19 +37,22 @@ same-is true false e = sym e
 same-is false true e = e
 same-is false false e = refl
 
--- the merge bits that a byte's merged halves and its merged group need
-abbrev pub needed : ℕ → ℕ
-needed m = bitOr (bitAnd (m / 2) 17 * 5) (bitAnd (m / 8) 1 * 127)
+-- bits 0 to 4 of a byte are among those of valid ones
+abbrev pub lowValid : ℕ → ℕ
+lowValid m = bitAnd (2159214771 / 2 ^ bitAnd m 31) 1
 
-abbrev pub bitsValid : ℕ → Bool
-bitsValid m = eqb (bitAnd m (bitOr (needed m) 128)) (needed m)
+-- bits 3 to 7 are
+abbrev pub highValid : ℕ → Bool
+highValid m = eqb (bitAnd (50437 / 2 ^ (m / 8)) 1) 1
 
-all-valid : every (λ m. same (bitsValid m) (valid 3 m)) 256 ≡ true
+all-valid : every (λ m. same (cond (eqb (lowValid m) 0) false (highValid m)) (valid 3 m)) 256 ≡ true
 unfolding every same valid ones
 all-valid = refl
 
-pub bits-valid : (m : ℕ) → m < 256 → bitsValid m ≡ valid 3 m
-bits-valid m h = same-is (bitsValid m) (valid 3 m) (every-at (λ m. same (bitsValid m) (valid 3 m)) 256 m all-valid h)
+pub bits-valid : (m : ℕ) → m < 256 → cond (eqb (lowValid m) 0) false (highValid m) ≡ valid 3 m
+bits-valid m h =
+    same-is (cond (eqb (lowValid m) 0) false (highValid m)) (valid 3 m)
+    (every-at (λ m. same (cond (eqb (lowValid m) 0) false (highValid m)) (valid 3 m)) 256 m all-valid h)
 
 -- a test passed by every valid merge byte
 module _ (p : ℕ → Bool) (all : every (λ m. cond (valid 3 m) (p m) true) 256 ≡ true) where

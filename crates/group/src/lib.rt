@@ -116,14 +116,16 @@ pub fn bytes_of(number: u64) -> [u8; 8]
     ]
 }
 
-// Whether a merge byte is one of the 26 valid ones: bit 7 is clear, a merged half has both its pairs merged, and a merged group all.
+// Whether a merge byte is one of the 26 valid ones: its bits 0 to 4 and its bits 3 to 7 are each such as a valid one has. The masks
+// have a bit for each value of those bits.
 pub fn is_valid(merge: u8) -> bool
     ensures { λ r. ⌜ r ≡ valid 3 merge ⌝ }
 {
-    let halves = ((merge >> 1) & 17) * 5;
-    let group = ((merge >> 3) & 1) * 127;
-    let needed = halves | group;
-    merge & (needed | 128) == needed
+    let bits = merge as u32;
+    if (0x80b3_00b3u32 >> (bits & 31)) & 1 == 0 {
+        return false;
+    }
+    (0xc505u32 >> (bits >> 3)) & 1 == 1
 }
 
 // The level of the counter that a slot is in: in a valid layout one for each merged block around the slot, its pair, its half and
@@ -133,10 +135,11 @@ fn level_at(merge: u8, slot: usize) -> u32
     ensures { λ r. ⌜ ((w : ℕ) → counterAt (block 3 w merge) slot .level ≡ r) ⌝ }
     ensures { λ r. ⌜ r ≤ 3 ⌝ }
 {
-    let pair = (merge >> (slot / 2 * 2)) & 1;
-    let half = (merge >> (slot / 4 * 4 + 1)) & 1;
-    let group = (merge >> 3) & 1;
-    (pair + half + group) as u32
+    let bits = merge as u32;
+    let pair = (bits >> (slot / 2 * 2)) & 1;
+    let half = (bits >> (slot / 4 * 4 + 1)) & 1;
+    let group = (bits >> 3) & 1;
+    pair + half + group
 }
 
 // The largest value that a counter of a level holds.

@@ -43,9 +43,6 @@ add-result c = omega (arith, pair-le c, half-le c, group-le c)
 add-result-2 : tie.Need-add-result-2
 add-result-2 c = omega (arith, pair-le c, half-le c, group-le c)
 
-cast-result : tie.Need-cast-result
-cast-result c = omega (arith, pair-le c, half-le c, group-le c)
-
 returns : tie.Need-returns
 returns c = (λ w. bits-level w (c .args .merge) (c .args .slot) (omega arith) (c .pre .0) (c .pre .1), omega (arith, pair-le c, half-le c, group-le c))
 
@@ -62,5 +59,4 @@ level-at-spec =
     shr-half
     add-result
     add-result-2
-    cast-result
     returns)
