@@ -124,6 +124,36 @@ same-before (split {n} l r) k h f = elim (decLt k (2 ^ n)) [
       (omega arith, rw (in-right l r k m, in-right l r (k - 1) (omega (arith, s .0)), e) (s .1))
 ]
 
+-- the slots of the counter that starts at slot k lie in the block
+pub counter-in : {n : ℕ} (b : Block n) (k : ℕ) → k < 2 ^ n → k % 2 ^ counterAt b k .level ≡ 0 → k + 2 ^ counterAt b k .level ≤ 2 ^ n
+unfolding counterAt
+counter-in {n} (counter v) k h z = omega (arith, mod-eq-of-lt {n = k} {m = 2 ^ n} h)
+counter-in (split {n} l r) k h z = elim (decLt k (2 ^ n)) [
+  | yes m ↦ rw (in-left l r k m) (omega (arith, counter-in l k m (rw (in-left l r k m) at z)))
+  | no m′ ↦
+      let m : 2 ^ n ≤ k = omega arith in
+      let y : (k - 2 ^ n) % 2 ^ counterAt r (k - 2 ^ n) .level ≡ 0 = sym (shifted n (counterAt r (k - 2 ^ n) .level) k (level-le r (k - 2 ^ n)) m) ∙ (rw (in-right l r k m) at z) in
+      rw (in-right l r k m) (omega (arith, counter-in r (k - 2 ^ n) (omega arith) y))
+]
+
+-- and are all in that counter
+pub counter-slots : {n : ℕ} (b : Block n) (k j : ℕ) → k < 2 ^ n → k % 2 ^ counterAt b k .level ≡ 0 → j < 2 ^ counterAt b k .level
+    → counterAt b (k + j) ≡ counterAt b k
+unfolding counterAt
+counter-slots (counter v) k j h z i = refl
+counter-slots (split {n} l r) k j h z i = elim (decLt k (2 ^ n)) [
+  | yes m ↦
+      let y : k % 2 ^ counterAt l k .level ≡ 0 = rw (in-left l r k m) at z in
+      let q : j < 2 ^ counterAt l k .level = rw (in-left l r k m) at i in
+      rw (in-left l r k m, in-left l r (k + j) (omega (arith, counter-in l k m y))) (counter-slots l k j m y q)
+  | no m′ ↦
+      let m : 2 ^ n ≤ k = omega arith in
+      let y : (k - 2 ^ n) % 2 ^ counterAt r (k - 2 ^ n) .level ≡ 0 = sym (shifted n (counterAt r (k - 2 ^ n) .level) k (level-le r (k - 2 ^ n)) m) ∙ (rw (in-right l r k m) at z) in
+      let q : j < 2 ^ counterAt r (k - 2 ^ n) .level = rw (in-right l r k m) at i in
+      let e : k + j - 2 ^ n ≡ k - 2 ^ n + j = omega arith in
+      rw (in-right l r k m, in-right l r (k + j) (omega arith), e) (counter-slots r (k - 2 ^ n) j (omega arith) y q)
+]
+
 -- blocks of one layout whose slots have the same counters are the same
 leftOf : {n : ℕ} → Layout (suc n) → Layout n
 leftOf merged = merged

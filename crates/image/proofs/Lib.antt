@@ -2,6 +2,7 @@ pub mod Laws
 pub mod Calls
 pub mod Digits
 pub mod Restoring
+pub mod Counters
 pub mod Rows
 pub mod Accepting
 pub mod Exact

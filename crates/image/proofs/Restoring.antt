@@ -47,7 +47,7 @@ pub first-level : (g : Group) (k : ℕ) → Good g → k < 8 → isFirst (g .mer
 unfolding isFirst
 first-level g k o i t = rw (level-at g k o i) at (eqb-true (k % 2 ^ levelAt (g .merge) k) 0 t)
 
-other-level : (g : Group) (k : ℕ) → Good g → k < 8 → isFirst (g .merge) k ≡ false → k % 2 ^ counterAt (decode g) k .level ≡ 0 → ⊥
+pub other-level : (g : Group) (k : ℕ) → Good g → k < 8 → isFirst (g .merge) k ≡ false → k % 2 ^ counterAt (decode g) k .level ≡ 0 → ⊥
 unfolding isFirst
 other-level g k o i t = rw (level-at g k o i) at (eqb-false (k % 2 ^ levelAt (g .merge) k) 0 t)
 
