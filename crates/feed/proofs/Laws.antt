@@ -13,6 +13,7 @@ use borrow.Author.Tests.{leb-true, eq-eqb, ne-eqb}
 use lib.Pow.{pow-mono}
 use Rattle.row.specs.Order.{badShape}
 use Rattle.meter.specs.Meter.{estimated}
+use Rattle.word.specs.declared.Step.{Step}
 use Rattle.word.specs.Word.{endKind, go, next, payload, isDue}
 use Rattle.word.proofs.Laws.{both}
 use types.Run.{OneOf}
@@ -22,13 +23,14 @@ use Rattle.feed.specs.declared.words.Opening.the-variants as opening
 use Rattle.feed.specs.declared.words.Body.{Body}
 use Rattle.feed.specs.declared.words.Body.the-variants as body
 use Rattle.group.specs.declared.Answer.{Answer}
+use Rattle.group.specs.Status.{accepted}
 use Rattle.feed.specs.declared.Recorded.{Recorded}
 use Rattle.feed.specs.declared.Recorded.the-variants as case
 use Rattle.feed.proofs.words.Opening as the-opening
 use Rattle.feed.proofs.words.Body as the-body
 use Rattle.feed.specs.Answers.{bodyAnswer}
 use Rattle.feed.specs.Record.{rejection, outcomeOf, carriedUpdate, queried, carried, carriedAfter, recorded}
-use Rattle.feed.specs.Words.{updateKind, queryKind, opensKey, opened, keyWord, checkKey, keyByte, keyFrom, keyOf}
+use Rattle.feed.specs.Words.{updateKind, queryKind, opensKey, opened, keyWord, checkKey, keyByte, keyFrom, keyOf, bodyOf}
 
 -- a shift of 1 by a logarithm loses no bits
 pub one-shl : (k : ℕ) → k < 32 → 1 * 2 ^ k % 2 ^ 64 ≡ 2 ^ k
@@ -107,9 +109,18 @@ stored-length key j v = rw (length-set, length-set, length-set)
 abbrev pub HasTag : ℕ → Body → Type 0
 HasTag t b = OneOf (t ∷ []) (tagOf the-body.the-type b)
 
-pub sound-answer : (b : Body) → HasTag 0 b → rejection (bodyAnswer b) ≡ case.Rejected 0 0
+pub sound-answer : (b : Body) → HasTag 0 b → bodyAnswer b ≡ accepted 0
 sound-answer (body.Sound a) h = refl
 sound-answer (body.Refused s p) h = absurd (omega arith)
+
+-- a body whose words are sound
+pub all-sound : (s : Step) (a : ℕ) (b : Body) → b ≡ bodyOf s a → bodyAnswer b .status ≡ 0 → s .status ≡ 0
+unfolding bodyOf
+all-sound s a b e h = number (s .status) (rw e at h)
+  where
+    number : (n : ℕ) → bodyAnswer (cond (eqb n 0) (body.Sound a) (body.Refused n (s .position))) .status ≡ 0 → n ≡ 0
+    number zero k = refl
+    number (suc n) k = rw (ne-eqb (suc n) 0 (λ e. omega arith)) at k
 
 pub update-refused : (d w : ℕ) (memory : List ℕ) (n : ℕ) (words : List ℕ) (b : Body) → HasTag 1 b
     → carriedUpdate d w memory n words b ≡ record { outcome = rejection (bodyAnswer b); memory = memory }

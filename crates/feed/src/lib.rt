@@ -128,11 +128,11 @@ fn update(d: usize, w: usize, memory: &mut [u8], n: usize, words: &[u32]) -> Rec
     ensures { λ r. ⌜ r ≡ carriedUpdate d w (now (memory .entry)) n (now (words .entry)) (updateBody n (now (words .entry))) .outcome ⌝ }
     ensures { λ r. ⌜ now (memory .exit) ≡ carriedUpdate d w (now (memory .entry)) n (now (words .entry)) (updateBody n (now (words .entry))) .memory ⌝ }
 {
-    let b = words::update_body(words, n);
+    let mut key = [0u8; 66];
+    let b = words::update_body(words, n, &mut key);
     let Body::Sound { amount } = b else {
         return refused(b);
     };
-    let key = words::key_of(words, n);
     let a = meter::update(d, w, memory, &key[0..n], amount);
     if a.status != 0 {
         return rejection(a);
@@ -145,11 +145,11 @@ fn query(d: usize, w: usize, memory: &[u8], n: usize, words: &[u32]) -> Recorded
     requires { ⌜ n ≤ 64 ⌝ }
     ensures { λ r. ⌜ r ≡ queried d w (now (memory .entry)) n (now (words .entry)) (queryBody n (now (words .entry))) ⌝ }
 {
-    let b = words::query_body(words, n);
+    let mut key = [0u8; 66];
+    let b = words::query_body(words, n, &mut key);
     let Body::Sound { amount: _ } = b else {
         return refused(b);
     };
-    let key = words::key_of(words, n);
     let a = meter::estimate(d, w, memory, &key[0..n]);
     if a.status != 0 {
         return rejection(a);

@@ -4,10 +4,12 @@ use word::below;
 use word::go;
 use word::is_due;
 use word::payload;
+use word::stop;
 use word::tested;
 ghost use mathlib.Core.Path.{_≡_};
 ghost use Prim.Native.Nat.{_+_, _-_, _*_, _^_, _<_, _≤_};
-ghost use lib.ListN.{take};
+ghost use lib.ListN.{length, take};
+ghost use Rattle.feed.specs.Answers.{bodyAnswer};
 ghost use Rattle.feed.specs.Words.{opensKey, opened, keyWords, keyPayload, keyWord, checkKey, checkAmount, keyOf, amountOf, updateStep, bodyOf, updateBody, queryBody};
 
 // The kinds of a record's words.
@@ -93,29 +95,37 @@ fn key_payload(n: usize, v: u32) -> bool
     true
 }
 
-// The key word at a position, with n bytes of the key left.
+// The key word at a position, with n bytes of the key left. The kind is tested first, as in `below`.
 fn key_word(words: &[u32], p: usize, n: usize) -> Step
     requires { ⌜ 1 ≤ n ⌝ }
     ensures { λ r. ⌜ r ≡ keyWord n (now (words .entry)) p ⌝ }
 {
+    if !is_due(words, p, KEY) {
+        return stop(word::BAD_WORD, p);
+    }
     let holds = key_payload(n, payload(words, p));
     tested(words, p, KEY, holds, group::BAD_PAYLOAD)
 }
 
-// The key words of a record.
-pub fn check_key(words: &[u32], n: usize) -> Step
-    requires { ⌜ n < 2 ^ 32 ⌝ }
+// The key words of a record, in one pass: their bytes are taken into `key`, three a word, the earliest the highest. The position of a key
+// word is given by its index, and does not depend on the step before.
+pub fn take_key(words: &[u32], n: usize, key: &mut [u8]) -> Step
+    requires { ⌜ n ≤ 64 ⌝ ∗ ⌜ length (now key) ≡ 66 ⌝ }
     ensures { λ r. ⌜ r ≡ checkKey (keyWords n) n (now (words .entry)) 1 ⌝ }
+    ensures { λ r. ⌜ (r .status ≡ 0 → r .position ≡ 1 + keyWords n) ⌝ }
+    ensures { λ r. ⌜ (r .status ≡ 0 → take n (now (key .exit)) ≡ keyOf n (now (words .entry))) ⌝ }
 {
-    let mut at = 1;
     for i in 0..key_words(n) {
-        let s = key_word(words, at, n - 3 * i);
+        let s = key_word(words, 1 + i, n - 3 * i);
         if s.status != 0 {
             return s;
         }
-        at = s.position;
+        let v = payload(words, 1 + i);
+        key[3 * i] = (v / 65536 % 256) as u8;
+        key[3 * i + 1] = (v / 256 % 256) as u8;
+        key[3 * i + 2] = (v % 256) as u8;
     }
-    go(at)
+    go(1 + key_words(n))
 }
 
 // Two words with 16 bits of an amount each.
@@ -126,19 +136,20 @@ pub fn check_amount(words: &[u32], p: usize) -> Step
     if s.status != 0 {
         return s;
     }
-    below(words, s.position, AMOUNT, 65536)
+    below(words, p + 1, AMOUNT, 65536)
 }
 
 // The words after an update's first.
-pub fn check_update(words: &[u32], n: usize) -> Step
-    requires { ⌜ n < 2 ^ 32 ⌝ }
+pub fn check_update(words: &[u32], n: usize, key: &mut [u8]) -> Step
+    requires { ⌜ n ≤ 64 ⌝ ∗ ⌜ length (now key) ≡ 66 ⌝ }
     ensures { λ r. ⌜ r ≡ updateStep n (now (words .entry)) ⌝ }
+    ensures { λ r. ⌜ (r .status ≡ 0 → take n (now (key .exit)) ≡ keyOf n (now (words .entry))) ⌝ }
 {
-    let s = check_key(words, n);
+    let s = take_key(words, n, key);
     if s.status != 0 {
         return s;
     }
-    check_amount(words, s.position)
+    check_amount(words, 1 + key_words(n))
 }
 
 // The amount of an update, high part first.
@@ -162,32 +173,19 @@ fn body_of(s: Step, amount: u32) -> Body
     Body::Sound { amount }
 }
 
-pub fn update_body(words: &[u32], n: usize) -> Body
-    requires { ⌜ n < 2 ^ 32 ⌝ }
+pub fn update_body(words: &[u32], n: usize, key: &mut [u8]) -> Body
+    requires { ⌜ n ≤ 64 ⌝ ∗ ⌜ length (now key) ≡ 66 ⌝ }
     ensures { λ r. ⌜ r ≡ updateBody n (now (words .entry)) ⌝ }
+    ensures { λ r. ⌜ (bodyAnswer r .status ≡ 0 → take n (now (key .exit)) ≡ keyOf n (now (words .entry))) ⌝ }
 {
-    let s = check_update(words, n);
+    let s = check_update(words, n, key);
     body_of(s, amount_of(words, n))
 }
 
-pub fn query_body(words: &[u32], n: usize) -> Body
-    requires { ⌜ n < 2 ^ 32 ⌝ }
+pub fn query_body(words: &[u32], n: usize, key: &mut [u8]) -> Body
+    requires { ⌜ n ≤ 64 ⌝ ∗ ⌜ length (now key) ≡ 66 ⌝ }
     ensures { λ r. ⌜ r ≡ queryBody n (now (words .entry)) ⌝ }
+    ensures { λ r. ⌜ (bodyAnswer r .status ≡ 0 → take n (now (key .exit)) ≡ keyOf n (now (words .entry))) ⌝ }
 {
-    body_of(check_key(words, n), 0)
-}
-
-// The key of a record, three bytes a word, the earliest the highest.
-pub fn key_of(words: &[u32], n: usize) -> [u8; 66]
-    requires { ⌜ n ≤ 64 ⌝ }
-    ensures { λ r. ⌜ take n r ≡ keyOf n (now (words .entry)) ⌝ }
-{
-    let mut key = [0u8; 66];
-    for j in 0..key_words(n) {
-        let v = payload(words, 1 + j);
-        key[3 * j] = (v / 65536 % 256) as u8;
-        key[3 * j + 1] = (v / 256 % 256) as u8;
-        key[3 * j + 2] = (v % 256) as u8;
-    }
-    key
+    body_of(take_key(words, n, key), 0)
 }

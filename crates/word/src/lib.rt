@@ -66,10 +66,14 @@ pub fn tested(words: &[u32], p: usize, kind: u32, holds: bool, status: u8) -> St
     go(p + 1)
 }
 
-// A word of a kind with a payload below a limit.
+// A word of a kind with a payload below a limit. The kind is tested first: the compiled code then checks
+// the position and reads the word once.
 pub fn below(words: &[u32], p: usize, kind: u32, limit: u32) -> Step
     ensures { λ r. ⌜ r ≡ spec.below (now (words .entry)) p kind limit ⌝ }
 {
+    if !is_due(words, p, kind) {
+        return stop(BAD_WORD, p);
+    }
     tested(
         words,
         p,

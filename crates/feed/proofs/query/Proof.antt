@@ -1,39 +1,43 @@
+use mathlib.Core.Path.{_≡_, sym, ap, _∙_}
+use borrow.Author.Needs.{needs}
 use Rattle.group.specs.declared.Answer.{Answer}
+use Rattle.meter.specs.Meter.{estimated}
 use Rattle.feed.specs.declared.Recorded.{Recorded}
 use Rattle.feed.specs.declared.Recorded.the-variants as case
-use Rattle.feed.proofs.Laws.{lent, outcome-rejected, outcome-accepted, query-refused, query-sound}
-use mathlib.Core.Path.{_≡_, sym, ap, _∙_}
 use Rattle.feed.specs.Words.{queryBody, keyOf}
 use Rattle.feed.specs.Record.{rejection, outcomeOf, queried}
-use Rattle.meter.specs.Meter.{estimated}
-use borrow.Author.Needs.{needs}
+use Rattle.feed.proofs.Laws.{lent, sound-answer, outcome-rejected, outcome-accepted, query-refused, query-sound}
 use Rattle.feed.proofs.query.Statement.{statement}
 use Rattle.feed.proofs.query.Tie as tie
 
 -- the estimate that was called, and what the record makes of it
 abbrev called : tie.After-estimate → Answer
 called k =
-    let a = k .before .before .before .before .before .before .before .before .before .args in
+    let a = k .before .before .before .before .before .before .before .before .before .before .args in
     estimated (a .d) (a .w) (a .memory .now) (keyOf (a .n) (a .words .now))
 
 abbrev meant : tie.After-estimate → Recorded
 meant k =
-    let a = k .before .before .before .before .before .before .before .before .before .args in
+    let a = k .before .before .before .before .before .before .before .before .before .before .args in
     queried (a .d) (a .w) (a .memory .now) (a .n) (a .words .now) (queryBody (a .n) (a .words .now))
 
 called-is : (k : tie.After-estimate) → k .estimate .result ≡ called k
 called-is k =
-    let g = k .before .before .before in
-    let a = g .before .before .before .before .before .before .args in
-    k .estimate .ensures
-    ∙ ap (estimated (a .d) (a .w) (a .memory .now)) (lent (a .n) (g .key-of .result) (keyOf (a .n) (a .words .now)) (g .key-of .ensures))
+    let m = k .before .before .before .before in
+    let q = m .before .before in
+    let a = q .before .before .before .before .args in
+    let s = ap (λ (x : Answer). x .status) (sound-answer (q .query-body .result) (m .match .keys1)) in
+    k .estimate .ensures ∙ ap (estimated (a .d) (a .w) (a .memory .now)) (lent (a .n) _ (keyOf (a .n) (a .words .now)) (q .query-body .ensures .1 s))
 
 meant-is : (k : tie.After-estimate) → meant k ≡ outcomeOf (called k) (case.Estimate (called k .value))
 meant-is k =
-    let g = k .before .before .before in
-    let b = g .before .before .before in
-    let a = b .before .before .before .args in
-    rw (← b .query-body .ensures) (query-sound (a .d) (a .w) (a .memory .now) (a .n) (a .words .now) (b .query-body .result) (g .before .before .match .keys1))
+    let m = k .before .before .before .before in
+    let q = m .before .before in
+    let a = q .before .before .before .before .args in
+    rw (← q .query-body .ensures .0) (query-sound (a .d) (a .w) (a .memory .now) (a .n) (a .words .now) (q .query-body .result) (m .match .keys1))
+
+slice-aggregate-query-body : tie.Need-slice-aggregate-query-body
+slice-aggregate-query-body c = search needs
 
 query-body-requires : tie.Need-query-body-requires
 query-body-requires c κs = search needs
@@ -48,13 +52,10 @@ refused-requires : tie.Need-refused-requires
 refused-requires c κs = search needs
 
 returns : tie.Need-returns
-returns c = let u = c .before .before .before .query-body in
-    let a = c .before .before .before .before .before .before .args in
+returns c = let u = c .before .before .before .before .query-body in
+    let a = c .before .before .before .before .before .before .before .before .args in
     let e = query-refused (a .d) (a .w) (a .memory .now) (a .n) (a .words .now) (u .result) (c .before .before .match .keys2) in
-    rw (← u .ensures, e) (c .refused .ensures)
-
-key-of-requires : tie.Need-key-of-requires
-key-of-requires c κs = search needs
+    rw (← u .ensures .0, e) (c .refused .ensures)
 
 sub-estimate : tie.Need-sub-estimate
 sub-estimate c = search needs
@@ -87,12 +88,12 @@ pub query-spec : {M : Type 1} → statement M
 query-spec =
     tie.close
     (tie.spec
+    slice-aggregate-query-body
     query-body-requires
     enum-told
     enum-told-2
     refused-requires
     returns
-    key-of-requires
     sub-estimate
     part-estimate-start
     part-estimate-end

@@ -18,7 +18,7 @@ enum-known-b : tie.Need-enum-known-b
 enum-known-b c = search needs
 
 returns : tie.Need-returns
-returns c = c .rejection .ensures ∙ ap rejection (c .before .faulty .ensures) ∙ sym (sound-answer (c .before .before .before .before .args .b) (c .before .before .before .match .keys1))
+returns c = c .rejection .ensures ∙ ap rejection (c .before .faulty .ensures ∙ sym (sound-answer (c .before .before .before .before .args .b) (c .before .before .before .match .keys1)))
 
 returns-2 : tie.Need-returns-2
 returns-2 c = rw (c .before .b .given .1)

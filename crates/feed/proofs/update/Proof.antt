@@ -1,35 +1,38 @@
-use Rattle.group.specs.declared.Answer.{Answer}
-use Rattle.feed.specs.declared.Recorded.the-variants as case
-use Rattle.feed.specs.Record.{Carried, rejection, outcomeOf, carriedUpdate}
-use Rattle.feed.proofs.Laws.{lent, outcome-rejected, outcome-accepted, update-refused}
 use mathlib.Core.Path.{_≡_, refl, sym, ap, _∙_}
 use mathlib.Core.List.{List}
-use Rattle.feed.specs.Words.{updateBody, keyOf}
-use Rattle.meter.specs.Meter.{updated}
-use Rattle.row.specs.Order.{Done}
 use Prim.Native.Nat.{ℕ}
 use borrow.Author.Needs.{needs}
+use Rattle.group.specs.declared.Answer.{Answer}
+use Rattle.row.specs.Order.{Done}
+use Rattle.meter.specs.Meter.{updated}
+use Rattle.feed.specs.declared.words.Body.{Body}
+use Rattle.feed.specs.declared.Recorded.the-variants as case
+use Rattle.feed.specs.Answers.{bodyAnswer}
+use Rattle.feed.specs.Words.{updateBody, keyOf}
+use Rattle.feed.specs.Record.{Carried, rejection, outcomeOf, carriedUpdate}
+use Rattle.feed.proofs.Laws.{lent, outcome-rejected, outcome-accepted, update-refused}
 use Rattle.feed.proofs.update.Statement.{statement}
 use Rattle.feed.proofs.update.Tie as tie
 
 -- the update that was called, and what the record makes of it
 abbrev called : tie.After-update → Done
 called k =
-    let g = k .before .before .before .before in
-    let a = g .before .before .before .before .before .before .before .args in
-    updated (a .d) (a .w) (a .memory .now) (keyOf (a .n) (a .words .now)) (g .before .before .b .given .0 .0)
+    let b = k .before .before .before .before .before in
+    let a = b .before .before .before .before .before .before .before .args in
+    updated (a .d) (a .w) (a .memory .now) (keyOf (a .n) (a .words .now)) (b .b .given .0 .0)
 
 abbrev meant : tie.After-update → Carried
 meant k =
-    let a = k .before .before .before .before .before .before .before .before .before .before .before .args in
+    let a = k .before .before .before .before .before .before .before .before .before .before .before .before .args in
     carriedUpdate (a .d) (a .w) (a .memory .now) (a .n) (a .words .now) (updateBody (a .n) (a .words .now))
 
 called-is : (k : tie.After-update) → (k .update .result ≡ called k .answer) × (k .update .last .1 .1 .0 ≡ called k .memory)
 called-is k =
-    let g = k .before .before .before .before in
-    let a = g .before .before .before .before .before .before .before .args in
-    let q = lent (a .n) (g .key-of .result) (keyOf (a .n) (a .words .now)) (g .key-of .ensures) in
-    let v = g .before .before .b .given .0 .0 in (
+    let b = k .before .before .before .before .before in
+    let u = b .before .before .before in
+    let a = u .before .before .before .before .args in
+    let v = b .b .given .0 .0 in
+    let q = lent (a .n) _ (keyOf (a .n) (a .words .now)) (u .update-body .ensures .1 (ap (λ (x : Body). bodyAnswer x .status) (b .b .given .1))) in (
       k .update .ensures .0 ∙ ap (λ (x : List ℕ). updated (a .d) (a .w) (a .memory .now) x v .answer) q,
       k .update .ensures .1 ∙ ap (λ (x : List ℕ). updated (a .d) (a .w) (a .memory .now) x v .memory) q,
     )
@@ -37,8 +40,11 @@ called-is k =
 meant-is : (k : tie.After-update) → meant k ≡ record { outcome = outcomeOf (called k .answer) case.Updated; memory = called k .memory }
 unfolding carriedUpdate
 meant-is k =
-    let g = k .before .before .before .before in
-    rw (sym (g .before .before .before .before .update-body .ensures) ∙ g .before .before .b .given .1)
+    let b = k .before .before .before .before .before in
+    rw (sym (b .before .before .before .update-body .ensures .0) ∙ b .b .given .1)
+
+slice-aggregate-update-body : tie.Need-slice-aggregate-update-body
+slice-aggregate-update-body c = search needs
 
 update-body-requires : tie.Need-update-body-requires
 update-body-requires c κs = search needs
@@ -53,13 +59,10 @@ refused-requires : tie.Need-refused-requires
 refused-requires c κs = search needs
 
 returns : tie.Need-returns
-returns c = let u = c .before .before .before .update-body in
-    let a = c .before .before .before .before .before .before .args in
+returns c = let u = c .before .before .before .before .update-body in
+    let a = c .before .before .before .before .before .before .before .before .args in
     let e = update-refused (a .d) (a .w) (a .memory .now) (a .n) (a .words .now) (u .result) (c .before .before .match .keys2) in
-    rw (← u .ensures, e) (c .refused .ensures, refl)
-
-key-of-requires : tie.Need-key-of-requires
-key-of-requires c κs = search needs
+    rw (← u .ensures .0, e) (c .refused .ensures, refl)
 
 sub-update : tie.Need-sub-update
 sub-update c = search needs
@@ -98,12 +101,12 @@ pub update-spec : {M : Type 1} → statement M
 update-spec =
     tie.close
     (tie.spec
+    slice-aggregate-update-body
     update-body-requires
     enum-known-b
     enum-told
     refused-requires
     returns
-    key-of-requires
     sub-update
     part-update-start
     part-update-end

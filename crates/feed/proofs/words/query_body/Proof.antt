@@ -1,19 +1,25 @@
 use mathlib.Core.Path.{_∙_, ap}
+use borrow.Author.Needs.{needs}
 use Rattle.word.specs.declared.Step.{Step}
 use Rattle.feed.specs.Words.{bodyOf, queryStep, queryBody}
-use borrow.Author.Needs.{needs}
+use Rattle.feed.proofs.Laws.{all-sound}
 use Rattle.feed.proofs.words.query_body.Statement.{statement}
 use Rattle.feed.proofs.words.query_body.Tie as tie
 
-check-key-requires : tie.Need-check-key-requires
-check-key-requires c κs = search needs
+take-key-requires : tie.Need-take-key-requires
+take-key-requires c κs = search needs
 
 body-of-requires : tie.Need-body-of-requires
 body-of-requires c κs = search needs
 
+same-length : tie.Need-same-length
+same-length c = search needs
+
 returns : tie.Need-returns
 unfolding queryBody queryStep
-returns c = c .body-of .ensures ∙ ap (λ (s : Step). bodyOf s 0) (c .before .check-key .ensures)
+returns c = let s = c .before .before .before .take-key in
+    let e = c .body-of .ensures in
+    (e ∙ ap (λ (t : Step). bodyOf t 0) (s .ensures .0), λ h. s .ensures .1 .1 (all-sound (s .result) 0 (c .body-of .result) e h))
 
 pub query-body-spec : {M : Type 1} → statement M
-query-body-spec = tie.close (tie.spec check-key-requires body-of-requires returns)
+query-body-spec = tie.close (tie.spec take-key-requires body-of-requires same-length returns)

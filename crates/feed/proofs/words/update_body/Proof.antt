@@ -1,6 +1,7 @@
 use mathlib.Core.Path.{_∙_, ap₂}
-use Rattle.feed.specs.Words.{bodyOf, updateBody}
 use borrow.Author.Needs.{needs}
+use Rattle.feed.specs.Words.{bodyOf, updateBody}
+use Rattle.feed.proofs.Laws.{all-sound}
 use Rattle.feed.proofs.words.update_body.Statement.{statement}
 use Rattle.feed.proofs.words.update_body.Tie as tie
 
@@ -13,10 +14,16 @@ amount-of-requires c κs = search needs
 body-of-requires : tie.Need-body-of-requires
 body-of-requires c κs = search needs
 
+same-length : tie.Need-same-length
+same-length c = search needs
+
 returns : tie.Need-returns
 unfolding updateBody
-returns c = c .body-of .ensures ∙ ap₂ bodyOf (c .before .before .check-update .ensures) (c .before .amount-of .ensures)
+returns c = let s = c .before .before .before .before .check-update in
+    let e = c .body-of .ensures in
+    (e ∙ ap₂ bodyOf (s .ensures .0) (c .before .amount-of .ensures), λ h. s .ensures .1 (all-sound (s .result) _ (c .body-of .result) e h))
 
 pub update-body-spec : {M : Type 1} → statement M
 update-body-spec =
-    tie.close (tie.spec check-update-requires amount-of-requires body-of-requires returns)
+    tie.close
+    (tie.spec check-update-requires amount-of-requires body-of-requires same-length returns)
