@@ -2,14 +2,14 @@
 use mathlib.Core.Path.{_≡_, refl, sym}
 use mathlib.Core.Bool.{Bool, true, false, cond}
 use Prim.Native.Nat.{ℕ, zero, suc, _+_, _-_, _*_, _/_, _%_, _^_, _≤_, _<_}
-use native.Mathlib.Nat.{mod-lt, div-lt-iff-lt-mul, div-add-mod', mul-le-mul-right}
+use native.Mathlib.Nat.{mod-lt, zero-mul, zero-div, zero-mod, div-lt-iff-lt-mul, div-add-mod', mul-le-mul-right}
 use native.Mathlib.Decide.{le-ind}
 use native.Mathlib.Numerals.{sub-one}
 use native.Mathlib.Omega.{arith}
 use borrow.Author.Tests.{eq-eqb, ne-eqb, eqb-true, eqb-false}
 use lib.Arith.{digits-lt, digits-div, digits-mod, lt-of-le-ne}
 use lib.Dec.{eqb}
-use Rattle.layout.specs.Layout.{Layout, merged, halves, marks, layout}
+use Rattle.layout.specs.Layout.{Layout, merged, halves, bit, marks, layout}
 use Rattle.layout.specs.Code.{layouts, mergedCode, code, uncode}
 
 pub layouts-pos : (n : ℕ) → 0 < layouts n
@@ -27,6 +27,12 @@ pub code-lt : {n : ℕ} (L : Layout n) → code L < layouts n
 unfolding code layouts
 code-lt {n} merged = omega (arith, merged-last n)
 code-lt (halves {n} l r) = omega (arith, digits-lt (code-lt l) (code-lt r))
+
+-- no merge bit set
+pub code-zero : (n : ℕ) → code (layout n 0) ≡ 0
+unfolding code mergedCode layout bit
+code-zero zero = refl
+code-zero (suc n) = rw (zero-div (2 ^ (2 ^ n - 1)), zero-mod (2 ^ (2 ^ n)), zero-div (2 ^ (2 ^ n)), code-zero n, zero-mul (layouts n))
 
 halves-not-merged : {n : ℕ} (l r : Layout n) → code l * layouts n + code r ≡ mergedCode (suc n) → ⊥
 unfolding mergedCode

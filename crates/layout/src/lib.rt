@@ -81,12 +81,15 @@ pub fn layouts(level: u32) -> u32
     n * n + 1
 }
 
-// The layout code of a block.
+// The layout code of a block. One without a merge bit has code 0, at any level.
 pub fn code(level: u32, merge: u8) -> u32
     requires { ⌜ level ≤ 3 ⌝ }
     ensures { λ r. ⌜ r ≡ code_spec.code (layout level merge) ⌝ }
     ensures { λ r. ⌜ r ≤ 25 ⌝ }
 {
+    if merge == 0 {
+        return 0;
+    }
     if is_merged(level, merge) {
         return layouts(level) - 1;
     }
