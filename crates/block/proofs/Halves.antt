@@ -63,9 +63,10 @@ halves-in : (n w : ℕ) → 0 < n → w < cap n → (w % cap (n - 1) < cap (n - 
 halves-in zero w h k = absurd (omega arith)
 halves-in (suc n) w h k = rw (sub-one (suc n)) (mod-lt w (cap-pos n), high-lt n w k)
 
-half-is : (n : ℕ) (s : Summed) → s .over ≡ false → s .word < cap n → valid n (s .merge) ≡ true → s ≡ summed (fits (block n (s .word) (s .merge)))
+-- a block as the code passes it
+pub block-summed : (n : ℕ) (s : Summed) → s .over ≡ false → s .word < cap n → valid n (s .merge) ≡ true → s ≡ summed (fits (block n (s .word) (s .merge)))
 unfolding summed
-half-is n s e h v =
+block-summed n s e h v =
     rw (word-block n (s .word) (s .merge) h, marks-block n (s .word) (s .merge) v)
     (ap (λ (o : Bool). record { over = o; word = s .word; merge = s .merge }) e)
 
@@ -110,11 +111,11 @@ module _ {n w m : ℕ} {l r : Summed} (p : Apart n w m l r) where
   -- the halves as sound Sums
   pub left-is : Sane n w m → l ≡ summed (fits (block (n - 1) (l .word) (l .merge)))
   unfolding leftHalf
-  left-is h = half-is (n - 1) l (ap (λ (s : Summed). s .over) (p .l-is)) (left-sane h .0) (left-sane h .1)
+  left-is h = block-summed (n - 1) l (ap (λ (s : Summed). s .over) (p .l-is)) (left-sane h .0) (left-sane h .1)
 
   pub right-is : Sane n w m → r ≡ summed (fits (block (n - 1) (r .word) (r .merge)))
   unfolding rightHalf
-  right-is h = half-is (n - 1) r (ap (λ (s : Summed). s .over) (p .r-is)) (right-sane h .0) (right-sane h .1)
+  right-is h = block-summed (n - 1) r (ap (λ (s : Summed). s .over) (p .r-is)) (right-sane h .0) (right-sane h .1)
 
   pub left-fits : w < cap n → Fits (block (n - 1) (l .word) (l .merge))
   left-fits h = block-fits (n - 1) (l .word) (l .merge) (words-in h .0)

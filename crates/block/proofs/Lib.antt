@@ -7,4 +7,6 @@ pub mod Changing
 pub mod Slots
 pub mod Places
 pub mod Carries
+pub mod Every
+pub mod Starts
 pub mod Twins

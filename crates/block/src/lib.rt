@@ -7,8 +7,9 @@ use layout::low;
 use layout::ones;
 use layout::slots;
 ghost use mathlib.Core.Path.{_≡_};
-ghost use Prim.Native.Nat.{_+_, _-_, _*_, _/_, _%_, _^_, _<_, _≤_};
-ghost use lib.Dec.{ltb};
+ghost use mathlib.Core.Bool.{not, _&&_};
+ghost use Prim.Native.Nat.{ℕ, _+_, _-_, _*_, _/_, _%_, _^_, _<_, _≤_};
+ghost use lib.Dec.{ltb, eqb};
 ghost use Rattle.block.specs.Block.{cap, block};
 ghost use Rattle.block.specs.Block as spec;
 ghost use Rattle.block.specs.Sum as sum_spec;
@@ -179,11 +180,34 @@ pub fn add(level: u32, word: u64, merge: u8, slot: usize, amount: u64) -> Summed
     )
 }
 
-// Two blocks united.
+// Whether the count bytes of two blocks, taken as numbers, may be added for their union: the layouts are the same and each counter
+// holds its sum. Then nothing is carried to where a counter starts or the block ends. Merge bit k is clear where slot k + 1 starts a
+// counter or is past the block, at any level.
+pub fn may_add(word: u64, merge: u8, other_word: u64, other_merge: u8) -> bool
+    ensures { λ r. ⌜ ((n : ℕ) → n ≤ 3 → Sane n word merge → «other_word» < cap n → let u = summed (sum_spec.unite (block n word merge) (block n «other_word» «other_merge»)) in r ≡ (eqb merge «other_merge» && (not (u .over) && eqb (u .merge) merge))) ⌝ }
+{
+    if merge != other_merge {
+        return false;
+    }
+    if 18446744073709551615 - word < other_word {
+        return false;
+    }
+    let starts = (((127 ^ merge) as u64 * 4432676798593) & 282578800148737) * 256;
+    (word ^ other_word ^ (word + other_word)) & starts == 0
+}
+
+// Two blocks united. Where both have the same layout and each counter holds its sum, the layout stays.
 pub fn unite(level: u32, word: u64, merge: u8, other_word: u64, other_merge: u8) -> Summed
     requires { ⌜ level ≤ 3 ⌝ ∗ ⌜ Sane level word merge ⌝ ∗ ⌜ Sane level «other_word» «other_merge» ⌝ ∗ ⌜ spec.total (block level word merge) + spec.total (block level «other_word» «other_merge») < 2 ^ 64 ⌝ }
     ensures { λ r. ⌜ r ≡ summed (sum_spec.unite (block level word merge) (block level «other_word» «other_merge»)) ⌝ }
 {
+    if may_add(word, merge, other_word, other_merge) {
+        return Summed {
+            over: false,
+            word: word + other_word,
+            merge,
+        };
+    }
     if is_merged(level, merge) {
         return held(level, word + total(level, other_word, other_merge));
     }

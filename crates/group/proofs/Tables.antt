@@ -1,31 +1,15 @@
 -- Facts about every merge byte, each shown by one computation over all of them.
 use mathlib.Core.Path.{_≡_, refl, sym, ap, _∙_}
-use mathlib.Core.Bool.{Bool, true, false, cond, not, _&&_, and-eq-true-iff}
-use Prim.Native.Nat.{ℕ, zero, suc, _+_, _-_, _*_, _/_, _%_, _^_, _<_}
-use native.Mathlib.Decide.{decLt}
-use native.Mathlib.Omega.{arith}
+use mathlib.Core.Bool.{Bool, true, false, cond, not, _&&_}
+use Prim.Native.Nat.{ℕ, _+_, _-_, _*_, _/_, _%_, _^_, _<_}
 use borrow.Author.Tests.{eqb-true, eq-eqb}
 use lib.Bits.{bitAnd, bitOr}
 use lib.Dec.{eqb}
 use Rattle.layout.specs.Layout.{bit, layout, valid, ones, widest}
-use Rattle.layout.proofs.Laws.{marks-lt, marks-layout}
-use Rattle.block.specs.Block.{cap, block, counterAt}
-use Rattle.block.specs.Sum.{fits, unite}
-use Rattle.block.proofs.Carries.{bounds, carries, unite-in-place}
+use Rattle.block.specs.Block.{block, counterAt}
+use Rattle.block.proofs.Every.{every, every-at}
 use Rattle.block.proofs.Laws.{shape-fill}
 use Rattle.block.proofs.Slots.{levelOf, level-is}
-
--- a test passed by every number below n
-pub every : (ℕ → Bool) → ℕ → Bool
-every p zero = true
-every p (suc n) = p n && every p n
-
-pub every-at : (p : ℕ → Bool) (n m : ℕ) → every p n ≡ true → m < n → p m ≡ true
-unfolding every
-every-at p zero m e h = absurd (omega arith)
-every-at p (suc n) m e h =
-    let s = and-eq-true-iff (p n) (every p n) .0 e in
-    elim (decLt m n) [ yes l ↦ every-at p n m (s .1) l | no l ↦ let i : m ≡ n = omega arith in rw i (s .0) ]
 
 same : Bool → Bool → Bool
 same a b = cond a b (not b)
@@ -87,24 +71,6 @@ all-widest = refl
 
 pub bits-widest : (m : ℕ) → m < 256 → valid 3 m ≡ true → bitsWidest m ≡ widest (layout 3 m)
 bits-widest m h v = eqb-true (bitsWidest m) (widest (layout 3 m)) (valid-at (λ m. eqb (bitsWidest m) (widest (layout 3 m))) all-widest m h v)
-
--- where counters start: bit k of the merge byte at bit 8 * (k + 1), turned over
-pub valid-below : (m : ℕ) → valid 3 m ≡ true → m < 128
-valid-below m v = rw (← marks-layout 3 m v) (marks-lt (layout 3 m))
-
-abbrev pub bitsBounds : ℕ → ℕ
-bitsBounds m = bitAnd ((127 - m) * 4432676798593) 282578800148737 * 256
-
-all-bounds : every (λ m. cond (valid 3 m) (eqb (bitsBounds m) (bounds (layout 3 m))) true) 256 ≡ true
-unfolding every valid ones layout bit bounds cap
-all-bounds = refl
-
-pub bits-unite : (a b m : ℕ) → m < 256 → valid 3 m ≡ true → a + b < 2 ^ 64 → bitAnd (carries a b) (bitsBounds m) ≡ 0
-    → unite (block 3 a m) (block 3 b m) ≡ fits (block 3 (a + b) m)
-unfolding block cap
-bits-unite a b m h v s z =
-    let e : bitsBounds m ≡ bounds (layout 3 m) = eqb-true (bitsBounds m) (bounds (layout 3 m)) (valid-at (λ m. eqb (bitsBounds m) (bounds (layout 3 m))) all-bounds m h v) in
-    unite-in-place (layout 3 m) a b s (rw e at z)
 
 -- the own bit of a block whose halves are two counters of level L from slot p on is clear
 formed-test : ℕ → ℕ → ℕ → Bool

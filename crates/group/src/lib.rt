@@ -306,29 +306,13 @@ pub fn add(g: Group, slot: usize, amount: u32) -> Outcome
     settled(block::add(3, word, g.merge, k, amount as u64))
 }
 
-// Whether in the sum of the count bytes of two groups, taken as numbers, nothing is carried from one counter to the next. In a
-// valid layout merge bit k is clear where slot k + 1 starts a counter.
-fn no_carry(merge: u8, word: u64, other: u64) -> bool
-    requires { ⌜ valid 3 merge ≡ true ⌝ ∗ ⌜ word + other < 2 ^ 64 ⌝ }
-    ensures { λ r. ⌜ (r ≡ true → sum_spec.unite (block 3 word merge) (block 3 other merge) ≡ fits (block 3 (word + other) merge)) ⌝ }
-{
-    let starts = (((127 - merge) as u64 * 4432676798593) & 282578800148737) * 256;
-    (word ^ other ^ (word + other)) & starts == 0
-}
-
 // Whether the count bytes of two groups, taken as numbers, may be added for their union: the layouts are the same and each counter
 // holds its sum.
 fn may_add(word: u64, merge: u8, other_word: u64, other_merge: u8) -> bool
     requires { ⌜ valid 3 merge ≡ true ⌝ }
     ensures { λ r. ⌜ (r ≡ true → (word + «other_word» < 2 ^ 64) × (sum_spec.unite (block 3 word merge) (block 3 «other_word» «other_merge») ≡ fits (block 3 (word + «other_word») merge))) ⌝ }
 {
-    if merge != other_merge {
-        return false;
-    }
-    if 18446744073709551615 - word < other_word {
-        return false;
-    }
-    no_carry(merge, word, other_word)
+    block::may_add(word, merge, other_word, other_merge)
 }
 
 // Whether the sum of all counters of two groups is below 2 ^ 64. It is where neither group is one counter.

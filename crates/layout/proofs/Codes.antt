@@ -2,14 +2,14 @@
 use mathlib.Core.Path.{_≡_, refl, sym}
 use mathlib.Core.Bool.{Bool, true, false, cond}
 use Prim.Native.Nat.{ℕ, zero, suc, _+_, _-_, _*_, _/_, _%_, _^_, _≤_, _<_}
-use native.Mathlib.Nat.{mod-lt, div-lt-iff-lt-mul, div-add-mod', mul-le-mul-right}
+use native.Mathlib.Nat.{mod-lt, zero-mul, zero-div, zero-mod, div-lt-iff-lt-mul, div-add-mod', mul-le-mul-right}
 use native.Mathlib.Decide.{le-ind}
 use native.Mathlib.Numerals.{sub-one}
 use native.Mathlib.Omega.{arith}
 use borrow.Author.Tests.{eq-eqb, ne-eqb, eqb-true, eqb-false}
 use lib.Arith.{digits-lt, digits-div, digits-mod, lt-of-le-ne}
 use lib.Dec.{eqb}
-use Rattle.layout.specs.Layout.{Layout, merged, halves, marks, layout}
+use Rattle.layout.specs.Layout.{Layout, merged, halves, bit, ones, marks, layout}
 use Rattle.layout.specs.Code.{layouts, mergedCode, code, uncode}
 
 pub layouts-pos : (n : ℕ) → 0 < layouts n
@@ -27,6 +27,12 @@ pub code-lt : {n : ℕ} (L : Layout n) → code L < layouts n
 unfolding code layouts
 code-lt {n} merged = omega (arith, merged-last n)
 code-lt (halves {n} l r) = omega (arith, digits-lt (code-lt l) (code-lt r))
+
+-- no merge bit set
+pub code-zero : (n : ℕ) → code (layout n 0) ≡ 0
+unfolding code mergedCode layout bit
+code-zero zero = refl
+code-zero (suc n) = rw (zero-div (2 ^ (2 ^ n - 1)), zero-mod (2 ^ (2 ^ n)), zero-div (2 ^ (2 ^ n)), code-zero n, zero-mul (layouts n))
 
 halves-not-merged : {n : ℕ} (l r : Layout n) → code l * layouts n + code r ≡ mergedCode (suc n) → ⊥
 unfolding mergedCode
@@ -99,6 +105,18 @@ halves-lt n c h k e =
     (div-lt-iff-lt-mul {k = a} {x = c} {y = a} (layouts-pos (n - 1)) .1 below, mod-lt c (layouts-pos (n - 1)))
 
 -- what unpacking meets
+pub uncode-zero : (n : ℕ) → marks (uncode n 0) ≡ 0
+unfolding uncode mergedCode marks ones
+uncode-zero zero = refl
+uncode-zero (suc n) =
+    let some : 0 ≡ layouts n * layouts n → ⊥ = λ e. omega (arith, mul-le-mul-right {m = 1} {n = layouts n} (layouts n) (layouts-pos n), layouts-pos n) in
+    rw (ne-eqb 0 (layouts n * layouts n) some, zero-div (layouts n), zero-mod (layouts n), uncode-zero n, zero-mul (2 ^ (2 ^ n)))
+
+pub code-above-slot : (n c : ℕ) → c < layouts n → (c ≡ 0 → ⊥) → 0 < n
+unfolding layouts
+code-above-slot zero c h k = absurd (k (omega arith))
+code-above-slot (suc n) c h k = omega arith
+
 pub uncode-merged : (n c : ℕ) → 0 < n → c ≡ layouts (n - 1) * layouts (n - 1) → uncode n c ≡ merged
 unfolding uncode mergedCode
 uncode-merged zero c h e = absurd (omega arith)

@@ -81,12 +81,15 @@ pub fn layouts(level: u32) -> u32
     n * n + 1
 }
 
-// The layout code of a block.
+// The layout code of a block. One without a merge bit has code 0, at any level.
 pub fn code(level: u32, merge: u8) -> u32
     requires { ⌜ level ≤ 3 ⌝ }
     ensures { λ r. ⌜ r ≡ code_spec.code (layout level merge) ⌝ }
     ensures { λ r. ⌜ r ≤ 25 ⌝ }
 {
+    if merge == 0 {
+        return 0;
+    }
     if is_merged(level, merge) {
         return layouts(level) - 1;
     }
@@ -95,12 +98,12 @@ pub fn code(level: u32, merge: u8) -> u32
     left * layouts(half) + code(half, high(half, merge))
 }
 
-// The merge bits of the layout that a code stands for.
+// The merge bits of the layout that a code stands for: none for code 0, the only code of a single slot.
 pub fn unpack(level: u32, code: u32) -> u8
     requires { ⌜ level ≤ 3 ⌝ ∗ ⌜ code < code_spec.layouts level ⌝ }
     ensures { λ r. ⌜ r ≡ marks (code_spec.uncode level code) ⌝ }
 {
-    if level == 0 {
+    if code == 0 {
         return 0;
     }
     let half = level - 1;

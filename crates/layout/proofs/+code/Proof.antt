@@ -1,11 +1,11 @@
-use mathlib.Core.Path.{_≡_, sym, _∙_}
+use mathlib.Core.Path.{_≡_, sym, ap, _∙_}
 use Prim.Native.Nat.{_*_, _≤_, ℕ, _<_}
 use mathlib.Core.Bool.{false}
 use native.Mathlib.Nat.{mul-le-mul}
 use Rattle.layout.specs.Layout.{isMerged, layout}
 use Rattle.layout.specs.Code.{code as code-of}
 use Rattle.layout.proofs.Laws.{is-merged, above-slot, layout-apart}
-use Rattle.layout.proofs.Codes.{merged-last, with-bound}
+use Rattle.layout.proofs.Codes.{merged-last, code-zero, with-bound}
 use native.Mathlib.Omega.{arith}
 use borrow.Fn.Kinds.{In, Out}
 use borrow.Fn.PlainCycle.{Measures, is, falls, and}
@@ -48,14 +48,19 @@ K t = (
 )
 
 -- the block is two halves
-is-apart : {t : ℕ} (c : code-lts.Else1 (K t) (code-at t) code.Post) → isMerged (layout (c .before .before .args .level) (c .before .before .args .merge)) ≡ false
-is-apart c = sym (c .before .is-merged .ensures) ∙ c .if1 .left
+is-apart : {t : ℕ} (c : code-lts.Else2 (K t) (code-at t) code.Post) → isMerged (layout (c .before .before .before .args .level) (c .before .before .before .args .merge)) ≡ false
+is-apart c = sym (c .before .is-merged .ensures) ∙ c .if2 .left
 
-above : {t : ℕ} (c : code-lts.Else1 (K t) (code-at t) code.Post) → 0 < c .before .before .args .level
-above c = above-slot (c .before .before .args .level) (c .before .before .args .merge) (is-apart c)
+above : {t : ℕ} (c : code-lts.Else2 (K t) (code-at t) code.Post) → 0 < c .before .before .before .args .level
+above c = above-slot (c .before .before .before .args .level) (c .before .before .before .args .merge) (is-apart c)
 
 product : {t : ℕ} (c : code-lts.After-layouts2 (K t) (code-at t) code.Post) → c .before .code .result * c .layouts2 .result ≤ 25 * 26
 product c = mul-le-mul {n₁ = c .before .code .result} {m₁ = c .layouts2 .result} {n₂ = 25} {m₂ = 26} (c .before .code .ensures .1) (c .layouts2 .ensures .1 .1)
+
+code-returns : (t : ℕ) → code-lts.Need-returns (K t) (code-at t) code.Post
+code-returns t c = let a = c .before .args in
+    with-bound (a .level) (a .merge) (omega arith)
+    (sym (ap (λ (m : ℕ). code-of (layout (a .level) m)) (c .if1 .taken) ∙ code-zero (a .level)))
 
 code-is-merged-requires : (t : ℕ) → code-lts.Need-is-merged-requires (K t) (code-at t) code.Post
 code-is-merged-requires t c κs = omega arith
@@ -66,11 +71,11 @@ code-layouts-requires t c κs = omega arith
 code-sub-result : (t : ℕ) → code-lts.Need-sub-result (K t) (code-at t) code.Post
 code-sub-result t c = omega arith
 
-code-returns : (t : ℕ) → code-lts.Need-returns (K t) (code-at t) code.Post
+code-returns-2 : (t : ℕ) → code-lts.Need-returns-2 (K t) (code-at t) code.Post
 unfolding code-of
-code-returns t c = let a = c .before .before .before .args in
+code-returns-2 t c = let a = c .before .before .before .before .args in
     with-bound (a .level) (a .merge) (omega arith)
-    (rw (is-merged _ (sym (c .before .before .is-merged .ensures) ∙ c .before .if1 .taken), c .layouts .ensures .0)
+    (rw (is-merged _ (sym (c .before .before .is-merged .ensures) ∙ c .before .if2 .taken), c .layouts .ensures .0)
     (omega (arith, merged-last (a .level))))
 
 code-sub-half : (t : ℕ) → code-lts.Need-sub-half (K t) (code-at t) code.Post
@@ -97,10 +102,10 @@ code-code-requires-2 t c κs = (omega (arith, above (c .before .before .before .
 code-add-result : (t : ℕ) → code-lts.Need-add-result (K t) (code-at t) code.Post
 code-add-result t c = omega (arith, product (c .before .before))
 
-code-returns-2 : (t : ℕ) → code-lts.Need-returns-2 (K t) (code-at t) code.Post
+code-returns-3 : (t : ℕ) → code-lts.Need-returns-3 (K t) (code-at t) code.Post
 unfolding code-of
-code-returns-2 t c = let d = c .before .before .before .before .before in
-    let a = d .before .before .args in
+code-returns-3 t c = let d = c .before .before .before .before .before in
+    let a = d .before .before .before .args in
     with-bound (a .level) (a .merge) (omega arith)
     (rw (
       c .before .before .layouts2 .ensures .0,
@@ -115,10 +120,11 @@ pub +code-spec : {M : Type 1} → statement M
 +code-spec = close μ-code λ t. code-lts.spec (K t)
     (code-at t)
     code.Post
+    (code-returns t)
     (code-is-merged-requires t)
     (code-layouts-requires t)
     (code-sub-result t)
-    (code-returns t)
+    (code-returns-2 t)
     (code-sub-half t)
     (code-low-requires t)
     (code-code-requires t)
@@ -127,4 +133,4 @@ pub +code-spec : {M : Type 1} → statement M
     (code-high-requires t)
     (code-code-requires-2 t)
     (code-add-result t)
-    (code-returns-2 t)
+    (code-returns-3 t)

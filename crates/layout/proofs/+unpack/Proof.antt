@@ -1,10 +1,10 @@
 use mathlib.Core.Path.{_≡_, sym, ap, _∙_}
 use Prim.Native.Nat.{_-_, _*_, _/_, _%_, ℕ, _<_}
 use native.Mathlib.Nat.{mul-le-mul}
-use Rattle.layout.specs.Layout.{marks, ones}
+use Rattle.layout.specs.Layout.{marks}
 use Rattle.layout.specs.Code.{layouts, uncode}
 use Rattle.layout.proofs.Laws.{marks-in}
-use Rattle.layout.proofs.Codes.{uncode-merged, uncode-apart, halves-lt}
+use Rattle.layout.proofs.Codes.{uncode-zero, code-above-slot, uncode-merged, uncode-apart, halves-lt}
 use native.Mathlib.Omega.{arith}
 use borrow.Fn.Kinds.{In, Out}
 use borrow.Fn.PlainCycle.{Measures, is, falls, and}
@@ -42,6 +42,10 @@ K t = (
   beside-reads.Learnt,
 )
 
+-- a code above 0 is of a block above a slot
+above : {t : ℕ} (c : unpack-lts.Else1 (K t) (unpack-at t) unpack.Post) → 0 < c .before .args .level
+above c = code-above-slot (c .before .args .level) (c .before .args .code) (c .before .pre .1 .1) (c .if1 .left)
+
 -- the code of a block that is not merged, and its parts
 not-merged : {t : ℕ} (c : unpack-lts.Else2 (K t) (unpack-at t) unpack.Post)
     → c .before .before .before .args .code ≡ layouts (c .before .before .before .args .level - 1) * layouts (c .before .before .before .args .level - 1) → ⊥
@@ -52,14 +56,13 @@ parts : {t : ℕ} (c : unpack-lts.Else2 (K t) (unpack-at t) unpack.Post)
     × (c .before .before .before .args .code % c .before .layouts .result < layouts (c .before .before .before .args .level - 1))
 parts c =
     let a = c .before .before .before .args in
-    rw (c .before .layouts .ensures .0) (halves-lt (a .level) (a .code) (omega arith) (c .before .before .before .pre .1 .1) (not-merged c))
+    rw (c .before .layouts .ensures .0) (halves-lt (a .level) (a .code) (above (c .before .before)) (c .before .before .before .pre .1 .1) (not-merged c))
 
 unpack-returns : (t : ℕ) → unpack-lts.Need-returns (K t) (unpack-at t) unpack.Post
-unfolding marks uncode ones
-unpack-returns t c = sym (ap (λ (n : ℕ). marks (uncode n (c .before .args .code))) (c .if1 .taken))
+unpack-returns t c = let a = c .before .args in sym (ap (λ (x : ℕ). marks (uncode (a .level) x)) (c .if1 .taken) ∙ uncode-zero (a .level))
 
 unpack-sub-half : (t : ℕ) → unpack-lts.Need-sub-half (K t) (unpack-at t) unpack.Post
-unpack-sub-half t c = omega arith
+unpack-sub-half t c = omega (arith, above c)
 
 unpack-layouts-requires : (t : ℕ) → unpack-lts.Need-layouts-requires (K t) (unpack-at t) unpack.Post
 unpack-layouts-requires t c κs = omega arith
@@ -74,20 +77,20 @@ unpack-returns-2 : (t : ℕ) → unpack-lts.Need-returns-2 (K t) (unpack-at t) u
 unfolding marks
 unpack-returns-2 t c = let d = c .before .before in
     let a = d .before .before .args in
-    rw (uncode-merged (a .level) (a .code) (omega arith) (c .before .if2 .taken ∙ ap (λ (n : ℕ). n * n) (d .layouts .ensures .0)))
+    rw (uncode-merged (a .level) (a .code) (above (d .before)) (c .before .if2 .taken ∙ ap (λ (n : ℕ). n * n) (d .layouts .ensures .0)))
     (c .ones .ensures)
 
 unpack-div-unpack : (t : ℕ) → unpack-lts.Need-div-unpack (K t) (unpack-at t) unpack.Post
 unpack-div-unpack t c = omega arith
 
 unpack-unpack-requires : (t : ℕ) → unpack-lts.Need-unpack-requires (K t) (unpack-at t) unpack.Post
-unpack-unpack-requires t c κs = (omega arith, (omega arith, parts c .0))
+unpack-unpack-requires t c κs = (omega (arith, above (c .before .before)), (omega arith, parts c .0))
 
 unpack-rem-unpack : (t : ℕ) → unpack-lts.Need-rem-unpack (K t) (unpack-at t) unpack.Post
 unpack-rem-unpack t c = omega arith
 
 unpack-unpack-requires-2 : (t : ℕ) → unpack-lts.Need-unpack-requires-2 (K t) (unpack-at t) unpack.Post
-unpack-unpack-requires-2 t c κs = (omega arith, (omega arith, parts (c .before) .1))
+unpack-unpack-requires-2 t c κs = (omega (arith, above (c .before .before .before)), (omega arith, parts (c .before) .1))
 
 unpack-beside-requires : (t : ℕ) → unpack-lts.Need-beside-requires (K t) (unpack-at t) unpack.Post
 unpack-beside-requires t c κs = let left = marks-in (uncode (c .before .before .before .before .before .args .level - 1) (c .before .before .before .before .before .args .code / c .before .before .before .layouts .result)) in
@@ -99,7 +102,7 @@ unpack-returns-3 t c = let d = c .before .before .before in
     let a = d .before .before .before .args in
     c .beside .ensures
     ∙ rw (c .before .unpack2 .ensures, c .before .before .unpack .ensures, d .before .layouts .ensures .0)
-    (sym (uncode-apart (a .level) (a .code) (omega arith) (not-merged d)))
+    (sym (uncode-apart (a .level) (a .code) (above (d .before .before)) (not-merged d)))
 
 pub +unpack-spec : {M : Type 1} → statement M
 +unpack-spec = close μ-unpack λ t. unpack-lts.spec (K t)

@@ -1,0 +1,17 @@
+-- A test passed by every number below a bound, shown by computation.
+use mathlib.Core.Path.{_≡_}
+use mathlib.Core.Bool.{Bool, true, _&&_, and-eq-true-iff}
+use Prim.Native.Nat.{ℕ, zero, suc, _<_}
+use native.Mathlib.Decide.{decLt}
+use native.Mathlib.Omega.{arith}
+
+unfoldable pub every : (ℕ → Bool) → ℕ → Bool
+every p zero = true
+every p (suc n) = p n && every p n
+
+pub every-at : (p : ℕ → Bool) (n m : ℕ) → every p n ≡ true → m < n → p m ≡ true
+unfolding every
+every-at p zero m e h = absurd (omega arith)
+every-at p (suc n) m e h =
+    let s = and-eq-true-iff (p n) (every p n) .0 e in
+    elim (decLt m n) [ yes l ↦ every-at p n m (s .1) l | no l ↦ let i : m ≡ n = omega arith in rw i (s .0) ]
