@@ -264,8 +264,8 @@ fn merged_status(row: &[u8], source: &[u8], w: usize) -> u8
 {
     let mut status = 0u8;
     for g in 0..w / 8 {
-        let o = united_at(row, source, w, g);
-        status = earlier(status, o.status);
+        let s = group::unite_status(load(row, w, g), load(source, w, g));
+        status = earlier(status, s);
     }
     status
 }
