@@ -365,6 +365,26 @@ pub fn unite(target: Group, source: Group) -> Outcome
     unite_widening(target, source)
 }
 
+// Whether a target takes a source.
+pub fn unite_status(target: Group, source: Group) -> u8
+    ensures { λ r. ⌜ r ≡ united target source .status ⌝ }
+{
+    let target_counts = target.counts;
+    let source_counts = source.counts;
+    if !is_valid(target.merge) {
+        return INVALID_MERGE;
+    }
+    if !is_valid(source.merge) {
+        return INVALID_MERGE;
+    }
+    let target_word = number_of(target_counts);
+    let source_word = number_of(source_counts);
+    if !sum_fits(target_word, target.merge, source_word, source.merge) {
+        return COUNTER_FULL;
+    }
+    0
+}
+
 // The largest level of a valid group's counters: one if a pair is merged, one if a half is, one if the group is.
 fn widest_level(merge: u8) -> u32
     requires { ⌜ valid 3 merge ≡ true ⌝ }

@@ -7,7 +7,7 @@ use native.Mathlib.Decide.{decLt}
 use native.Mathlib.Omega.{arith}
 use lib.Arith.{lt-of-le-ne}
 use lib.ListN.{length, getD, take, drop, set, length-append, length-drop, length-set, take-append-drop}
-use lib.Seq.{length-take-le, take-at, drop-at, take-append-le, drop-append-le, drop-drop, getD-set-same, getD-set-other, getD-drop, take-set-le, drop-set-add}
+use lib.Seq.{length-take-le, take-at, drop-at, take-append-le, drop-append-le, drop-drop, getD-set-same, getD-set-other, set-getD, getD-drop, take-set-le, drop-set-add}
 use Rattle.group.specs.declared.Group.{Group}
 use Rattle.group.specs.Group.{united}
 use Rattle.group.proofs.Outcomes.{united-eight}
@@ -116,6 +116,11 @@ module _ (w : ℕ) (row : List ℕ) (g : ℕ) (x : Group) (eight : length (x .co
       let j = w + k - (8 * g + 8) in
       let e : w + k ≡ 8 * g + 8 + j = omega arith in
       rw (e, ← getD-drop (8 * g + 8) pasted j 0, after) (getD-drop (8 * g + 8) row j 0)
+
+  -- a group that keeps its merge byte
+  pub with-counts : x .merge ≡ getD row (w + g) 0 → withGroup w row g x ≡ take (8 * g) row ++ x .counts ++ drop (8 * g + 8) row
+  unfolding withGroup pasted
+  with-counts e = rw (e ∙ sym (merge-other g)) (set-getD pasted (w + g) 0)
 
   pub group-other : (k : ℕ) → 8 * k + 8 ≤ w → (k ≡ g → ⊥) → groupAt w (withGroup w row g x) k ≡ groupAt w row k
   unfolding groupAt withGroup pasted

@@ -4,10 +4,11 @@ use mathlib.Core.List.{List, [], _∷_, _++_, append-nil, append-assoc}
 use Prim.Native.Nat.{ℕ, zero, suc, _+_, _-_, _*_, _≤_, _<_, max}
 use native.Mathlib.Nat.{max-zero, zero-add, zero-mul, suc-mul, add-mul, one-mul, sub-zero, mul-le-mul-right}
 use native.Mathlib.Numerals.{add-one, sub-one}
+use native.Mathlib.Decide.{decLt}
 use native.Mathlib.Omega.{arith}
 use borrow.Rule.Slice.PartMut.{putMid, post-is}
 use lib.ListN.{length, getD, take, drop, set, length-append, take-append-drop, drop-of-length-le}
-use lib.Seq.{paste-suc, length-take-le, take-at, drop-at, drop-drop}
+use lib.Seq.{paste-suc, length-take-le, take-at, drop-at, drop-drop, getD-drop}
 use Rattle.row.specs.Rows.{mapRows, ofRows, ofGroups, withGroup, largest}
 use Rattle.row.specs.Order.{earlier, earliest}
 use Rattle.row.specs.Row.{unitedAt, uniteGroups}
@@ -21,6 +22,19 @@ copy-more s d i h k =
 
 pub copy-all : (s d : List ℕ) (i : ℕ) → length d ≤ i → take i s ++ drop i d ≡ take i s
 copy-all s d i h = rw (drop-of-length-le d h, append-nil)
+
+-- lists that are the same from place k on
+pub same-from : (k : ℕ) (xs ys : List ℕ) → drop k xs ≡ drop k ys → getD xs k 0 ≡ getD ys k 0
+same-from k xs ys e =
+    let z : k + 0 ≡ k = omega arith in
+    rw z at (sym (getD-drop k xs 0 0) ∙ ap (λ (l : List ℕ). getD l 0 0) e ∙ getD-drop k ys 0 0)
+
+-- what holds from place a on, held at one place more
+pub range-more : (P : ℕ → Type 0) (a k : ℕ) → ((i : ℕ) → a ≤ i → i < k → P i) → P k → (i : ℕ) → a ≤ i → i < k + 1 → P i
+range-more P a k h p i l m = elim (decLt i k) [
+  | yes n ↦ h i l n
+  | no n ↦ let z : i ≡ k = omega arith in rw z p
+]
 
 -- row r of d rows lies in the memory
 pub row-in : (r d stride : ℕ) {n : ℕ} → r < d → d * stride ≤ n → r * stride + stride ≤ n
@@ -135,19 +149,26 @@ module _ (f : ℕ → ℕ) (n g : ℕ) where
   unfolding largest
   level-end v h = rw (groups-read-none f n g h) (max-zero v)
 
--- a union's groups, one by one
-pub unite-start : (w : ℕ) (source row : List ℕ) (n : ℕ) → uniteGroups w source (n - 0) 0 row ≡ uniteGroups w source n 0 row
-unite-start w source row n = rw (sub-zero n)
+-- a union's groups, one by one and in runs
+module _ (w : ℕ) (source : List ℕ) where
+  pub unite-turn : (row : List ℕ) (n g : ℕ) → g < n
+      → uniteGroups w source (n - (g + 1)) (g + 1) (withGroup w row g (unitedAt w source row g .group)) ≡ uniteGroups w source (n - g) g row
+  unfolding uniteGroups
+  unite-turn row n g h =
+      let e : n - g ≡ suc (n - (g + 1)) = omega arith in
+      rw e
 
-pub unite-turn : (w : ℕ) (source row : List ℕ) (n g : ℕ) → g < n
-    → uniteGroups w source (n - (g + 1)) (g + 1) (withGroup w row g (unitedAt w source row g .group)) ≡ uniteGroups w source (n - g) g row
-unfolding uniteGroups
-unite-turn w source row n g h =
-    let e : n - g ≡ suc (n - (g + 1)) = omega arith in
-    rw e
+  pub unite-run : (k : ℕ) (row : List ℕ) (n g : ℕ) → g + k ≤ n → uniteGroups w source (n - (g + k)) (g + k) (uniteGroups w source k g row) ≡ uniteGroups w source (n - g) g row
+  unfolding uniteGroups
+  unite-run zero row n g h =
+      let e : g + 0 ≡ g = omega arith in
+      rw e
+  unite-run (suc k) row n g h =
+      let e : g + suc k ≡ g + 1 + k = omega arith in
+      rw e (unite-run k (withGroup w row g (unitedAt w source row g .group)) n (g + 1) (omega arith) ∙ unite-turn row n g (omega arith))
 
-pub unite-end : (w : ℕ) (source row : List ℕ) (n g : ℕ) → n ≤ g → uniteGroups w source (n - g) g row ≡ row
-unfolding uniteGroups
-unite-end w source row n g h =
-    let e : n - g ≡ 0 = omega arith in
-    rw e
+  pub unite-end : (row : List ℕ) (n g : ℕ) → n ≤ g → uniteGroups w source (n - g) g row ≡ row
+  unfolding uniteGroups
+  unite-end row n g h =
+      let e : n - g ≡ 0 = omega arith in
+      rw e

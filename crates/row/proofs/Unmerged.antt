@@ -5,6 +5,7 @@ use mathlib.Core.List.{List}
 use Prim.Native.Nat.{ℕ, zero, suc, _+_, _*_, _/_, _%_, _^_, _≤_, _<_}
 use native.Mathlib.Decide.{decLt}
 use native.Mathlib.Omega.{arith}
+use lib.Bits.{bitOr, or-add-and, and-le-l, and-le-r}
 use lib.ListN.{length, getD, take, drop, length-take, List·getD-eq-default}
 use lib.Seq.{getD-drop, getD-take}
 use Rattle.layout.specs.Layout.{Layout, halves, bit, ones, layout, valid}
@@ -31,6 +32,10 @@ bytes-take n xs b = λ i. elim (decLt i n) [
   | no l ↦ rw (List·getD-eq-default (take n xs) 0 {n = i} (omega (arith, length-take n xs))) (omega arith)
 ]
 
+-- bytes taken together that are 0
+pub or-none : (a b : ℕ) → bitOr a b ≡ 0 → (a ≡ 0) × (b ≡ 0)
+or-none a b e = (omega (arith, or-add-and a b, and-le-r a b), omega (arith, or-add-and a b, and-le-l a b))
+
 -- a block that is not merged has the total of its halves
 halves-total : {n : ℕ} (l r : Layout n) (w : ℕ) → w < cap (suc n) → total (fill (halves l r) w) < cap n + cap n
 unfolding fill total Fits
@@ -46,7 +51,7 @@ small-total : (g : Group) → number (g .counts) < cap 3 → g .merge ≡ 0 → 
 unfolding decode block
 small-total g h e = rw (e, unmerged) (halves-total (layout 2 0) (layout 2 0) (number (g .counts)) h)
 
-valid-0 : valid 3 0 ≡ true
+pub valid-0 : valid 3 0 ≡ true
 unfolding valid ones
 valid-0 = refl
 

@@ -1,36 +1,31 @@
-use mathlib.Core.Path.{_≡_, refl, sym, _∙_}
-use Prim.Native.Nat.{ℕ, _+_, _-_, _*_, _/_, _≤_, _<_}
-use native.Mathlib.Decide.{decLt}
+use mathlib.Core.Path.{_≡_, refl}
+use Prim.Native.Nat.{ℕ, _+_, _-_, _≤_, _<_}
 use native.Mathlib.Omega.{arith}
 use borrow.Author.Needs.{needs}
 use borrow.Author.Tests.{eqb-true}
-use lib.ListN.{length, getD}
-use Rattle.row.proofs.Widths.{wide, stride-is}
+use lib.ListN.{getD}
+use Rattle.row.proofs.Lists.{range-more}
+use Rattle.row.proofs.Unmerged.{or-none}
 use Rattle.row.proofs.is_unmerged.Statement.{statement}
 use Rattle.row.proofs.is_unmerged.Tie as tie
 
 abbrev Inv-loop : tie.InvT-loop
-Inv-loop row w sum₀ g₀ g-end sum g = (g ≤ g-end) × (g-end ≡ w / 8) × (w ≤ 65536) × (w + w / 8 ≤ length row) × (sum ≤ 255 * g)
-    × (sum ≡ 0 → (i : ℕ) → i < g → getD row (w + i) 0 ≡ 0)
+Inv-loop row w first n any₀ g₀ g-end any g = (first ≤ g) × (g ≤ g-end) × (g-end ≡ first + n) × (any ≡ 0 → (i : ℕ) → first ≤ i → i < g → getD row (w + i) 0 ≡ 0)
 
 abbrev μ-loop : tie.MeasureT-loop
-μ-loop row w sum₀ g₀ g-end sum g = g-end - g
+μ-loop row w first n any₀ g₀ g-end any g = g-end - g
+
+add-g-end : tie.Need-add-g-end Inv-loop μ-loop
+add-g-end c = search needs
 
 loop-holds : tie.Need-loop-holds Inv-loop μ-loop
-loop-holds c = let s = c .before in
-    (omega arith, refl, wide (s .args .w) (s .pre .0) .high, omega (arith, stride-is (s .args .w), s .pre .1), omega arith, λ e i h. absurd (omega arith))
+loop-holds c = (omega arith, omega arith, refl, λ e i h k. absurd (omega arith))
 
-add-wide : tie.Need-add-wide Inv-loop μ-loop
-add-wide c = search needs
+add-any : tie.Need-add-any Inv-loop μ-loop
+add-any c = search needs
 
-shared-slice-read-wide : tie.Need-shared-slice-read-wide Inv-loop μ-loop
-shared-slice-read-wide c = search needs
-
-wide-requires : tie.Need-wide-requires Inv-loop μ-loop
-wide-requires c κs = search needs
-
-add-sum : tie.Need-add-sum Inv-loop μ-loop
-add-sum c = search needs
+shared-slice-read-any : tie.Need-shared-slice-read-any Inv-loop μ-loop
+shared-slice-read-any c = search needs
 
 add-g : tie.Need-add-g Inv-loop μ-loop
 add-g c = search needs
@@ -39,22 +34,18 @@ loop-less : tie.Need-loop-less Inv-loop μ-loop
 loop-less c = search needs
 
 loop-again : tie.Need-loop-again Inv-loop μ-loop
-loop-again c = let l = c .before .before .before .loop in
-    let a = c .before .before .before .before .before .args in
-    let b = c .wide .ensures in (
+loop-again c = let l = c .before .before .loop in
+    let a = c .before .before .before .args in (
+      omega arith,
       omega arith,
       refl,
-      l .inv .2,
-      l .inv .3,
-      omega (arith, b .1, l .inv .4),
-      λ e i h. elim (decLt i (l .g)) [
-        | yes k ↦ l .inv .5 (omega arith) i k
-        | no k ↦ let z : i ≡ l .g = omega arith in rw z (sym (b .0) ∙ omega arith)
-      ],
+      λ e.
+          let z = or-none (l .any) (getD (a .row .now) (a .w + l .g) 0) e in
+          range-more (λ i. getD (a .row .now) (a .w + i) 0 ≡ 0) (a .first) (l .g) (l .inv .3 (z .0)) (z .1),
     )
 
 returns : tie.Need-returns Inv-loop μ-loop
-returns c = let l = c .before .loop in λ e i h. l .inv .5 (eqb-true _ _ e) i (omega arith)
+returns c = let l = c .before .loop in λ e i h k. l .inv .3 (eqb-true _ _ e) i h (omega arith)
 
 pub is-unmerged-spec : {M : Type 1} → statement M
 is-unmerged-spec =
@@ -62,11 +53,10 @@ is-unmerged-spec =
     (tie.spec
     Inv-loop
     μ-loop
+    add-g-end
     loop-holds
-    add-wide
-    shared-slice-read-wide
-    wide-requires
-    add-sum
+    add-any
+    shared-slice-read-any
     add-g
     loop-less
     loop-again

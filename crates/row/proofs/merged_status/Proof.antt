@@ -1,7 +1,8 @@
-use Rattle.row.specs.Row.{unitedStatus, uniteStatus}
+use Rattle.group.specs.declared.Group.{Group}
+use Rattle.group.specs.Group.{united}
+use Rattle.row.specs.Row.{unitedAt, unitedStatus, uniteStatus}
 use Rattle.row.proofs.Lists.{status-start, status-turn, status-end}
-use Rattle.group.specs.declared.Outcome.{Outcome}
-use mathlib.Core.Path.{_≡_, refl, sym, ap, _∙_}
+use mathlib.Core.Path.{_≡_, refl, sym, ap₂, _∙_}
 use Prim.Native.Nat.{_-_, _/_, _≤_}
 use native.Mathlib.Omega.{arith}
 use borrow.Author.Needs.{needs}
@@ -21,10 +22,18 @@ loop-holds : tie.Need-loop-holds Inv-loop μ-loop
 unfolding uniteStatus
 loop-holds c = (omega arith, refl, status-start (unitedStatus (c .before .before .args .w) (c .before .before .args .source .now) (c .before .before .args .row .now)) (c .before .before .args .w / 8))
 
-united-at-requires : tie.Need-united-at-requires Inv-loop μ-loop
-united-at-requires c κs = let s = c .before .before .before .before in
+load-requires : tie.Need-load-requires Inv-loop μ-loop
+load-requires c κs = let s = c .before .before .before .before in
     let i = group-in (s .args .w) (c .before .loop .g) (s .pre .0) (omega arith) in
-    (i .0, (omega arith, omega arith))
+    (i .0, omega arith)
+
+load-requires-2 : tie.Need-load-requires-2 Inv-loop μ-loop
+load-requires-2 c κs = let s = c .before .before .before .before .before in
+    let i = group-in (s .args .w) (c .before .before .loop .g) (s .pre .0) (omega arith) in
+    (i .0, omega arith)
+
+unite-status-requires : tie.Need-unite-status-requires Inv-loop μ-loop
+unite-status-requires c κs = search needs
 
 earlier-requires : tie.Need-earlier-requires Inv-loop μ-loop
 earlier-requires c κs = search needs
@@ -36,14 +45,15 @@ loop-less : tie.Need-loop-less Inv-loop μ-loop
 loop-less c = search needs
 
 loop-again : tie.Need-loop-again Inv-loop μ-loop
-unfolding unitedStatus
-loop-again c = let a = c .before .before .before .before .before .before .args in
-    let l = c .before .before .before .loop in (
+unfolding unitedStatus unitedAt
+loop-again c = let u = c .before in
+    let a = u .before .before .before .before .before .before .before .args in
+    let l = u .before .before .before .before .loop in (
       omega arith,
       l .inv .1,
       rw (c .earlier .ensures)
-          (status-turn (unitedStatus (a .w) (a .source .now) (a .row .now)) (a .w / 8) (l .g) (l .status) (c .before .united-at .result .status) (omega arith)
-          (ap (λ (o : Outcome). o .status) (c .before .united-at .ensures))
+          (status-turn (unitedStatus (a .w) (a .source .now) (a .row .now)) (a .w / 8) (l .g) (l .status) (u .unite-status .result) (omega arith)
+          (u .unite-status .ensures ∙ ap₂ (λ (x y : Group). united x y .status) (u .before .before .load .ensures) (u .before .load2 .ensures))
           ∙ l .inv .2),
     )
 
@@ -59,7 +69,9 @@ merged-status-spec =
     Inv-loop
     μ-loop
     loop-holds
-    united-at-requires
+    load-requires
+    load-requires-2
+    unite-status-requires
     earlier-requires
     add-g
     loop-less

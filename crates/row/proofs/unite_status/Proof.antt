@@ -1,15 +1,17 @@
 use mathlib.Core.Path.{sym}
+use native.Mathlib.Omega.{arith}
 use Rattle.group.proofs.Bytes.{Bytes}
 use Rattle.row.proofs.Unmerged.{unmerged-status}
+use Rattle.row.proofs.Widths.{stride-is}
 use borrow.Author.Needs.{needs}
 use Rattle.row.proofs.unite_status.Statement.{statement}
 use Rattle.row.proofs.unite_status.Tie as tie
 
 is-unmerged-requires : tie.Need-is-unmerged-requires
-is-unmerged-requires c κs = search needs
+is-unmerged-requires c κs = omega (arith, stride-is (c .before .before .args .w))
 
 is-unmerged-requires-2 : tie.Need-is-unmerged-requires-2
-is-unmerged-requires-2 c κs = search needs
+is-unmerged-requires-2 c κs = omega (arith, stride-is (c .before .before .before .before .args .w))
 
 returns : tie.Need-returns
 returns c = let k = c .before .before .before .before in
@@ -17,7 +19,8 @@ returns c = let k = c .before .before .before .before in
     let a = s .args in
     let b : Bytes (a .row .now) = λ i. k .before .shared-slice-known .given i .fits in
     let d : Bytes (a .source .now) = λ i. k .shared-slice-known2 .given i .fits in
-    sym (unmerged-status (a .w) (a .row .now) (a .source .now) (s .pre .0) (s .pre .1 .0) (s .pre .1 .1) b d (c .before .before .before .is-unmerged .ensures (c .before .before .if1 .taken)) (c .before .is-unmerged2 .ensures (c .if2 .taken)))
+    sym (unmerged-status (a .w) (a .row .now) (a .source .now) (s .pre .0) (s .pre .1 .0) (s .pre .1 .1) b d (λ g h. c .before .before .before .is-unmerged .ensures (c .before .before .if1 .taken) g (omega arith) (omega arith))
+    (λ g h. c .before .is-unmerged2 .ensures (c .if2 .taken) g (omega arith) (omega arith)))
 
 merged-status-requires : tie.Need-merged-status-requires
 merged-status-requires c κs = search needs
