@@ -1,7 +1,7 @@
 -- Two blocks of one layout united where no counter's sum is too large: the number of the union is the sum of their numbers. That no
 -- sum leaves its counter is seen in the carries between counters. For any level.
 use mathlib.Core.Path.{_≡_, refl, sym, ap, _∙_}
-use mathlib.Core.Bool.{Bool, true, false, not, _&&_, and-eq-true-iff, true≢false}
+use mathlib.Core.Bool.{Bool, true, not, _&&_, and-eq-true-iff, true≢false}
 use Prim.Native.Nat.{ℕ, suc, _+_, _-_, _*_, _/_, _%_, _^_, _≤_, _<_, min}
 use native.Mathlib.Nat.{add-mul, mod-lt, zero-div, zero-mod, div-add-mod', zero-mul, one-mul, mod-eq-of-lt}
 use native.Mathlib.Decide.{decLt}

@@ -1,18 +1,18 @@
 -- An addition that its counter cannot hold, where the block around is two counters side by side: they become one counter of the next
 -- level. For any level.
-use mathlib.Core.Path.{_≡_, refl, sym, ap, _∙_}
+use mathlib.Core.Path.{_≡_, sym, ap, _∙_}
 use mathlib.Core.Bool.{false}
-use Prim.Native.Nat.{ℕ, zero, suc, _+_, _-_, _*_, _/_, _%_, _^_, _≤_, _<_}
+use Prim.Native.Nat.{ℕ, suc, _+_, _-_, _*_, _^_, _≤_, _<_}
 use native.Mathlib.Nat.{mul-assoc, add-mul, suc-mul, one-mul, zero-mul, add-sub-of-le, mul-le-mul-right, lt-of-mul-lt-mul-right}
 use native.Mathlib.Decide.{decLt}
 use native.Mathlib.Omega.{arith}
 use borrow.Author.Tests.{lt-ltb, le-ltb}
 use lib.Dec.{ltb}
-use lib.Pow.{pow-pos, pow-add, pow-mono}
-use Rattle.layout.specs.Layout.{Layout, merged, halves, ones, marks}
+use lib.Pow.{pow-pos, pow-add}
+use Rattle.layout.specs.Layout.{ones, marks}
 use Rattle.layout.proofs.Laws.{twice, double}
-use Rattle.block.specs.Block.{Block, counter, split, cap, Fits, shape, word, counterAt, total}
-use Rattle.block.specs.Sum.{Sum, fits, over, held, join, add, sumTotal}
+use Rattle.block.specs.Block.{Block, counter, split, cap, shape, word, counterAt, total}
+use Rattle.block.specs.Sum.{Sum, fits, held, join, add, sumTotal}
 use Rattle.block.proofs.Slots.{in-left, in-right, level-le}
 use Rattle.block.proofs.Places.{add-left, add-right, higher-both}
 

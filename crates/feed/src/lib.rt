@@ -12,7 +12,7 @@ ghost use Rattle.feed.specs.Answers.{bodyAnswer, recordAnswer};
 ghost use Rattle.feed.specs.Head.{headDepth, headWidth, badGeometry, headed};
 ghost use Rattle.feed.specs.Words.{wordsTaken, updateBody, queryBody};
 ghost use Rattle.feed.specs.Record as spec;
-ghost use Rattle.feed.specs.Record.{outcomeOf, carriedUpdate, queried, recorded};
+ghost use Rattle.feed.specs.Record.{carriedUpdate, queried, recorded};
 
 // What a record or the end did.
 pub enum Recorded {

@@ -2,15 +2,14 @@
 use mathlib.Core.Path.{_≡_, sym, ap, _∙_}
 use mathlib.Core.Bool.{true, false}
 use Prim.Native.Nat.{ℕ, suc, _+_, _-_, _*_, _/_, _%_, _^_, _≤_, _<_}
-use native.Mathlib.Nat.{mul-assoc, mul-comm, add-mul, one-mul, mul-div-cancel, div-mul-le-self, lt-div-mul-add, div-add-mod', mod-mod-of-dvd, dvd-mul-left}
+use native.Mathlib.Nat.{mul-assoc, add-mul, one-mul, mul-div-cancel, div-mul-le-self, lt-div-mul-add, div-add-mod'}
 use native.Mathlib.Numerals.{add-one}
 use native.Mathlib.Omega.{arith}
-use lib.Pow.{pow-pos, pow-lt, field, shr-shr, mod-mod-pow}
+use lib.Pow.{pow-pos, field, shr-shr, mod-mod-pow}
 use Rattle.layout.specs.Layout.{valid, marks}
-use Rattle.block.specs.declared.Counter.{Counter}
 use Rattle.block.specs.Block.{Block, cap, shape, word, block, counterAt}
-use Rattle.block.specs.Sum.{fits, add, summed, Sound}
-use Rattle.block.proofs.Laws.{word-lt, word-block, marks-block, block-fits, cap-square}
+use Rattle.block.specs.Sum.{add, summed, Sound}
+use Rattle.block.proofs.Laws.{word-lt, word-block, marks-block, block-fits}
 use Rattle.block.proofs.Adding.{add-sound}
 use Rattle.block.proofs.Twins.{Twins, Widened, whole-left, widens}
 use Rattle.group.proofs.Places.{counter-at}

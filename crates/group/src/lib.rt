@@ -9,7 +9,7 @@ ghost use Rattle.layout.specs.Layout as layout_spec;
 ghost use Rattle.block.specs.Block.{cap, block, counterAt};
 ghost use Rattle.block.specs.Block as block_spec;
 ghost use Rattle.block.specs.Change as change_spec;
-ghost use Rattle.block.specs.Sum.{fits, summed};
+ghost use Rattle.block.specs.Sum.{summed};
 ghost use Rattle.block.specs.Sum as sum_spec;
 ghost use Rattle.group.specs.Group.{number, bytes, read, stored, added, united, widestOf, changed};
 ghost use Rattle.group.specs.Group as spec;
@@ -306,15 +306,6 @@ pub fn add(g: Group, slot: usize, amount: u32) -> Outcome
     settled(block::add(3, word, g.merge, k, amount as u64))
 }
 
-// Whether the count bytes of two groups, taken as numbers, may be added for their union: the layouts are the same and each counter
-// holds its sum.
-fn may_add(word: u64, merge: u8, other_word: u64, other_merge: u8) -> bool
-    requires { ⌜ valid 3 merge ≡ true ⌝ }
-    ensures { λ r. ⌜ (r ≡ true → (word + «other_word» < 2 ^ 64) × (sum_spec.unite (block 3 word merge) (block 3 «other_word» «other_merge») ≡ fits (block 3 (word + «other_word») merge))) ⌝ }
-{
-    block::may_add(word, merge, other_word, other_merge)
-}
-
 // Whether the sum of all counters of two groups is below 2 ^ 64. It is where neither group is one counter.
 fn sum_fits(word: u64, merge: u8, other_word: u64, other_merge: u8) -> bool
     ensures { λ r. ⌜ r ≡ ltb (block_spec.total (block 3 word merge) + block_spec.total (block 3 «other_word» «other_merge»)) (2 ^ 64) ⌝ }
@@ -326,8 +317,8 @@ fn sum_fits(word: u64, merge: u8, other_word: u64, other_merge: u8) -> bool
     block::total(3, other_word, other_merge) <= room
 }
 
-// A source group united with a target, where counters may have to widen.
-fn unite_widening(target: Group, source: Group) -> Outcome
+// A source group united with a target, both valid.
+fn unite_valid(target: Group, source: Group) -> Outcome
     requires { ⌜ valid 3 (target .merge) ≡ true ⌝ ∗ ⌜ valid 3 (source .merge) ≡ true ⌝ }
     ensures { λ r. ⌜ r ≡ united target source ⌝ }
 {
@@ -341,28 +332,17 @@ fn unite_widening(target: Group, source: Group) -> Outcome
     settled(block::unite(3, word, target.merge, source_word, source.merge))
 }
 
-// A source group united with a target. Where both have the same layout and each counter holds its sum, the layout stays.
+// A source group united with a target.
 pub fn unite(target: Group, source: Group) -> Outcome
     ensures { λ r. ⌜ r ≡ united target source ⌝ }
 {
-    let target_counts = target.counts;
-    let source_counts = source.counts;
     if !is_valid(target.merge) {
         return unchanged(INVALID_MERGE, target);
     }
     if !is_valid(source.merge) {
         return unchanged(INVALID_MERGE, target);
     }
-    let word = number_of(target_counts);
-    let source_word = number_of(source_counts);
-    if may_add(word, target.merge, source_word, source.merge) {
-        return settled(Summed {
-            over: false,
-            word: word + source_word,
-            merge: target.merge,
-        });
-    }
-    unite_widening(target, source)
+    unite_valid(target, source)
 }
 
 // Whether a target takes a source.

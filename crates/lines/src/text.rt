@@ -2,7 +2,7 @@
 ghost use mathlib.Core.Path.{_≡_};
 ghost use mathlib.Core.List.{_++_};
 ghost use Prim.Native.Nat.{_+_, _≤_, _<_};
-ghost use lib.ListN.{length, drop};
+ghost use lib.ListN.{length};
 ghost use Rattle.lines.specs.Text as spec;
 ghost use Rattle.lines.specs.Text.{content, digitsOf};
 ghost use Rattle.lines.specs.Line.{newline};

@@ -19,7 +19,7 @@ ghost use Rattle.group.specs.declared.Group as spec_group;
 ghost use Rattle.group.specs.Group.{read};
 ghost use Rattle.row.specs.Geometry.{RowIn, RowsIn};
 ghost use Rattle.row.specs.Geometry as geometry;
-ghost use Rattle.row.specs.Order.{earliest, badShape};
+ghost use Rattle.row.specs.Order.{earliest};
 ghost use Rattle.row.specs.Rows.{mapRows, ofRows, groupAt, withGroup, least, largest};
 ghost use Rattle.row.specs.Row.{addedIn};
 ghost use Rattle.meter.specs.Meter.{rowOf, cleared, badCall, updated, estimated, rowStatus, rowLevel, sourceStatus, sourceAdded};

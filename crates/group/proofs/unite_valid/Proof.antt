@@ -6,8 +6,8 @@ use Rattle.block.specs.Block.{cap}
 use Rattle.group.specs.Group.{number, decode}
 use Rattle.group.proofs.Laws.{united-full, united-stored}
 use borrow.Author.Needs.{needs}
-use Rattle.group.proofs.unite_widening.Statement.{statement}
-use Rattle.group.proofs.unite_widening.Tie as tie
+use Rattle.group.proofs.unite_valid.Statement.{statement}
+use Rattle.group.proofs.unite_valid.Tie as tie
 
 -- the numbers are those of the groups' bytes
 module _ (c : tie.After-number-of2) where
@@ -65,8 +65,8 @@ returns-2 c = let i = c .before .before in
     (united-stored (e .args .target) (e .args .source) (word-in d) (source-in d) (e .pre .0) (e .pre .1)
     (rw (← d .before .number-of .ensures, ← d .number-of2 .ensures) (ltb-true _ _ (sym (f .sum-fits .ensures) ∙ not-false _ (i .if1 .left))))))
 
-pub unite-widening-spec : {M : Type 1} → statement M
-unite-widening-spec =
+pub unite-valid-spec : {M : Type 1} → statement M
+unite-valid-spec =
     tie.close
     (tie.spec
     number-of-requires
