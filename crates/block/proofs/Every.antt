@@ -1,9 +1,14 @@
--- A test passed by every number below a bound, shown by computation.
-use mathlib.Core.Path.{_≡_}
-use mathlib.Core.Bool.{Bool, true, _&&_, and-eq-true-iff}
+-- Tests: two that agree both ways, and one passed by every number below a bound, shown by computation.
+use mathlib.Core.Path.{_≡_, refl, sym}
+use mathlib.Core.Bool.{Bool, true, false, _&&_, and-eq-true-iff}
 use Prim.Native.Nat.{ℕ, zero, suc, _<_}
 use native.Mathlib.Decide.{decLt}
 use native.Mathlib.Omega.{arith}
+
+pub both-ways : (p q : Bool) → (p ≡ true → q ≡ true) → (q ≡ true → p ≡ true) → p ≡ q
+both-ways true q f g = sym (f refl)
+both-ways false true f g = g refl
+both-ways false false f g = refl
 
 unfoldable pub every : (ℕ → Bool) → ℕ → Bool
 every p zero = true

@@ -12,12 +12,7 @@ use Rattle.block.specs.Block.{cap, block}
 use Rattle.block.specs.Sum.{unite}
 use Rattle.block.proofs.Laws.{cap-mono}
 use Rattle.block.proofs.Carries.{bounds, carries, carries-lt, mask-mod, end-no-carry, no-carry-end, keeps, keeps-no-carry, no-carry-keeps}
-use Rattle.block.proofs.Every.{every, every-at}
-
-both-ways : (p q : Bool) → (p ≡ true → q ≡ true) → (q ≡ true → p ≡ true) → p ≡ q
-both-ways true q f g = sym (f refl)
-both-ways false true f g = g refl
-both-ways false false f g = refl
+use Rattle.block.proofs.Every.{both-ways, every, every-at}
 
 abbrev starts : ℕ → ℕ
 starts m = bitAnd (bitXor 127 m * 4432676798593) 282578800148737 * 256

@@ -70,27 +70,19 @@ module _ (w m k L q : ℕ) (h : w < cap 3) (i : k < 8) (e : counterAt (block 3 w
     settle-is g v = rw (stays .1, word-is, stays .2, marks-block 3 w m v)
 
   -- another value in the counter
-  module _ (x o n : ℕ) (o-is : o ≡ w / 2 ^ q % cap L) (n-is : n ≡ x % cap L) where
+  module _ (x n : ℕ) (n-is : n ≡ x % cap L) where
     abbrev t : ℕ
     t = word (change (block 3 w m) k x)
 
-    old-le : o * 2 ^ q ≤ w
-    old-le = rw o-is (omega (arith, mul-le-mul-right {m = w / 2 ^ q % cap L} {n = w / 2 ^ q} (2 ^ q) (mod-le (w / 2 ^ q) (cap L)), div-mul-le-self w (2 ^ q)))
+    new-word : t + w / 2 ^ q % cap L * 2 ^ q ≡ w + n * 2 ^ q
+    new-word = rw n-is (rw (value-place, place-is, e, word-block 3 w m h) at (change-word (block 3 w m) k x))
 
-    new-word : t + o * 2 ^ q ≡ w + n * 2 ^ q
-    new-word = rw (o-is, n-is) (rw (value-place, place-is, e, word-block 3 w m h) at (change-word (block 3 w m) k x))
-
-    new-lt : t < 2 ^ 64
+    pub value-in : w + n * 2 ^ q < 2 ^ 64 + w / 2 ^ q % cap L * 2 ^ q
     unfolding cap
-    new-lt = word-lt (change (block 3 w m) k x) (change-fits (block 3 w m) k x (block-fits 3 w m h))
+    value-in = omega (arith, new-word, word-lt (change (block 3 w m) k x) (change-fits (block 3 w m) k x (block-fits 3 w m h)))
 
-    pub put-is : (o * 2 ^ q % 2 ^ 64 ≤ w) × (w - o * 2 ^ q % 2 ^ 64 + n * 2 ^ q % 2 ^ 64 < 2 ^ 64) × (w - o * 2 ^ q % 2 ^ 64 + n * 2 ^ q % 2 ^ 64 ≡ t)
-    unfolding cap
-    put-is =
-        let a = old-le in
-        let b = new-word in
-        let d = new-lt in
-        (omega arith, omega arith, omega arith)
+    pub value-put : (r : ℕ) → r + w / 2 ^ q % cap L * 2 ^ q ≡ w + n * 2 ^ q → r ≡ t
+    value-put r f = omega (arith, new-word)
 
 pub added-is : (g : Group) (slot amount : ℕ) → valid 3 (g .merge) ≡ true → added g slot amount ≡ settle g (add (block 3 (number (g .counts)) (g .merge)) (slot % 8) amount)
 unfolding added decode

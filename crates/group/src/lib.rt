@@ -447,9 +447,7 @@ fn with_value(word: u64, merge: u8, slot: usize, value: u64) -> u64
 {
     let level = level_at(merge, slot);
     let at = place(level, slot);
-    let old = value_at(word, level, at);
-    let kept = value & most(level);
-    word - (old << at) + (kept << at)
+    put(word, level, at, value & most(level))
 }
 
 // Another value in the counter that a slot is in: of the value the bits that the counter holds. The layout stays.

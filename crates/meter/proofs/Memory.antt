@@ -58,7 +58,7 @@ none-groups f (suc n) g e k p q =
     ]
 
 -- an accepted call passed every test
-status-is : (s v : ℕ) → answerOf s v .status ≡ s
+pub status-is : (s v : ℕ) → answerOf s v .status ≡ s
 unfolding answerOf
 status-is zero v = refl
 status-is (suc s) v = refl

@@ -1,6 +1,6 @@
 -- Laws of widths and of the order of rejections.
 use mathlib.Core.Path.{_≡_, refl, sym, ap, _∙_}
-use mathlib.Core.Bool.{Bool, true, false, true≢false, or-true, and-eq-true-iff}
+use mathlib.Core.Bool.{true, false, true≢false, or-true, and-eq-true-iff}
 use mathlib.Core.Logic.{⊎-elim}
 use mathlib.Core.List.{List, [], _∷_, _++_}
 use Prim.Native.Nat.{ℕ, zero, suc, _+_, _-_, _*_, _/_, _%_, _^_, _≤_, _<_, min}
@@ -13,6 +13,7 @@ use lib.Bits.{bitAnd, and-step, and-self, and-mask}
 use lib.Dec.{eqb, leb}
 use lib.Pow.{pow-add, pow-mono, pow-lt}
 use Rattle.layout.proofs.Laws.{or-cases}
+use Rattle.block.proofs.Every.{both-ways}
 use Rattle.row.specs.Geometry.{oneOfPowers, validDepth, validWidth, stride}
 use Rattle.row.specs.Order.{firstOf, earlier, answerOf}
 use Rattle.group.specs.Status.{rejected}
@@ -96,26 +97,18 @@ log-le : (j k : ℕ) → 2 ^ j ≤ 2 ^ k → j ≤ k
 log-le j k h = elim (decLt k j) [ yes l ↦ absurd (omega (arith, pow-lt {i = k} {j = j} l)) | no n ↦ omega arith ]
 
 -- the code's test of a width
-decide : (w : ℕ) (b : Bool) → (validWidth w ≡ true → b ≡ true) → (b ≡ true → validWidth w ≡ true) → b ≡ validWidth w
-decide w b f g = go (validWidth w) b refl f g
-  where
-    go : (v b : Bool) → validWidth w ≡ v → (v ≡ true → b ≡ true) → (b ≡ true → v ≡ true) → b ≡ v
-    go true b e f g = f refl
-    go false true e f g = sym (g refl)
-    go false false e f g = refl
-
 pub width-out : (w : ℕ) → (32 ≤ w → w ≤ 65536 → ⊥) → false ≡ validWidth w
-width-out w h = decide w false (λ v. absurd (h (wide w v .low) (wide w v .high))) (λ e. absurd (true≢false (sym e)))
+width-out w h = both-ways false (validWidth w) (λ e. absurd (true≢false (sym e))) (λ v. absurd (h (wide w v .low) (wide w v .high)))
 
 pub width-test : (w : ℕ) → 32 ≤ w → w ≤ 65536 → eqb (bitAnd w (w - 1)) 0 ≡ validWidth w
 width-test w l h =
-    decide w (eqb (bitAnd w (w - 1)) 0)
-    (λ v.
-    let r = width-is w v in
-    eq-eqb (bitAnd w (w - 1)) 0 (rw (r .3, and-mask (2 ^ r .0) (r .0)) (mod-self (2 ^ r .0))))
+    both-ways (eqb (bitAnd w (w - 1)) 0) (validWidth w)
     (λ e.
     let r = one-bit w (omega arith) (eqb-true (bitAnd w (w - 1)) 0 e) in
     rw (r .1) (is-width (r .0) (log-le 5 (r .0) (rw (r .1) at l)) (log-le (r .0) 16 (rw (r .1) at h))))
+    (λ v.
+    let r = width-is w v in
+    eq-eqb (bitAnd w (w - 1)) 0 (rw (r .3, and-mask (2 ^ r .0) (r .0)) (mod-self (2 ^ r .0))))
 
 pub stride-is : (w : ℕ) → stride w ≡ w + w / 8
 unfolding stride

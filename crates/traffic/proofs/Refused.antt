@@ -2,13 +2,14 @@
 use mathlib.Core.Path.{_≡_, refl, sym, ap, _∙_}
 use mathlib.Core.Bool.{false}
 use mathlib.Core.List.{List}
-use Prim.Native.Nat.{ℕ, zero, suc}
+use Prim.Native.Nat.{ℕ}
 use native.Mathlib.Decide.{ℕ-discrete}
 use borrow.Author.Tests.{eqb-false}
 use lib.Dec.{eqb}
 use lib.ListN.{length}
-use Rattle.row.specs.Order.{badShape, answerOf, Done, finish}
+use Rattle.row.specs.Order.{badShape, Done, finish}
 use Rattle.meter.specs.Meter.{cleared, updated, united}
+use Rattle.meter.proofs.Memory.{status-is}
 use Rattle.image.specs.Read.{checked, taken}
 use Rattle.image.proofs.Calls.{read-call, read-faulty, read-done}
 use Rattle.word.specs.Word.{payload}
@@ -20,11 +21,6 @@ use Rattle.traffic.specs.Calls.{Call, clear, update, estimate, widest, u
 use Rattle.traffic.proofs.Records.{record-cases, outcome-status}
 
 -- the calls that end by `finish`
-pub status-is : (s v : ℕ) → answerOf s v .status ≡ s
-unfolding answerOf
-status-is zero v = refl
-status-is (suc s) v = refl
-
 finish-kept : (s v : ℕ) (new memory : List ℕ) → eqb (finish s v new memory .answer .status) 0 ≡ false → finish s v new memory .memory ≡ memory
 unfolding finish
 finish-kept s v new memory e = rw (rw (status-is s v) at e)

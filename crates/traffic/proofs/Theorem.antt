@@ -30,7 +30,8 @@ use Rattle.traffic.specs.Claim.{Between, Claim, Demand3}
 use Rattle.traffic.proofs.Answers.{good-shape, good-key, widest-holds, estimate-holds, estimate-between}
 use Rattle.traffic.proofs.Steps.{start-holds, update-holds, unite-holds}
 use Rattle.traffic.proofs.Records.{record-cases, outcome-status, query-only}
-use Rattle.traffic.proofs.Refused.{status-is, kept}
+use Rattle.meter.proofs.Memory.{status-is}
+use Rattle.traffic.proofs.Refused.{kept}
 use Rattle.traffic.proofs.Bytes.{memory-is, all-bytes, holds-valid}
 
 -- a clearing that is accepted leaves what a list starts from
