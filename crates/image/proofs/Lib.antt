@@ -3,6 +3,7 @@ pub mod Calls
 pub mod Digits
 pub mod Restoring
 pub mod Counters
+pub mod Steps
 pub mod Rows
 pub mod Accepting
 pub mod Exact

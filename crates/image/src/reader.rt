@@ -18,7 +18,7 @@ ghost use lib.Seq.{sets};
 ghost use Rattle.row.specs.Geometry.{stride};
 ghost use Rattle.row.specs.Rows.{withGroup};
 ghost use Rattle.image.specs.Write.{groupSize};
-ghost use Rattle.image.specs.Read.{checkHead, checkParts, checkSlot, checkSlots, checkGroups, checkFour, checkFours, checkEnd, checked, valueFrom, mergesAt, readSlot, readGroup, readGroups, afterGroups, readFours, afterFours, readRows};
+ghost use Rattle.image.specs.Read.{checkHead, checkParts, checkSlots, checkGroups, checkFour, checkFours, checkEnd, checked, valueFrom, mergesAt, readSlot, readGroup, readGroups, afterGroups, readFours, afterFours, readRows};
 
 pub fn check_head(words: &[u32], d: usize, w: usize) -> Step
     requires { ⌜ d ≤ 8 ⌝ }
@@ -86,33 +86,25 @@ pub fn check_parts(words: &[u32], p: usize, n: u32, limit: u32) -> Step
     go(at)
 }
 
-// The words of the counter that starts at a slot, if one does.
-pub fn check_slot(words: &[u32], p: usize, merge: u8, k: usize) -> Step
-    ensures { λ r. ⌜ r ≡ checkSlot merge k (now (words .entry)) p ⌝ }
-{
-    let level = format::level_at(merge, k);
-    if !format::starts(level, k) {
-        return go(p);
-    }
-    check_parts(
-        words,
-        p,
-        format::words_of(level),
-        1 << format::first_bits(level),
-    )
-}
-
 // The words of a group's counters.
 pub fn check_group(words: &[u32], p: usize, merge: u8) -> Step
     ensures { λ r. ⌜ r ≡ checkSlots 8 0 merge (now (words .entry)) p ⌝ }
 {
     let mut at = p;
-    for k in 0..8 {
-        let s = check_slot(words, at, merge, k);
+    let mut k = 0;
+    while k < 8 {
+        let level = format::level_at(merge, k);
+        let s = check_parts(
+            words,
+            at,
+            format::words_of(level),
+            1 << format::first_bits(level),
+        );
         if s.status != 0 {
             return s;
         }
         at = s.position;
+        k += 1 << level;
     }
     go(at)
 }
