@@ -18,7 +18,7 @@ ghost use lib.Seq.{sets};
 ghost use Rattle.row.specs.Geometry.{stride};
 ghost use Rattle.row.specs.Rows.{withGroup};
 ghost use Rattle.image.specs.Write.{groupSize};
-ghost use Rattle.image.specs.Read.{checkHead, checkParts, checkSlots, checkGroups, checkFour, checkFours, checkEnd, checked, valueFrom, mergesAt, readSlot, readGroup, readGroups, afterGroups, readFours, afterFours, readRows};
+ghost use Rattle.image.specs.Read.{checkHead, checkParts, checkSlots, checkGroups, checkFour, checkFours, checkEnd, checked, valueFrom, mergesAt, readGroup, readGroups, afterGroups, readFours, afterFours, readRows};
 
 pub fn check_head(words: &[u32], d: usize, w: usize) -> Step
     requires { ⌜ d ≤ 8 ⌝ }
@@ -217,34 +217,37 @@ pub fn value_at(words: &[u32], p: usize, n: u32) -> u64
     v
 }
 
-// A group with the counter that starts at a slot, if one does.
-pub fn read_slot(g: Group, k: usize, words: &[u32], p: usize) -> Group
-    requires { ⌜ p < 2 ^ 32 ⌝ }
-    ensures { λ r. ⌜ r ≡ readSlot k g (now (words .entry)) p ⌝ }
-{
-    let level = format::level_at(g.merge, k);
-    if !format::starts(level, k) {
-        return g;
-    }
-    let o = group::change(g, k, value_at(words, p, format::words_of(level)));
-    o.group
+// A group read, and the position after its words.
+pub struct Taken {
+    pub group: Group,
+    pub position: usize,
 }
 
 // A group with the counters at a position.
-pub fn read_group(merge: u8, words: &[u32], p: usize) -> Group
+pub fn read_group(merge: u8, words: &[u32], p: usize) -> Taken
     requires { ⌜ p < 2 ^ 31 ⌝ }
-    ensures { λ r. ⌜ r ≡ readGroup merge (now (words .entry)) p ⌝ }
+    ensures { λ r. ⌜ r .group ≡ readGroup merge (now (words .entry)) p ⌝ }
+    ensures { λ r. ⌜ r .position ≡ p + groupSize merge ⌝ }
+    ensures { λ r. ⌜ r .position ≤ p + 24 ⌝ }
 {
     let mut g = Group {
         counts: [0; 8],
         merge,
     };
     let mut at = p;
-    for k in 0..8 {
-        g = read_slot(g, k, words, at);
-        at += format::slot_size(merge, k);
+    let mut k = 0;
+    while k < 8 {
+        let level = format::level_at(merge, k);
+        let n = format::words_of(level);
+        let o = group::change(g, k, value_at(words, at, n));
+        g = o.group;
+        at += n as usize;
+        k += 1 << level;
     }
-    g
+    Taken {
+        group: g,
+        position: at,
+    }
 }
 
 // n count bytes of a row from `at` on, each from a word.
@@ -271,8 +274,9 @@ pub fn read_into(row: &mut [u8], w: usize, g: usize, merge: u8, words: &[u32], p
             return p + 8;
         }
     }
-    store(row, w, g, read_group(merge, words, p));
-    p + format::group_size(merge)
+    let t = read_group(merge, words, p);
+    store(row, w, g, t.group);
+    t.position
 }
 
 // Four groups of a row, from group g on. Gives the position after their words.
