@@ -4,6 +4,7 @@ pub mod Digits
 pub mod Restoring
 pub mod Counters
 pub mod Steps
+pub mod Layouts
 pub mod Rows
 pub mod Accepting
 pub mod Exact

@@ -11,10 +11,11 @@ use word::stop;
 use word::tested;
 ghost use mathlib.Core.Path.{_≡_};
 ghost use mathlib.Core.Bool.{true};
-ghost use mathlib.Core.List.{_++_, map};
+ghost use mathlib.Core.List.{map};
 ghost use Prim.Native.Nat.{ℕ, _+_, _*_, _/_, _%_, _^_, _<_, _≤_};
 ghost use lib.ListN.{length, getD, take, drop};
 ghost use lib.Seq.{sets};
+ghost use Rattle.group.specs.Pack.{codeMerge};
 ghost use Rattle.row.specs.Geometry.{stride};
 ghost use Rattle.row.specs.Rows.{withGroup};
 ghost use Rattle.image.specs.Write.{groupSize};
@@ -124,20 +125,38 @@ pub fn check_groups(words: &[u32], p: usize, merges: [u8; 4]) -> Step
     go(at)
 }
 
+// The merge byte of each layout code of one group, so that a code is unpacked once for all words of an image.
+pub fn layout_table() -> [u8; 26]
+    ensures { λ r. ⌜ ((c : ℕ) → c < 26 → getD r c 0 ≡ codeMerge c) ⌝ }
+{
+    let mut t = [0u8; 26];
+    for c in 0..26 {
+        let u = group::unpack(c as u32);
+        t[c] = u.merges[3];
+    }
+    t
+}
+
 // The merge bytes of the layout word at a position.
-pub fn merges_at(words: &[u32], p: usize) -> [u8; 4]
+pub fn merges_at(words: &[u32], p: usize, layouts: &[u8; 26]) -> [u8; 4]
+    requires { ⌜ ((c : ℕ) → c < 26 → getD (now layouts) c 0 ≡ codeMerge c) ⌝ }
     ensures { λ r. ⌜ r ≡ mergesAt (now (words .entry)) p ⌝ }
 {
-    let code = payload(words, p);
-    if code == 0 {
+    let code = payload(words, p) as usize;
+    if 456976 <= code {
         return [0; 4];
     }
-    let u = group::unpack(code);
-    u.merges
+    [
+        layouts[code / 17576],
+        layouts[code / 676 % 26],
+        layouts[code / 26 % 26],
+        layouts[code % 26],
+    ]
 }
 
 // The words of 32 slots.
-pub fn check_four(words: &[u32], p: usize) -> Step
+pub fn check_four(words: &[u32], p: usize, layouts: &[u8; 26]) -> Step
+    requires { ⌜ ((c : ℕ) → c < 26 → getD (now layouts) c 0 ≡ codeMerge c) ⌝ }
     ensures { λ r. ⌜ r ≡ checkFour (now (words .entry)) p ⌝ }
 {
     if is_clear(words, p) {
@@ -147,16 +166,17 @@ pub fn check_four(words: &[u32], p: usize) -> Step
     if s.status != 0 {
         return s;
     }
-    check_groups(words, s.position, merges_at(words, p))
+    check_groups(words, s.position, merges_at(words, p, layouts))
 }
 
 // The words of n times 32 slots.
-pub fn check_fours(words: &[u32], p: usize, n: usize) -> Step
+pub fn check_fours(words: &[u32], p: usize, n: usize, layouts: &[u8; 26]) -> Step
+    requires { ⌜ ((c : ℕ) → c < 26 → getD (now layouts) c 0 ≡ codeMerge c) ⌝ }
     ensures { λ r. ⌜ r ≡ checkFours n (now (words .entry)) p ⌝ }
 {
     let mut at = p;
     for i in 0..n {
-        let s = check_four(words, at);
+        let s = check_four(words, at, layouts);
         if s.status != 0 {
             return s;
         }
@@ -186,15 +206,15 @@ pub fn check_end(words: &[u32], p: usize) -> Step
 }
 
 // All words, for a meter of d rows of w slots.
-pub fn check(words: &[u32], d: usize, w: usize) -> Step
-    requires { ⌜ d ≤ 8 ⌝ ∗ ⌜ w ≤ 65536 ⌝ }
+pub fn check(words: &[u32], d: usize, w: usize, layouts: &[u8; 26]) -> Step
+    requires { ⌜ d ≤ 8 ⌝ ∗ ⌜ w ≤ 65536 ⌝ ∗ ⌜ ((c : ℕ) → c < 26 → getD (now layouts) c 0 ≡ codeMerge c) ⌝ }
     ensures { λ r. ⌜ r ≡ checked d w (now (words .entry)) ⌝ }
 {
     let h = check_head(words, d, w);
     if h.status != 0 {
         return h;
     }
-    let s = check_fours(words, h.position, d * (w / 32));
+    let s = check_fours(words, h.position, d * (w / 32), layouts);
     if s.status != 0 {
         return s;
     }
@@ -301,22 +321,22 @@ pub fn read_groups(
 }
 
 // A row of w slots. Gives the position after its words.
-pub fn read_row(row: &mut [u8], w: usize, words: &[u32], p: usize) -> usize
-    requires { ⌜ w + w / 8 ≤ length (now row) ⌝ ∗ ⌜ w ≤ 65536 ⌝ ∗ ⌜ p < 2 ^ 29 ⌝ }
+pub fn read_row(row: &mut [u8], w: usize, words: &[u32], p: usize, layouts: &[u8; 26]) -> usize
+    requires { ⌜ w + w / 8 ≤ length (now row) ⌝ ∗ ⌜ w ≤ 65536 ⌝ ∗ ⌜ p < 2 ^ 29 ⌝ ∗ ⌜ ((c : ℕ) → c < 26 → getD (now layouts) c 0 ≡ codeMerge c) ⌝ }
     ensures { λ r. ⌜ r ≡ afterFours (w / 32) (now (words .entry)) p ⌝ }
     ensures { λ r. ⌜ r ≤ p + 97 * 2048 ⌝ }
     ensures { λ _. ⌜ now (row .exit) ≡ readFours (w / 32) 0 w (now (row .entry)) (now (words .entry)) p ⌝ }
 {
     let mut at = p;
     for i in 0..w / 32 {
-        at = read_groups(row, w, 4 * i, merges_at(words, at), words, at + 1);
+        at = read_groups(row, w, 4 * i, merges_at(words, at, layouts), words, at + 1);
     }
     at
 }
 
 // d rows of a memory, from the words after the head.
-pub fn read_rows(memory: &mut [u8], d: usize, w: usize, words: &[u32])
-    requires { ⌜ d * stride w ≤ length (now memory) ⌝ ∗ ⌜ w ≤ 65536 ⌝ ∗ ⌜ d ≤ 8 ⌝ }
+pub fn read_rows(memory: &mut [u8], d: usize, w: usize, words: &[u32], layouts: &[u8; 26])
+    requires { ⌜ d * stride w ≤ length (now memory) ⌝ ∗ ⌜ w ≤ 65536 ⌝ ∗ ⌜ d ≤ 8 ⌝ ∗ ⌜ ((c : ℕ) → c < 26 → getD (now layouts) c 0 ≡ codeMerge c) ⌝ }
     ensures { λ _. ⌜ now (memory .exit) ≡ readRows d w (now (memory .entry)) (now (words .entry)) 1 ⌝ }
 {
     let size = w * 9 / 8;
@@ -324,6 +344,6 @@ pub fn read_rows(memory: &mut [u8], d: usize, w: usize, words: &[u32])
     for r in 0..d {
         let a = r * size;
         let e = a + size;
-        at = read_row(&mut memory[a..e], w, words, at);
+        at = read_row(&mut memory[a..e], w, words, at, layouts);
     }
 }
