@@ -3,6 +3,8 @@ pub mod Calls
 pub mod Digits
 pub mod Restoring
 pub mod Counters
+pub mod Steps
+pub mod Layouts
 pub mod Rows
 pub mod Accepting
 pub mod Exact

@@ -38,11 +38,12 @@ pub fn read(d: usize, w: usize, memory: &mut [u8], words: &[u32]) -> Answer
     if status != 0 {
         return rejected(status, 0);
     }
-    let s = reader::check(words, d, w);
+    let layouts = reader::layout_table();
+    let s = reader::check(words, d, w, &layouts);
     if s.status != 0 {
         return rejected(s.status, s.position);
     }
-    reader::read_rows(memory, d, w, words);
+    reader::read_rows(memory, d, w, words, &layouts);
     accepted(s.position)
 }
 

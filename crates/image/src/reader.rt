@@ -11,14 +11,15 @@ use word::stop;
 use word::tested;
 ghost use mathlib.Core.Path.{_≡_};
 ghost use mathlib.Core.Bool.{true};
-ghost use mathlib.Core.List.{_++_, map};
+ghost use mathlib.Core.List.{map};
 ghost use Prim.Native.Nat.{ℕ, _+_, _*_, _/_, _%_, _^_, _<_, _≤_};
 ghost use lib.ListN.{length, getD, take, drop};
 ghost use lib.Seq.{sets};
+ghost use Rattle.group.specs.Pack.{codeMerge};
 ghost use Rattle.row.specs.Geometry.{stride};
 ghost use Rattle.row.specs.Rows.{withGroup};
 ghost use Rattle.image.specs.Write.{groupSize};
-ghost use Rattle.image.specs.Read.{checkHead, checkParts, checkSlot, checkSlots, checkGroups, checkFour, checkFours, checkEnd, checked, valueFrom, mergesAt, readSlot, readGroup, readGroups, afterGroups, readFours, afterFours, readRows};
+ghost use Rattle.image.specs.Read.{checkHead, checkParts, checkSlots, checkGroups, checkFour, checkFours, checkEnd, checked, valueFrom, mergesAt, readGroup, readGroups, afterGroups, readFours, afterFours, readRows};
 
 pub fn check_head(words: &[u32], d: usize, w: usize) -> Step
     requires { ⌜ d ≤ 8 ⌝ }
@@ -86,33 +87,25 @@ pub fn check_parts(words: &[u32], p: usize, n: u32, limit: u32) -> Step
     go(at)
 }
 
-// The words of the counter that starts at a slot, if one does.
-pub fn check_slot(words: &[u32], p: usize, merge: u8, k: usize) -> Step
-    ensures { λ r. ⌜ r ≡ checkSlot merge k (now (words .entry)) p ⌝ }
-{
-    let level = format::level_at(merge, k);
-    if !format::starts(level, k) {
-        return go(p);
-    }
-    check_parts(
-        words,
-        p,
-        format::words_of(level),
-        1 << format::first_bits(level),
-    )
-}
-
 // The words of a group's counters.
 pub fn check_group(words: &[u32], p: usize, merge: u8) -> Step
     ensures { λ r. ⌜ r ≡ checkSlots 8 0 merge (now (words .entry)) p ⌝ }
 {
     let mut at = p;
-    for k in 0..8 {
-        let s = check_slot(words, at, merge, k);
+    let mut k = 0;
+    while k < 8 {
+        let level = format::level_at(merge, k);
+        let s = check_parts(
+            words,
+            at,
+            format::words_of(level),
+            1 << format::first_bits(level),
+        );
         if s.status != 0 {
             return s;
         }
         at = s.position;
+        k += 1 << level;
     }
     go(at)
 }
@@ -132,20 +125,38 @@ pub fn check_groups(words: &[u32], p: usize, merges: [u8; 4]) -> Step
     go(at)
 }
 
+// The merge byte of each layout code of one group, so that a code is unpacked once for all words of an image.
+pub fn layout_table() -> [u8; 26]
+    ensures { λ r. ⌜ ((c : ℕ) → c < 26 → getD r c 0 ≡ codeMerge c) ⌝ }
+{
+    let mut t = [0u8; 26];
+    for c in 0..26 {
+        let u = group::unpack(c as u32);
+        t[c] = u.merges[3];
+    }
+    t
+}
+
 // The merge bytes of the layout word at a position.
-pub fn merges_at(words: &[u32], p: usize) -> [u8; 4]
+pub fn merges_at(words: &[u32], p: usize, layouts: &[u8; 26]) -> [u8; 4]
+    requires { ⌜ ((c : ℕ) → c < 26 → getD (now layouts) c 0 ≡ codeMerge c) ⌝ }
     ensures { λ r. ⌜ r ≡ mergesAt (now (words .entry)) p ⌝ }
 {
-    let code = payload(words, p);
-    if code == 0 {
+    let code = payload(words, p) as usize;
+    if 456976 <= code {
         return [0; 4];
     }
-    let u = group::unpack(code);
-    u.merges
+    [
+        layouts[code / 17576],
+        layouts[code / 676 % 26],
+        layouts[code / 26 % 26],
+        layouts[code % 26],
+    ]
 }
 
 // The words of 32 slots.
-pub fn check_four(words: &[u32], p: usize) -> Step
+pub fn check_four(words: &[u32], p: usize, layouts: &[u8; 26]) -> Step
+    requires { ⌜ ((c : ℕ) → c < 26 → getD (now layouts) c 0 ≡ codeMerge c) ⌝ }
     ensures { λ r. ⌜ r ≡ checkFour (now (words .entry)) p ⌝ }
 {
     if is_clear(words, p) {
@@ -155,16 +166,17 @@ pub fn check_four(words: &[u32], p: usize) -> Step
     if s.status != 0 {
         return s;
     }
-    check_groups(words, s.position, merges_at(words, p))
+    check_groups(words, s.position, merges_at(words, p, layouts))
 }
 
 // The words of n times 32 slots.
-pub fn check_fours(words: &[u32], p: usize, n: usize) -> Step
+pub fn check_fours(words: &[u32], p: usize, n: usize, layouts: &[u8; 26]) -> Step
+    requires { ⌜ ((c : ℕ) → c < 26 → getD (now layouts) c 0 ≡ codeMerge c) ⌝ }
     ensures { λ r. ⌜ r ≡ checkFours n (now (words .entry)) p ⌝ }
 {
     let mut at = p;
     for i in 0..n {
-        let s = check_four(words, at);
+        let s = check_four(words, at, layouts);
         if s.status != 0 {
             return s;
         }
@@ -194,15 +206,15 @@ pub fn check_end(words: &[u32], p: usize) -> Step
 }
 
 // All words, for a meter of d rows of w slots.
-pub fn check(words: &[u32], d: usize, w: usize) -> Step
-    requires { ⌜ d ≤ 8 ⌝ ∗ ⌜ w ≤ 65536 ⌝ }
+pub fn check(words: &[u32], d: usize, w: usize, layouts: &[u8; 26]) -> Step
+    requires { ⌜ d ≤ 8 ⌝ ∗ ⌜ w ≤ 65536 ⌝ ∗ ⌜ ((c : ℕ) → c < 26 → getD (now layouts) c 0 ≡ codeMerge c) ⌝ }
     ensures { λ r. ⌜ r ≡ checked d w (now (words .entry)) ⌝ }
 {
     let h = check_head(words, d, w);
     if h.status != 0 {
         return h;
     }
-    let s = check_fours(words, h.position, d * (w / 32));
+    let s = check_fours(words, h.position, d * (w / 32), layouts);
     if s.status != 0 {
         return s;
     }
@@ -225,34 +237,37 @@ pub fn value_at(words: &[u32], p: usize, n: u32) -> u64
     v
 }
 
-// A group with the counter that starts at a slot, if one does.
-pub fn read_slot(g: Group, k: usize, words: &[u32], p: usize) -> Group
-    requires { ⌜ p < 2 ^ 32 ⌝ }
-    ensures { λ r. ⌜ r ≡ readSlot k g (now (words .entry)) p ⌝ }
-{
-    let level = format::level_at(g.merge, k);
-    if !format::starts(level, k) {
-        return g;
-    }
-    let o = group::change(g, k, value_at(words, p, format::words_of(level)));
-    o.group
+// A group read, and the position after its words.
+pub struct Taken {
+    pub group: Group,
+    pub position: usize,
 }
 
 // A group with the counters at a position.
-pub fn read_group(merge: u8, words: &[u32], p: usize) -> Group
+pub fn read_group(merge: u8, words: &[u32], p: usize) -> Taken
     requires { ⌜ p < 2 ^ 31 ⌝ }
-    ensures { λ r. ⌜ r ≡ readGroup merge (now (words .entry)) p ⌝ }
+    ensures { λ r. ⌜ r .group ≡ readGroup merge (now (words .entry)) p ⌝ }
+    ensures { λ r. ⌜ r .position ≡ p + groupSize merge ⌝ }
+    ensures { λ r. ⌜ r .position ≤ p + 24 ⌝ }
 {
     let mut g = Group {
         counts: [0; 8],
         merge,
     };
     let mut at = p;
-    for k in 0..8 {
-        g = read_slot(g, k, words, at);
-        at += format::slot_size(merge, k);
+    let mut k = 0;
+    while k < 8 {
+        let level = format::level_at(merge, k);
+        let n = format::words_of(level);
+        let o = group::change(g, k, value_at(words, at, n));
+        g = o.group;
+        at += n as usize;
+        k += 1 << level;
     }
-    g
+    Taken {
+        group: g,
+        position: at,
+    }
 }
 
 // n count bytes of a row from `at` on, each from a word.
@@ -279,8 +294,9 @@ pub fn read_into(row: &mut [u8], w: usize, g: usize, merge: u8, words: &[u32], p
             return p + 8;
         }
     }
-    store(row, w, g, read_group(merge, words, p));
-    p + format::group_size(merge)
+    let t = read_group(merge, words, p);
+    store(row, w, g, t.group);
+    t.position
 }
 
 // Four groups of a row, from group g on. Gives the position after their words.
@@ -305,22 +321,22 @@ pub fn read_groups(
 }
 
 // A row of w slots. Gives the position after its words.
-pub fn read_row(row: &mut [u8], w: usize, words: &[u32], p: usize) -> usize
-    requires { ⌜ w + w / 8 ≤ length (now row) ⌝ ∗ ⌜ w ≤ 65536 ⌝ ∗ ⌜ p < 2 ^ 29 ⌝ }
+pub fn read_row(row: &mut [u8], w: usize, words: &[u32], p: usize, layouts: &[u8; 26]) -> usize
+    requires { ⌜ w + w / 8 ≤ length (now row) ⌝ ∗ ⌜ w ≤ 65536 ⌝ ∗ ⌜ p < 2 ^ 29 ⌝ ∗ ⌜ ((c : ℕ) → c < 26 → getD (now layouts) c 0 ≡ codeMerge c) ⌝ }
     ensures { λ r. ⌜ r ≡ afterFours (w / 32) (now (words .entry)) p ⌝ }
     ensures { λ r. ⌜ r ≤ p + 97 * 2048 ⌝ }
     ensures { λ _. ⌜ now (row .exit) ≡ readFours (w / 32) 0 w (now (row .entry)) (now (words .entry)) p ⌝ }
 {
     let mut at = p;
     for i in 0..w / 32 {
-        at = read_groups(row, w, 4 * i, merges_at(words, at), words, at + 1);
+        at = read_groups(row, w, 4 * i, merges_at(words, at, layouts), words, at + 1);
     }
     at
 }
 
 // d rows of a memory, from the words after the head.
-pub fn read_rows(memory: &mut [u8], d: usize, w: usize, words: &[u32])
-    requires { ⌜ d * stride w ≤ length (now memory) ⌝ ∗ ⌜ w ≤ 65536 ⌝ ∗ ⌜ d ≤ 8 ⌝ }
+pub fn read_rows(memory: &mut [u8], d: usize, w: usize, words: &[u32], layouts: &[u8; 26])
+    requires { ⌜ d * stride w ≤ length (now memory) ⌝ ∗ ⌜ w ≤ 65536 ⌝ ∗ ⌜ d ≤ 8 ⌝ ∗ ⌜ ((c : ℕ) → c < 26 → getD (now layouts) c 0 ≡ codeMerge c) ⌝ }
     ensures { λ _. ⌜ now (memory .exit) ≡ readRows d w (now (memory .entry)) (now (words .entry)) 1 ⌝ }
 {
     let size = w * 9 / 8;
@@ -328,6 +344,6 @@ pub fn read_rows(memory: &mut [u8], d: usize, w: usize, words: &[u32])
     for r in 0..d {
         let a = r * size;
         let e = a + size;
-        at = read_row(&mut memory[a..e], w, words, at);
+        at = read_row(&mut memory[a..e], w, words, at, layouts);
     }
 }

@@ -19,30 +19,33 @@ returns c = let a = c .before .before .before .before .before .args in
     let e = read-call (a .d) (a .w) (a .memory .now) (a .words .now) (s .result) (s .ensures) (c .before .if1 .taken) in
     (c .rejected .ensures ∙ ap (λ (x : Done). x .answer) (sym e), ap (λ (x : Done). x .memory) (sym e))
 
+layout-table-requires : tie.Need-layout-table-requires
+layout-table-requires c κs = search needs
+
 check-requires : tie.Need-check-requires
-check-requires c κs = let a = c .before .before .before .before .args in
-    let s = c .before .bad-shape in
-    let z = c .if1 .left in
+check-requires c κs = let a = c .before .before .before .before .before .before .args in
+    let s = c .before .before .before .bad-shape in
+    let z = c .before .before .if1 .left in
     let k = sound-call (a .d) (a .w) (length (a .memory .now)) (sym (s .ensures) ∙ z) in
-    (omega arith, omega arith)
+    (omega arith, (omega arith, c .before .layout-table .ensures))
 
 rejected-requires-2 : tie.Need-rejected-requires-2
 rejected-requires-2 c κs = search needs
 
 returns-2 : tie.Need-returns-2
-returns-2 c = let a = c .before .before .before .before .before .before .before .before .args in
-    let s = c .before .before .before .before .before .bad-shape in
-    let z = c .before .before .before .before .if1 .left in
+returns-2 c = let a = c .before .before .before .before .before .before .before .before .before .before .args in
+    let s = c .before .before .before .before .before .before .before .bad-shape in
+    let z = c .before .before .before .before .before .before .if1 .left in
     let t = c .before .before .before .check in
     let e = read-faulty (a .d) (a .w) (a .memory .now) (a .words .now) (s .result) (s .ensures) z (t .result) (t .ensures) (c .before .if2 .taken) in
     (c .rejected2 .ensures ∙ ap (λ (x : Done). x .answer) (sym e), ap (λ (x : Done). x .memory) (sym e))
 
 read-rows-requires : tie.Need-read-rows-requires
-read-rows-requires c κs = let a = c .before .before .before .before .before .before .before .before .args in
-    let s = c .before .before .before .before .before .bad-shape in
-    let z = c .before .before .before .before .if1 .left in
+read-rows-requires c κs = let a = c .before .before .before .before .before .before .before .before .before .before .before .args in
+    let s = c .before .before .before .before .before .before .before .before .bad-shape in
+    let z = c .before .before .before .before .before .before .before .if1 .left in
     let k = sound-call (a .d) (a .w) (length (a .memory .now)) (sym (s .ensures) ∙ z) in
-    (omega arith, (omega arith, omega arith))
+    (omega arith, (omega arith, (omega arith, c .before .before .before .before .before .before .layout-table .ensures)))
 
 accepted-requires : tie.Need-accepted-requires
 accepted-requires c κs = search needs
@@ -51,11 +54,11 @@ same-length : tie.Need-same-length
 same-length c = search needs
 
 returns-3 : tie.Need-returns-3
-returns-3 c = let a = c .before .before .before .before .before .before .before .before .before .before .before .before .args in
-    let s = c .before .before .before .before .before .before .before .before .before .bad-shape in
-    let z = c .before .before .before .before .before .before .before .before .if1 .left in
-    let t = c .before .before .before .before .before .before .before .check in
-    let e = read-done (a .d) (a .w) (a .memory .now) (a .words .now) (s .result) (s .ensures) z (t .result) (t .ensures) (c .before .before .before .before .before .if2 .left) in
+returns-3 c = let a = c .before .before .before .before .before .before .before .before .before .before .before .before .before .before .before .args in
+    let s = c .before .before .before .before .before .before .before .before .before .before .before .before .bad-shape in
+    let z = c .before .before .before .before .before .before .before .before .before .before .before .if1 .left in
+    let t = c .before .before .before .before .before .before .before .before .check in
+    let e = read-done (a .d) (a .w) (a .memory .now) (a .words .now) (s .result) (s .ensures) z (t .result) (t .ensures) (c .before .before .before .before .before .before .if2 .left) in
     (c .accepted .ensures ∙ ap (λ (x : Done). x .answer) (sym e), c .before .before .before .read-rows .ensures ∙ ap (λ (x : Done). x .memory) (sym e))
 
 pub read-spec : {M : Type 1} → statement M
@@ -65,6 +68,7 @@ read-spec =
     bad-shape-requires
     rejected-requires
     returns
+    layout-table-requires
     check-requires
     rejected-requires-2
     returns-2

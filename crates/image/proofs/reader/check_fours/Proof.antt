@@ -10,10 +10,10 @@ use Rattle.image.proofs.reader.check_fours.Statement.{statement}
 use Rattle.image.proofs.reader.check_fours.Tie as tie
 
 abbrev Inv-loop : tie.InvT-loop
-Inv-loop words p n at₀ i₀ at i = (i ≤ n) × (checkFours (n - i) words at ≡ checkFours n words p)
+Inv-loop words p n layouts at₀ i₀ at i = (i ≤ n) × (checkFours (n - i) words at ≡ checkFours n words p)
 
 abbrev μ-loop : tie.MeasureT-loop
-μ-loop words p n at₀ i₀ at i = n - i
+μ-loop words p n layouts at₀ i₀ at i = n - i
 
 loop-holds : tie.Need-loop-holds Inv-loop μ-loop
 loop-holds c = let a = c .before .args in

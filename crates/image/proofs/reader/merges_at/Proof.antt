@@ -1,28 +1,50 @@
-use Rattle.group.specs.declared.Unpacked.{Unpacked}
-use Rattle.group.specs.Pack.{unpacked}
-use mathlib.Core.Path.{sym, ap, _∙_}
+use mathlib.Core.Path.{ap, _∙_}
 use Prim.Native.Nat.{ℕ}
-use Rattle.word.specs.Word.{payload}
-use Rattle.image.specs.Read.{mergesAt}
-use Rattle.image.proofs.Plain.{merges-none}
+use native.Mathlib.Omega.{arith}
 use borrow.Author.Needs.{needs}
+use Rattle.group.specs.Pack.{unpacked}
+use Rattle.image.specs.Read.{mergesAt}
+use Rattle.image.proofs.Layouts.{merges-by, merges-over}
 use Rattle.image.proofs.reader.merges_at.Statement.{statement}
 use Rattle.image.proofs.reader.merges_at.Tie as tie
 
 payload-requires : tie.Need-payload-requires
 payload-requires c κs = search needs
 
+cast-code : tie.Need-cast-code
+cast-code c = search needs
+
 returns : tie.Need-returns
 unfolding mergesAt
-returns c = let a = c .before .before .before .args in
-    sym (ap (λ (x : ℕ). unpacked x .merges) (sym (c .before .payload .ensures .0) ∙ c .if1 .taken) ∙ merges-none)
+returns c = merges-over (c .before .payload .result) (c .if1 .taken) ∙ ap (λ (x : ℕ). unpacked x .merges) (c .before .payload .ensures .0)
 
-unpack-requires : tie.Need-unpack-requires
-unpack-requires c κs = search needs
+element-copy-out-t10 : tie.Need-element-copy-out-t10
+element-copy-out-t10 c = search needs
+
+element-copy-out-t15 : tie.Need-element-copy-out-t15
+element-copy-out-t15 c = search needs
+
+element-copy-out-t20 : tie.Need-element-copy-out-t20
+element-copy-out-t20 c = search needs
+
+element-copy-out-t24 : tie.Need-element-copy-out-t24
+element-copy-out-t24 c = search needs
 
 returns-2 : tie.Need-returns-2
 unfolding mergesAt
-returns-2 c = ap (λ (u : Unpacked). u .merges) (c .before .unpack .ensures ∙ ap unpacked (c .before .before .before .payload .ensures .0))
+returns-2 c = let s = c .before .before .before .before .before .before .before in
+    let x = c .before .before .before .before .before .payload in
+    merges-by (s .args .layouts .now) (x .result) (s .pre) (omega arith) ∙ ap (λ (y : ℕ). unpacked y .merges) (x .ensures .0)
 
 pub merges-at-spec : {M : Type 1} → statement M
-merges-at-spec = tie.close (tie.spec payload-requires returns unpack-requires returns-2)
+merges-at-spec =
+    tie.close
+    (tie.spec
+    payload-requires
+    cast-code
+    returns
+    element-copy-out-t10
+    element-copy-out-t15
+    element-copy-out-t20
+    element-copy-out-t24
+    returns-2)

@@ -53,23 +53,13 @@ read-group-requires c κs = search needs
 store-requires : tie.Need-store-requires
 store-requires c κs = search needs
 
-group-size-requires : tie.Need-group-size-requires
-group-size-requires c κs = search needs
-
-add-result-2 : tie.Need-add-result-2
-add-result-2 c = search needs
-
 same-length-2 : tie.Need-same-length-2
 same-length-2 c = search needs
 
 returns-2 : tie.Need-returns-2
-returns-2 c = let a = c .before .before .before .before .before .before .before .before .before .args in (
-  omega (arith, c .group-size .ensures .0),
-  (
-    omega arith,
-    c .before .before .before .store .ensures ∙ ap (withGroup (a .w) (a .row .now) (a .g)) (c .before .before .before .before .read-group .ensures),
-  ),
-)
+returns-2 c = let a = c .before .before .before .before .before .before .before .before .args in
+    let t = c .before .before .before .before .read-group in
+    (t .ensures .1 .0, (t .ensures .1 .1, c .before .before .store .ensures ∙ ap (withGroup (a .w) (a .row .now) (a .g)) (t .ensures .0)))
 
 pub read-into-spec : {M : Type 1} → statement M
 read-into-spec =
@@ -85,7 +75,5 @@ read-into-spec =
     returns
     read-group-requires
     store-requires
-    group-size-requires
-    add-result-2
     same-length-2
     returns-2)

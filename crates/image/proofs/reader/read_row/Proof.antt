@@ -11,10 +11,10 @@ use Rattle.image.proofs.reader.read_row.Statement.{statement}
 use Rattle.image.proofs.reader.read_row.Tie as tie
 
 abbrev Inv-loop : tie.InvT-loop
-Inv-loop row₀ w words p at₀ i₀ i-end row at i = (i ≤ i-end) × (i-end ≡ w / 32) × (at ≤ p + 97 * i) × (length row ≡ length row₀) × (afterFours (w / 32 - i) words at ≡ afterFours (w / 32) words p) × (readFours (w / 32 - i) (4 * i) w row words at ≡ readFours (w / 32) 0 w row₀ words p)
+Inv-loop row₀ w words p layouts at₀ i₀ i-end row at i = (i ≤ i-end) × (i-end ≡ w / 32) × (at ≤ p + 97 * i) × (length row ≡ length row₀) × (afterFours (w / 32 - i) words at ≡ afterFours (w / 32) words p) × (readFours (w / 32 - i) (4 * i) w row words at ≡ readFours (w / 32) 0 w row₀ words p)
 
 abbrev μ-loop : tie.MeasureT-loop
-μ-loop row₀ w words p at₀ i₀ i-end row at i = i-end - i
+μ-loop row₀ w words p layouts at₀ i₀ i-end row at i = i-end - i
 
 loop-holds : tie.Need-loop-holds Inv-loop μ-loop
 loop-holds c = let a = c .before .before .args in

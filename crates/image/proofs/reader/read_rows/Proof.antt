@@ -12,10 +12,10 @@ use Rattle.image.proofs.reader.read_rows.Statement.{statement}
 use Rattle.image.proofs.reader.read_rows.Tie as tie
 
 abbrev Inv-loop : tie.InvT-loop
-Inv-loop memory₀ d w words size at₀ r₀ memory at r = (r ≤ d) × (size ≡ stride w) × (at ≤ 1 + 198656 * r) × (length memory ≡ length memory₀) × (rowsFrom d r w memory words at ≡ readRows d w memory₀ words 1)
+Inv-loop memory₀ d w words layouts size at₀ r₀ memory at r = (r ≤ d) × (size ≡ stride w) × (at ≤ 1 + 198656 * r) × (length memory ≡ length memory₀) × (rowsFrom d r w memory words at ≡ readRows d w memory₀ words 1)
 
 abbrev μ-loop : tie.MeasureT-loop
-μ-loop memory₀ d w words size at₀ r₀ memory at r = d - r
+μ-loop memory₀ d w words layouts size at₀ r₀ memory at r = d - r
 
 mul-size : tie.Need-mul-size Inv-loop μ-loop
 mul-size c = omega arith
@@ -52,7 +52,8 @@ part-read-row-end : tie.Need-part-read-row-end Inv-loop μ-loop
 part-read-row-end c = omega (arith, row-fits c)
 
 read-row-requires : tie.Need-read-row-requires Inv-loop μ-loop
-read-row-requires c κs = omega (arith, row-fits (c .before))
+read-row-requires c κs = let fit = row-fits (c .before) in
+    (omega (arith, fit), (omega arith, (omega arith, c .before .before .before .before .before .pre .1 .1 .1)))
 
 add-r : tie.Need-add-r Inv-loop μ-loop
 add-r c = search needs
