@@ -46,7 +46,7 @@ pub fn high_word(half: u32, word: u64) -> u64
 }
 
 // The left half, of this level.
-pub fn left_half(half: u32, word: u64, merge: u8) -> Summed
+fn left_half(half: u32, word: u64, merge: u8) -> Summed
     requires { ⌜ half ≤ 2 ⌝ }
     ensures { λ r. ⌜ r ≡ leftHalf half word merge ⌝ }
 {
@@ -58,7 +58,7 @@ pub fn left_half(half: u32, word: u64, merge: u8) -> Summed
 }
 
 // The right half, of this level.
-pub fn right_half(half: u32, word: u64, merge: u8) -> Summed
+fn right_half(half: u32, word: u64, merge: u8) -> Summed
     requires { ⌜ half ≤ 2 ⌝ }
     ensures { λ r. ⌜ r ≡ rightHalf half word merge ⌝ }
 {
@@ -70,7 +70,7 @@ pub fn right_half(half: u32, word: u64, merge: u8) -> Summed
 }
 
 // The count bytes of the block that has these halves.
-pub fn beside_word(half: u32, left: u64, right: u64) -> u64
+fn beside_word(half: u32, left: u64, right: u64) -> u64
     requires { ⌜ half ≤ 2 ⌝ ∗ ⌜ left < cap half ⌝ ∗ ⌜ right < cap half ⌝ }
     ensures { λ r. ⌜ r ≡ right * cap half + left ⌝ }
 {
@@ -92,7 +92,7 @@ pub fn total(level: u32, word: u64, merge: u8) -> u64
 }
 
 // Whether a counter of a level holds a value.
-pub fn holds(level: u32, value: u64) -> bool
+fn holds(level: u32, value: u64) -> bool
     requires { ⌜ level ≤ 3 ⌝ }
     ensures { λ r. ⌜ r ≡ ltb value (cap level) ⌝ }
 {
@@ -103,7 +103,7 @@ pub fn holds(level: u32, value: u64) -> bool
 }
 
 // A sum stored in the one counter of a block, if it holds it.
-pub fn held(level: u32, sum: u64) -> Summed
+fn held(level: u32, sum: u64) -> Summed
     requires { ⌜ level ≤ 3 ⌝ }
     ensures { λ r. ⌜ r ≡ summed (sum_spec.held level sum) ⌝ }
 {
@@ -122,7 +122,7 @@ pub fn held(level: u32, sum: u64) -> Summed
 }
 
 // The total of what an addition or a union left.
-pub fn sum_total(level: u32, s: Summed) -> u64
+fn sum_total(level: u32, s: Summed) -> u64
     requires { ⌜ level ≤ 3 ⌝ ∗ ⌜ Apt level s ⌝ }
     ensures { λ r. ⌜ r ≡ sumTotal (sumOf level s) ⌝ }
 {
@@ -133,7 +133,7 @@ pub fn sum_total(level: u32, s: Summed) -> u64
 }
 
 // The sum of two halves as one counter.
-pub fn formed(half: u32, left: Summed, right: Summed) -> Summed
+fn formed(half: u32, left: Summed, right: Summed) -> Summed
     requires { ⌜ half ≤ 2 ⌝ ∗ ⌜ Apt half left ⌝ ∗ ⌜ Apt half right ⌝ ∗ ⌜ sumTotal (sumOf half left) + sumTotal (sumOf half right) < 2 ^ 64 ⌝ }
     ensures { λ r. ⌜ r ≡ summed (sum_spec.held (half + 1) (sumTotal (sumOf half left) + sumTotal (sumOf half right))) ⌝ }
 {
@@ -141,7 +141,7 @@ pub fn formed(half: u32, left: Summed, right: Summed) -> Summed
 }
 
 // Two halves side by side or, where one is over, their sum as one counter.
-pub fn join(half: u32, left: Summed, right: Summed) -> Summed
+fn join(half: u32, left: Summed, right: Summed) -> Summed
     requires { ⌜ half ≤ 2 ⌝ ∗ ⌜ Apt half left ⌝ ∗ ⌜ Apt half right ⌝ ∗ ⌜ sumTotal (sumOf half left) + sumTotal (sumOf half right) < 2 ^ 64 ⌝ }
     ensures { λ r. ⌜ r ≡ summed (sum_spec.join (sumOf half left) (sumOf half right)) ⌝ }
 {
@@ -183,7 +183,7 @@ pub fn add(level: u32, word: u64, merge: u8, slot: usize, amount: u64) -> Summed
 // Whether the count bytes of two blocks, taken as numbers, may be added for their union: the layouts are the same and each counter
 // holds its sum. Then nothing is carried to where a counter starts or the block ends. Merge bit k is clear where slot k + 1 starts a
 // counter or is past the block, at any level.
-pub fn may_add(word: u64, merge: u8, other_word: u64, other_merge: u8) -> bool
+fn may_add(word: u64, merge: u8, other_word: u64, other_merge: u8) -> bool
     ensures { λ r. ⌜ ((n : ℕ) → n ≤ 3 → Sane n word merge → «other_word» < cap n → let u = summed (sum_spec.unite (block n word merge) (block n «other_word» «other_merge»)) in r ≡ (eqb merge «other_merge» && (not (u .over) && eqb (u .merge) merge))) ⌝ }
 {
     if merge != other_merge {

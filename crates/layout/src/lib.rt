@@ -16,7 +16,7 @@ pub fn slots(half: u32) -> u8
 }
 
 // The own bit of the block that has halves of this level.
-pub fn own_bit(half: u32, merge: u8) -> bool
+fn own_bit(half: u32, merge: u8) -> bool
     requires { ⌜ half ≤ 2 ⌝ }
     ensures { λ r. ⌜ r ≡ bit merge (2 ^ half - 1) ⌝ }
 {
@@ -69,7 +69,7 @@ pub fn beside(half: u32, left: u8, right: u8) -> u8
 }
 
 // The number of layouts of a block.
-pub fn layouts(level: u32) -> u32
+fn layouts(level: u32) -> u32
     requires { ⌜ level ≤ 3 ⌝ }
     ensures { λ r. ⌜ r ≡ code_spec.layouts level ⌝ }
     ensures { λ r. ⌜ (1 ≤ r) × (r ≤ 26) ⌝ }
