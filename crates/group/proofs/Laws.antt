@@ -1,8 +1,9 @@
 -- Laws of groups: encoding, and what the code's additions and unions come to.
-use mathlib.Core.Path.{_≡_, refl, ap}
-use mathlib.Core.Bool.{true, false}
+use mathlib.Core.Path.{_≡_, refl, sym, ap, _∙_}
+use mathlib.Core.Bool.{Bool, true, false, cond, _&&_, and-eq-true-iff}
 use Prim.Native.Nat.{ℕ, _+_, _%_, _^_, _≤_, _<_}
 use mathlib.Core.List.{List}
+use native.Mathlib.Decide.{decLt}
 use native.Mathlib.Omega.{arith}
 use lib.ListN.{length}
 use Rattle.layout.specs.Layout.{valid}
@@ -12,6 +13,7 @@ use Rattle.block.specs.Sum.{Sum, fits, over, add, unite, summed, sumTotal, Soun
 use Rattle.block.proofs.Laws.{word-lt, word-block, marks-block, block-is, block-fits, total-lt}
 use Rattle.block.proofs.Adding.{add-total, add-sound, unite-total, unite-sound}
 use Rattle.group.specs.declared.Group.{Group}
+use Rattle.group.specs.declared.Outcome.{Outcome}
 use Rattle.group.specs.Group.{number, decode, encode, stored, settle, unchanged, added, united}
 use Rattle.group.specs.Status.{invalidMerge, counterFull}
 use Rattle.group.proofs.Bytes.{Bytes, number-lt, number-bytes, bytes-number}
@@ -104,3 +106,31 @@ module _ (g source : Group) where
     pub united-stored : total (decode g) + total (decode source) < 2 ^ 64 → united g source ≡ stored (summed (unite (decode g) (decode source)))
     unfolding united
     united-stored k = rw (v, w) (settle-fits g (unite (decode g) (decode source)) unite-is-sound (omega (arith, unite-total (decode g) (decode source))))
+
+  -- by its status alone a union is refused, or both groups are valid and one counter would hold all their counters
+  pub united-refused : (united g source .status ≡ 0 → ⊥) → united g source ≡ unchanged (united g source .status) g
+  unfolding united settle
+  united-refused = go (valid 3 (g .merge) && valid 3 (source .merge)) (unite (decode g) (decode source))
+    where
+      go : (t : Bool) (x : Sum 3) → (cond t (settle g x) (unchanged invalidMerge g) .status ≡ 0 → ⊥)
+          → cond t (settle g x) (unchanged invalidMerge g) ≡ unchanged (cond t (settle g x) (unchanged invalidMerge g) .status) g
+      go true (fits b) n = absurd (n refl)
+      go true (over s) n = refl
+      go false x n = refl
+
+  both-valid : united g source .status ≡ 0 → (valid 3 (g .merge) && valid 3 (source .merge)) ≡ true
+  unfolding united
+  both-valid = go (valid 3 (g .merge) && valid 3 (source .merge))
+    where
+      go : (t : Bool) → cond t (settle g (unite (decode g) (decode source))) (unchanged invalidMerge g) .status ≡ 0 → t ≡ true
+      go true e = refl
+      go false e = absurd (omega arith)
+
+  pub united-taken : number (g .counts) < cap 3 → number (source .counts) < cap 3 → united g source .status ≡ 0
+      → (valid 3 (g .merge) ≡ true) × (valid 3 (source .merge) ≡ true) × (total (decode g) + total (decode source) < 2 ^ 64)
+  united-taken h k e =
+      let v = and-eq-true-iff (valid 3 (g .merge)) (valid 3 (source .merge)) .0 (both-valid e) in
+      elim (decLt (total (decode g) + total (decode source)) (2 ^ 64)) [
+        | yes l ↦ (v .0, v .1, l)
+        | no l ↦ absurd (omega (arith, sym e ∙ ap (λ (o : Outcome). o .status) (united-full h k (v .0) (v .1) (omega arith))))
+      ]

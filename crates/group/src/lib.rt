@@ -317,34 +317,6 @@ fn sum_fits(word: u64, merge: u8, other_word: u64, other_merge: u8) -> bool
     block::total(3, other_word, other_merge) <= room
 }
 
-// A source group united with a target, both valid.
-fn unite_valid(target: Group, source: Group) -> Outcome
-    requires { ⌜ valid 3 (target .merge) ≡ true ⌝ ∗ ⌜ valid 3 (source .merge) ≡ true ⌝ }
-    ensures { λ r. ⌜ r ≡ united target source ⌝ }
-{
-    let target_counts = target.counts;
-    let source_counts = source.counts;
-    let word = number_of(target_counts);
-    let source_word = number_of(source_counts);
-    if !sum_fits(word, target.merge, source_word, source.merge) {
-        return unchanged(COUNTER_FULL, target);
-    }
-    settled(block::unite(3, word, target.merge, source_word, source.merge))
-}
-
-// A source group united with a target.
-pub fn unite(target: Group, source: Group) -> Outcome
-    ensures { λ r. ⌜ r ≡ united target source ⌝ }
-{
-    if !is_valid(target.merge) {
-        return unchanged(INVALID_MERGE, target);
-    }
-    if !is_valid(source.merge) {
-        return unchanged(INVALID_MERGE, target);
-    }
-    unite_valid(target, source)
-}
-
 // Whether a target takes a source.
 pub fn unite_status(target: Group, source: Group) -> u8
     ensures { λ r. ⌜ r ≡ united target source .status ⌝ }
@@ -363,6 +335,21 @@ pub fn unite_status(target: Group, source: Group) -> u8
         return COUNTER_FULL;
     }
     0
+}
+
+// A source group united with a target.
+pub fn unite(target: Group, source: Group) -> Outcome
+    ensures { λ r. ⌜ r ≡ united target source ⌝ }
+{
+    let target_counts = target.counts;
+    let source_counts = source.counts;
+    let status = unite_status(target, source);
+    if status != 0 {
+        return unchanged(status, target);
+    }
+    let word = number_of(target_counts);
+    let source_word = number_of(source_counts);
+    settled(block::unite(3, word, target.merge, source_word, source.merge))
 }
 
 // The largest level of a valid group's counters: one if a pair is merged, one if a half is, one if the group is.
