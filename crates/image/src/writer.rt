@@ -14,8 +14,8 @@ ghost use lib.Seq.{sets};
 ghost use Rattle.row.specs.Geometry.{stride};
 ghost use Rattle.row.specs.Rows.{groupAt};
 ghost use Rattle.image.specs.Image as spec;
-ghost use Rattle.image.specs.Image.{layoutKind, countKind, parts, slotWords, groupWords, groupsWords, layoutAt, fourWords, rowWords, rowsWords, image};
-ghost use Rattle.image.specs.Write.{allValid, validRows, slotSize, groupSize};
+ghost use Rattle.image.specs.Image.{layoutKind, countKind, parts, groupWords, groupsWords, layoutAt, fourWords, rowWords, rowsWords, image};
+ghost use Rattle.image.specs.Write.{allValid, validRows, groupSize};
 
 // Whether four bytes are there and all are 0.
 pub fn clear(row: &[u8], at: usize) -> bool
@@ -136,20 +136,6 @@ pub fn put_parts(words: &mut [u32], p: usize, n: u32, value: u64) -> usize
     at
 }
 
-// The words of the counter that starts at a slot, if one does.
-pub fn put_slot(words: &mut [u32], p: usize, g: Group, k: usize) -> usize
-    requires { ⌜ p + slotSize (g .merge) k ≤ length (now words) ⌝ }
-    ensures { λ r. ⌜ r ≡ p + slotSize (g .merge) k ⌝ }
-    ensures { λ _. ⌜ now (words .exit) ≡ sets (now (words .entry)) p (slotWords g k) ⌝ }
-{
-    let level = format::level_at(g.merge, k);
-    if !format::starts(level, k) {
-        return p;
-    }
-    let c = group::counter(g, k);
-    put_parts(words, p, format::words_of(level), c.value)
-}
-
 // The words of a group's counters.
 pub fn put_group(words: &mut [u32], p: usize, g: Group) -> usize
     requires { ⌜ p + groupSize (g .merge) ≤ length (now words) ⌝ }
@@ -157,8 +143,11 @@ pub fn put_group(words: &mut [u32], p: usize, g: Group) -> usize
     ensures { λ _. ⌜ now (words .exit) ≡ sets (now (words .entry)) p (groupWords g) ⌝ }
 {
     let mut at = p;
-    for k in 0..8 {
-        at = put_slot(words, at, g, k);
+    let mut k = 0;
+    while k < 8 {
+        let c = group::counter(g, k);
+        at = put_parts(words, at, format::words_of(c.level), c.value);
+        k += 1 << c.level;
     }
     at
 }
