@@ -91,8 +91,11 @@ pub fn group_size(merge: u8) -> usize
     ensures { λ r. ⌜ r ≤ 24 ⌝ }
 {
     let mut n = 0;
-    for k in 0..8 {
-        n += slot_size(merge, k);
+    let mut k = 0;
+    while k < 8 {
+        let level = level_at(merge, k);
+        n += words_of(level) as usize;
+        k += 1 << level;
     }
     n
 }
