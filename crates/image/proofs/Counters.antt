@@ -15,7 +15,7 @@ use Rattle.block.specs.declared.Counter.{Counter}
 use Rattle.block.specs.Block.{counterAt}
 use Rattle.block.proofs.Slots.{counter-in, counter-slots, same-before}
 use Rattle.group.specs.declared.Group.{Group}
-use Rattle.group.specs.Group.{decode, read}
+use Rattle.group.specs.Group.{decode}
 use Rattle.group.proofs.Changing.{Good, zero-good}
 use Rattle.word.specs.declared.Step.{Step}
 use Rattle.word.specs.Word.{go, next}
@@ -23,16 +23,12 @@ use Rattle.image.specs.Image.{levelAt, isFirst, slotWords, slotsWords}
 use Rattle.image.specs.Write.{slotSize, slotsSize}
 use Rattle.image.specs.Read.{checkSlot, checkSlots, readSlot, readSlots}
 use Rattle.image.proofs.Laws.{size-other, sizes-step, slot-none, slots-step, check-slot-other, check-slots-step, read-slot-other, read-slot-merge, read-slots-step}
+use Rattle.image.proofs.Sizes.{invalid-level}
 use Rattle.image.proofs.Restoring.{level-at, by-test, first-level, other-level}
 
 -- the group with a merge byte and no counts
 empty : ℕ → Group
 empty m = record { counts = replicate 8 0; merge = m }
-
--- every slot of an invalid group is a counter of its own
-invalid-level : (m k : ℕ) → valid 3 m ≡ false → levelAt m k ≡ 0
-unfolding levelAt read
-invalid-level m k e = rw (levelAt, read, e)
 
 first-at : (m k : ℕ) → isFirst m k ≡ true → k % 2 ^ levelAt m k ≡ 0
 unfolding isFirst

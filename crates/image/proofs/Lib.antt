@@ -1,4 +1,5 @@
 pub mod Laws
+pub mod Sizes
 pub mod Calls
 pub mod Digits
 pub mod Restoring

@@ -8,27 +8,23 @@ use native.Mathlib.Decide.{decLt}
 use native.Mathlib.Omega.{arith}
 use borrow.Author.Tests.{eqb-true, eqb-false}
 use lib.ListN.{drop, replicate}
-use Rattle.layout.specs.Layout.{Layout}
 use Rattle.block.specs.Block.{cap, counterAt}
 use Rattle.group.specs.declared.Group.{Group}
 use Rattle.group.specs.declared.Reading.{Reading}
 use Rattle.group.specs.Group.{decode, read, reading, changed}
-use Rattle.group.proofs.Changing.{Good, good-fits, shape-decode, read-is, group-ext, good-changed, changed-at, changed-before, zero-good}
+use Rattle.group.proofs.Changing.{Good, good-fits, read-is, group-ext, good-changed, changed-at, changed-before, zero-good}
 use Rattle.word.specs.Word.{go, next}
 use Rattle.image.specs.Image.{parts, wordsOf, levelAt, isFirst, slotWords, slotsWords, groupWords}
 use Rattle.image.specs.Write.{slotSize, slotsSize, groupSize}
 use Rattle.image.specs.Read.{checkSlot, checkSlots, readSlot, readSlots, readGroup}
 use Rattle.image.proofs.Laws.{slot-none, slot-some, read-slot-other, read-slot-merge, read-slot-first, check-slot-other, size-first, size-other}
-use Rattle.block.proofs.Slots.{level-le, levelOf, level-is, value-lt, same-before}
+use Rattle.image.proofs.Sizes.{read-level}
+use Rattle.block.proofs.Slots.{level-le, value-lt, same-before}
 use Rattle.image.proofs.Digits.{check-counter, value-counter, parts-after}
 
--- the level of a slot depends on the merge byte alone
 pub level-at : (g : Group) (k : ℕ) → Good g → k < 8 → levelAt (g .merge) k ≡ counterAt (decode g) k .level
-unfolding levelAt reading
-level-at g k o h =
-    let z : Group = record { counts = replicate 8 0; merge = g .merge } in
-    ap (λ (r : Reading). r .level) (read-is z k (o .merges) h)
-    ∙ level-is (decode z) k ∙ ap (λ (L : Layout 3). levelOf L k) (shape-decode z ∙ sym (shape-decode g)) ∙ sym (level-is (decode g) k)
+unfolding reading
+level-at g k o h = sym (read-level g k) ∙ ap (λ (r : Reading). r .level) (read-is g k (o .merges) h)
 
 pub read-value : (g : Group) (k : ℕ) → Good g → k < 8 → read g k .value ≡ counterAt (decode g) k .value
 unfolding reading

@@ -85,14 +85,20 @@ pub fn slot_size(merge: u8, k: usize) -> usize
     0
 }
 
-// The number of words of a group's counters.
+// The number of words of a group's counters. Each slot of an invalid group is a counter of its own.
 pub fn group_size(merge: u8) -> usize
     ensures { λ r. ⌜ r ≡ groupSize merge ⌝ }
     ensures { λ r. ⌜ r ≤ 24 ⌝ }
 {
+    if !group::is_valid(merge) {
+        return 8;
+    }
     let mut n = 0;
-    for k in 0..8 {
-        n += slot_size(merge, k);
+    let mut k = 0;
+    while k < 8 {
+        let level = level_at(merge, k);
+        n += words_of(level) as usize;
+        k += 1 << level;
     }
     n
 }

@@ -2,6 +2,7 @@
 mod format;
 mod geometry;
 mod reader;
+mod tables;
 mod writer;
 
 use group::Answer;
@@ -21,11 +22,13 @@ pub fn write(d: usize, w: usize, memory: &[u8], words: &mut [u32]) -> Answer
     if !writer::rows_valid(memory, d, w) {
         return rejected(group::INVALID_MERGE, 0);
     }
-    let count = writer::rows_size(memory, d, w) + 2;
+    let sizes = tables::size_table();
+    let count = writer::rows_size(memory, d, w, &sizes) + 2;
     if words.len() < count {
         return rejected(format::TOO_FEW_WORDS, 0);
     }
-    writer::put_image(words, memory, d, w);
+    let codes = tables::code_table();
+    writer::put_image(words, memory, d, w, &codes);
     accepted(count)
 }
 

@@ -1,21 +1,23 @@
 // Writing an image. Each function that writes takes the position of its first word and gives the position after its last.
 use crate::format;
-use crate::format::group_size;
 use crate::format::word;
 use crate::geometry::log_width;
 use group::Group;
 use row::load;
 ghost use mathlib.Core.Path.{_≡_};
-ghost use mathlib.Core.Bool.{true, false};
+ghost use mathlib.Core.Bool.{true, false, cond, _&&_};
 ghost use mathlib.Core.List.{_∷_, [], _++_, map};
-ghost use Prim.Native.Nat.{_+_, _*_, _/_, _%_, _^_, _<_, _≤_};
+ghost use Prim.Native.Nat.{ℕ, _+_, _*_, _/_, _%_, _^_, _<_, _≤_};
+ghost use lib.Dec.{ltb};
 ghost use lib.ListN.{length, getD, take, drop};
 ghost use lib.Seq.{sets};
+ghost use Rattle.layout.specs.Layout.{valid};
+ghost use Rattle.group.specs.Pack.{mergeCode};
 ghost use Rattle.row.specs.Geometry.{stride};
 ghost use Rattle.row.specs.Rows.{groupAt};
 ghost use Rattle.image.specs.Image as spec;
-ghost use Rattle.image.specs.Image.{layoutKind, countKind, parts, slotWords, groupWords, groupsWords, layoutAt, fourWords, rowWords, rowsWords, image};
-ghost use Rattle.image.specs.Write.{allValid, validRows, slotSize, groupSize};
+ghost use Rattle.image.specs.Image.{layoutKind, countKind, parts, groupWords, groupsWords, layoutAt, fourWords, rowWords, rowsWords, image};
+ghost use Rattle.image.specs.Write.{allValid, validRows, groupSize};
 
 // Whether four bytes are there and all are 0.
 pub fn clear(row: &[u8], at: usize) -> bool
@@ -76,8 +78,8 @@ pub fn rows_valid(memory: &[u8], d: usize, w: usize) -> bool
 }
 
 // The number of words of the counters of four groups, from group g on.
-pub fn groups_size(row: &[u8], w: usize, g: usize) -> usize
-    requires { ⌜ w + g + 4 ≤ length (now row) ⌝ }
+pub fn groups_size(row: &[u8], w: usize, g: usize, sizes: &[u8; 256]) -> usize
+    requires { ⌜ w + g + 4 ≤ length (now row) ⌝ ∗ ⌜ ((m : ℕ) → m < 256 → getD (now sizes) m 0 ≡ groupSize m) ⌝ }
     ensures { λ r. ⌜ r ≡ length (groupsWords 4 g w (now (row .entry))) ⌝ }
     ensures { λ r. ⌜ r ≤ 96 ⌝ }
 {
@@ -86,27 +88,27 @@ pub fn groups_size(row: &[u8], w: usize, g: usize) -> usize
     }
     let mut n = 0;
     for i in 0..4 {
-        n += group_size(row[w + g + i]);
+        n += sizes[row[w + g + i] as usize] as usize;
     }
     n
 }
 
 // The number of words of a row.
-pub fn row_size(row: &[u8], w: usize) -> usize
-    requires { ⌜ w + w / 8 ≤ length (now row) ⌝ ∗ ⌜ w ≤ 65536 ⌝ }
+pub fn row_size(row: &[u8], w: usize, sizes: &[u8; 256]) -> usize
+    requires { ⌜ w + w / 8 ≤ length (now row) ⌝ ∗ ⌜ w ≤ 65536 ⌝ ∗ ⌜ ((m : ℕ) → m < 256 → getD (now sizes) m 0 ≡ groupSize m) ⌝ }
     ensures { λ r. ⌜ r ≡ length (rowWords (w / 32) 0 w (now (row .entry))) ⌝ }
     ensures { λ r. ⌜ r ≤ 97 * 2048 ⌝ }
 {
     let mut n = 0;
     for i in 0..w / 32 {
-        n += 1 + groups_size(row, w, 4 * i);
+        n += 1 + groups_size(row, w, 4 * i, sizes);
     }
     n
 }
 
 // The number of words of d rows.
-pub fn rows_size(memory: &[u8], d: usize, w: usize) -> usize
-    requires { ⌜ d * stride w ≤ length (now memory) ⌝ ∗ ⌜ w ≤ 65536 ⌝ ∗ ⌜ d ≤ 8 ⌝ }
+pub fn rows_size(memory: &[u8], d: usize, w: usize, sizes: &[u8; 256]) -> usize
+    requires { ⌜ d * stride w ≤ length (now memory) ⌝ ∗ ⌜ w ≤ 65536 ⌝ ∗ ⌜ d ≤ 8 ⌝ ∗ ⌜ ((m : ℕ) → m < 256 → getD (now sizes) m 0 ≡ groupSize m) ⌝ }
     ensures { λ r. ⌜ r ≡ length (rowsWords d w (now (memory .entry))) ⌝ }
     ensures { λ r. ⌜ r ≤ 97 * 16384 ⌝ }
 {
@@ -115,7 +117,7 @@ pub fn rows_size(memory: &[u8], d: usize, w: usize) -> usize
     for r in 0..d {
         let a = r * size;
         let e = a + size;
-        n += row_size(&memory[a..e], w);
+        n += row_size(&memory[a..e], w, sizes);
     }
     n
 }
@@ -136,20 +138,6 @@ pub fn put_parts(words: &mut [u32], p: usize, n: u32, value: u64) -> usize
     at
 }
 
-// The words of the counter that starts at a slot, if one does.
-pub fn put_slot(words: &mut [u32], p: usize, g: Group, k: usize) -> usize
-    requires { ⌜ p + slotSize (g .merge) k ≤ length (now words) ⌝ }
-    ensures { λ r. ⌜ r ≡ p + slotSize (g .merge) k ⌝ }
-    ensures { λ _. ⌜ now (words .exit) ≡ sets (now (words .entry)) p (slotWords g k) ⌝ }
-{
-    let level = format::level_at(g.merge, k);
-    if !format::starts(level, k) {
-        return p;
-    }
-    let c = group::counter(g, k);
-    put_parts(words, p, format::words_of(level), c.value)
-}
-
 // The words of a group's counters.
 pub fn put_group(words: &mut [u32], p: usize, g: Group) -> usize
     requires { ⌜ p + groupSize (g .merge) ≤ length (now words) ⌝ }
@@ -157,8 +145,11 @@ pub fn put_group(words: &mut [u32], p: usize, g: Group) -> usize
     ensures { λ _. ⌜ now (words .exit) ≡ sets (now (words .entry)) p (groupWords g) ⌝ }
 {
     let mut at = p;
-    for k in 0..8 {
-        at = put_slot(words, at, g, k);
+    let mut k = 0;
+    while k < 8 {
+        let c = group::counter(g, k);
+        at = put_parts(words, at, format::words_of(c.level), c.value);
+        k += 1 << c.level;
     }
     at
 }
@@ -176,15 +167,35 @@ pub fn put_groups(words: &mut [u32], p: usize, row: &[u8], w: usize, g: usize) -
     at
 }
 
+// The code of the layout of four groups by the code of each, or 0 if one is invalid.
+fn four_code(a: u8, b: u8, c: u8, d: u8) -> u32
+    ensures { λ r. ⌜ r ≡ cond (ltb a 26 && ltb b 26 && ltb c 26 && ltb d 26) (a * 17576 + b * 676 + c * 26 + d) 0 ⌝ }
+{
+    if a < 26 {
+        if b < 26 {
+            if c < 26 {
+                if d < 26 {
+                    return (a as u32) * 17576 + (b as u32) * 676 + (c as u32) * 26 + (d as u32);
+                }
+            }
+        }
+    }
+    0
+}
+
 // The code of the layout of four groups, from group g on.
-pub fn layout_at(row: &[u8], w: usize, g: usize) -> u32
-    requires { ⌜ w + g + 4 ≤ length (now row) ⌝ }
+pub fn layout_at(row: &[u8], w: usize, g: usize, codes: &[u8; 256]) -> u32
+    requires { ⌜ w + g + 4 ≤ length (now row) ⌝ ∗ ⌜ ((m : ℕ) → m < 256 → getD (now codes) m 0 ≡ cond (valid 3 m) (mergeCode m) 26) ⌝ }
     ensures { λ r. ⌜ r ≡ layoutAt w (now (row .entry)) g ⌝ }
     ensures { λ r. ⌜ r < 456976 ⌝ }
 {
     let at = w + g;
-    let a = group::pack(row[at], row[at + 1], row[at + 2], row[at + 3]);
-    a.value as u32
+    four_code(
+        codes[row[at] as usize],
+        codes[row[at + 1] as usize],
+        codes[row[at + 2] as usize],
+        codes[row[at + 3] as usize],
+    )
 }
 
 // The words of n slots that are not merged, from count byte `at` on.
@@ -207,18 +218,32 @@ pub fn put_clear(words: &mut [u32], p: usize, row: &[u8], g: usize)
 }
 
 // The words of 32 slots, from group g on, by group.
-pub fn put_mixed(words: &mut [u32], p: usize, row: &[u8], w: usize, g: usize) -> usize
-    requires { ⌜ 8 * g + 32 ≤ w ⌝ ∗ ⌜ w + g + 4 ≤ length (now row) ⌝ ∗ ⌜ p + length (fourWords w (now row) g) ≤ length (now words) ⌝ }
+pub fn put_mixed(
+    words: &mut [u32],
+    p: usize,
+    row: &[u8],
+    w: usize,
+    g: usize,
+    codes: &[u8; 256],
+) -> usize
+    requires { ⌜ 8 * g + 32 ≤ w ⌝ ∗ ⌜ w + g + 4 ≤ length (now row) ⌝ ∗ ⌜ p + length (fourWords w (now row) g) ≤ length (now words) ⌝ ∗ ⌜ ((m : ℕ) → m < 256 → getD (now codes) m 0 ≡ cond (valid 3 m) (mergeCode m) 26) ⌝ }
     ensures { λ r. ⌜ r ≡ p + length (fourWords w (now (row .entry)) g) ⌝ }
     ensures { λ _. ⌜ now (words .exit) ≡ sets (now (words .entry)) p (fourWords w (now (row .entry)) g) ⌝ }
 {
-    words[p] = word(format::LAYOUT, layout_at(row, w, g));
+    words[p] = word(format::LAYOUT, layout_at(row, w, g, codes));
     put_groups(words, p + 1, row, w, g)
 }
 
 // The words of 32 slots, from group g on.
-pub fn put_four(words: &mut [u32], p: usize, row: &[u8], w: usize, g: usize) -> usize
-    requires { ⌜ 8 * g + 32 ≤ w ⌝ ∗ ⌜ w + g + 4 ≤ length (now row) ⌝ ∗ ⌜ p + length (fourWords w (now row) g) ≤ length (now words) ⌝ }
+pub fn put_four(
+    words: &mut [u32],
+    p: usize,
+    row: &[u8],
+    w: usize,
+    g: usize,
+    codes: &[u8; 256],
+) -> usize
+    requires { ⌜ 8 * g + 32 ≤ w ⌝ ∗ ⌜ w + g + 4 ≤ length (now row) ⌝ ∗ ⌜ p + length (fourWords w (now row) g) ≤ length (now words) ⌝ ∗ ⌜ ((m : ℕ) → m < 256 → getD (now codes) m 0 ≡ cond (valid 3 m) (mergeCode m) 26) ⌝ }
     ensures { λ r. ⌜ r ≡ p + length (fourWords w (now (row .entry)) g) ⌝ }
     ensures { λ _. ⌜ now (words .exit) ≡ sets (now (words .entry)) p (fourWords w (now (row .entry)) g) ⌝ }
 {
@@ -226,25 +251,32 @@ pub fn put_four(words: &mut [u32], p: usize, row: &[u8], w: usize, g: usize) -> 
         put_clear(words, p, row, g);
         return p + 33;
     }
-    put_mixed(words, p, row, w, g)
+    put_mixed(words, p, row, w, g, codes)
 }
 
 // The words of a row.
-pub fn put_row(words: &mut [u32], p: usize, row: &[u8], w: usize) -> usize
-    requires { ⌜ w + w / 8 ≤ length (now row) ⌝ ∗ ⌜ w ≤ 65536 ⌝ ∗ ⌜ p + length (rowWords (w / 32) 0 w (now row)) ≤ length (now words) ⌝ }
+pub fn put_row(words: &mut [u32], p: usize, row: &[u8], w: usize, codes: &[u8; 256]) -> usize
+    requires { ⌜ w + w / 8 ≤ length (now row) ⌝ ∗ ⌜ w ≤ 65536 ⌝ ∗ ⌜ p + length (rowWords (w / 32) 0 w (now row)) ≤ length (now words) ⌝ ∗ ⌜ ((m : ℕ) → m < 256 → getD (now codes) m 0 ≡ cond (valid 3 m) (mergeCode m) 26) ⌝ }
     ensures { λ r. ⌜ r ≡ p + length (rowWords (w / 32) 0 w (now (row .entry))) ⌝ }
     ensures { λ _. ⌜ now (words .exit) ≡ sets (now (words .entry)) p (rowWords (w / 32) 0 w (now (row .entry))) ⌝ }
 {
     let mut at = p;
     for i in 0..w / 32 {
-        at = put_four(words, at, row, w, 4 * i);
+        at = put_four(words, at, row, w, 4 * i, codes);
     }
     at
 }
 
 // The words of d rows.
-pub fn put_rows(words: &mut [u32], p: usize, memory: &[u8], d: usize, w: usize) -> usize
-    requires { ⌜ d * stride w ≤ length (now memory) ⌝ ∗ ⌜ w ≤ 65536 ⌝ ∗ ⌜ p + length (rowsWords d w (now memory)) ≤ length (now words) ⌝ }
+pub fn put_rows(
+    words: &mut [u32],
+    p: usize,
+    memory: &[u8],
+    d: usize,
+    w: usize,
+    codes: &[u8; 256],
+) -> usize
+    requires { ⌜ d * stride w ≤ length (now memory) ⌝ ∗ ⌜ w ≤ 65536 ⌝ ∗ ⌜ p + length (rowsWords d w (now memory)) ≤ length (now words) ⌝ ∗ ⌜ ((m : ℕ) → m < 256 → getD (now codes) m 0 ≡ cond (valid 3 m) (mergeCode m) 26) ⌝ }
     ensures { λ r. ⌜ r ≡ p + length (rowsWords d w (now (memory .entry))) ⌝ }
     ensures { λ _. ⌜ now (words .exit) ≡ sets (now (words .entry)) p (rowsWords d w (now (memory .entry))) ⌝ }
 {
@@ -253,17 +285,17 @@ pub fn put_rows(words: &mut [u32], p: usize, memory: &[u8], d: usize, w: usize) 
     for r in 0..d {
         let a = r * size;
         let e = a + size;
-        at = put_row(words, at, &memory[a..e], w);
+        at = put_row(words, at, &memory[a..e], w, codes);
     }
     at
 }
 
 // The whole image.
-pub fn put_image(words: &mut [u32], memory: &[u8], d: usize, w: usize)
-    requires { ⌜ d * stride w ≤ length (now memory) ⌝ ∗ ⌜ w ≤ 65536 ⌝ ∗ ⌜ d ≤ 8 ⌝ ∗ ⌜ length (image d w (now memory)) ≤ length (now words) ⌝ }
+pub fn put_image(words: &mut [u32], memory: &[u8], d: usize, w: usize, codes: &[u8; 256])
+    requires { ⌜ d * stride w ≤ length (now memory) ⌝ ∗ ⌜ w ≤ 65536 ⌝ ∗ ⌜ d ≤ 8 ⌝ ∗ ⌜ length (image d w (now memory)) ≤ length (now words) ⌝ ∗ ⌜ ((m : ℕ) → m < 256 → getD (now codes) m 0 ≡ cond (valid 3 m) (mergeCode m) 26) ⌝ }
     ensures { λ _. ⌜ now (words .exit) ≡ image d w (now (memory .entry)) ++ drop (length (image d w (now (memory .entry)))) (now (words .entry)) ⌝ }
 {
     words[0] = word(word::HEAD, log_width(w) * 16 + d as u32);
-    let end = put_rows(words, 1, memory, d, w);
+    let end = put_rows(words, 1, memory, d, w, codes);
     words[end] = word(word::END, (end % 268435456) as u32);
 }

@@ -41,12 +41,15 @@ returns-2 c = let a = c .before .before .before .before .before .before .before 
     let e = write-invalid (a .d) (a .w) (a .memory .now) (a .words .now) (s .result) (s .ensures) z v in
     (c .rejected2 .ensures ∙ ap (λ (x : Written). x .answer) (sym e), ap (λ (x : Written). x .words) (sym e))
 
+size-table-requires : tie.Need-size-table-requires
+size-table-requires c κs = search needs
+
 rows-size-requires : tie.Need-rows-size-requires
-rows-size-requires c κs = let a = c .before .before .before .before .before .before .args in
-    let s = c .before .before .before .bad-shape in
-    let z = c .before .before .if1 .left in
+rows-size-requires c κs = let a = c .before .before .before .before .before .before .before .before .args in
+    let s = c .before .before .before .before .before .bad-shape in
+    let z = c .before .before .before .before .if1 .left in
     let k = sound-call (a .d) (a .w) (length (a .memory .now)) (sym (s .ensures) ∙ z) in
-    (omega arith, (omega arith, omega arith))
+    (omega arith, (omega arith, (omega arith, c .before .size-table .ensures)))
 
 add-count : tie.Need-add-count
 add-count c = search needs
@@ -55,19 +58,22 @@ rejected-requires-3 : tie.Need-rejected-requires-3
 rejected-requires-3 c κs = search needs
 
 returns-3 : tie.Need-returns-3
-returns-3 c = let a = c .before .before .before .before .before .before .before .before .before .args in
-    let s = c .before .before .before .before .before .before .bad-shape in
-    let z = c .before .before .before .before .before .if1 .left in
-    let v = sym (c .before .before .before .before .rows-valid .ensures) ∙ not-false _ (c .before .before .before .if2 .left) in
+returns-3 c = let a = c .before .before .before .before .before .before .before .before .before .before .before .args in
+    let s = c .before .before .before .before .before .before .before .before .bad-shape in
+    let z = c .before .before .before .before .before .before .before .if1 .left in
+    let v = sym (c .before .before .before .before .before .before .rows-valid .ensures) ∙ not-false _ (c .before .before .before .before .before .if2 .left) in
     let e = write-short (a .d) (a .w) (a .memory .now) (a .words .now) (s .result) (s .ensures) z v (omega (arith, image-length (a .d) (a .w) (a .memory .now), c .before .before .rows-size .ensures .0)) in
     (c .rejected3 .ensures ∙ ap (λ (x : Written). x .answer) (sym e), ap (λ (x : Written). x .words) (sym e))
 
+code-table-requires : tie.Need-code-table-requires
+code-table-requires c κs = search needs
+
 put-image-requires : tie.Need-put-image-requires
-put-image-requires c κs = let a = c .before .before .before .before .before .before .before .before .before .args in
-    let s = c .before .before .before .before .before .before .bad-shape in
-    let z = c .before .before .before .before .before .if1 .left in
+put-image-requires c κs = let a = c .before .before .before .before .before .before .before .before .before .before .before .before .before .args in
+    let s = c .before .before .before .before .before .before .before .before .before .before .bad-shape in
+    let z = c .before .before .before .before .before .before .before .before .before .if1 .left in
     let k = sound-call (a .d) (a .w) (length (a .memory .now)) (sym (s .ensures) ∙ z) in
-    (omega arith, (omega arith, (omega arith, omega (arith, image-length (a .d) (a .w) (a .memory .now), c .before .before .rows-size .ensures .0))))
+    (omega arith, (omega arith, (omega arith, (omega (arith, image-length (a .d) (a .w) (a .memory .now), c .before .before .before .before .rows-size .ensures .0), c .before .before .code-table .ensures))))
 
 accepted-requires : tie.Need-accepted-requires
 accepted-requires c κs = search needs
@@ -76,11 +82,11 @@ same-length : tie.Need-same-length
 same-length c = search needs
 
 returns-4 : tie.Need-returns-4
-returns-4 c = let a = c .before .before .before .before .before .before .before .before .before .before .before .before .before .args in
-    let s = c .before .before .before .before .before .before .before .before .before .before .bad-shape in
-    let z = c .before .before .before .before .before .before .before .before .before .if1 .left in
-    let v = sym (c .before .before .before .before .before .before .before .before .rows-valid .ensures) ∙ not-false _ (c .before .before .before .before .before .before .before .if2 .left) in
-    let n : c .before .before .before .before .before .before .rows-size .result + 2 ≡ length (image (a .d) (a .w) (a .memory .now)) = omega (arith, image-length (a .d) (a .w) (a .memory .now), c .before .before .before .before .before .before .rows-size .ensures .0) in
+returns-4 c = let a = c .before .before .before .before .before .before .before .before .before .before .before .before .before .before .before .before .before .args in
+    let s = c .before .before .before .before .before .before .before .before .before .before .before .before .before .before .bad-shape in
+    let z = c .before .before .before .before .before .before .before .before .before .before .before .before .before .if1 .left in
+    let v = sym (c .before .before .before .before .before .before .before .before .before .before .before .before .rows-valid .ensures) ∙ not-false _ (c .before .before .before .before .before .before .before .before .before .before .before .if2 .left) in
+    let n : c .before .before .before .before .before .before .before .before .rows-size .result + 2 ≡ length (image (a .d) (a .w) (a .memory .now)) = omega (arith, image-length (a .d) (a .w) (a .memory .now), c .before .before .before .before .before .before .before .before .rows-size .ensures .0) in
     let e = write-done (a .d) (a .w) (a .memory .now) (a .words .now) (s .result) (s .ensures) z v (omega (arith, n)) in
     (c .accepted .ensures ∙ ap accepted n ∙ ap (λ (x : Written). x .answer) (sym e), c .before .before .before .put-image .ensures ∙ ap (λ (x : Written). x .words) (sym e))
 
@@ -94,10 +100,12 @@ write-spec =
     rows-valid-requires
     rejected-requires-2
     returns-2
+    size-table-requires
     rows-size-requires
     add-count
     rejected-requires-3
     returns-3
+    code-table-requires
     put-image-requires
     accepted-requires
     same-length

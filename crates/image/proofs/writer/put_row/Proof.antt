@@ -12,10 +12,10 @@ use Rattle.image.proofs.writer.put_row.Statement.{statement}
 use Rattle.image.proofs.writer.put_row.Tie as tie
 
 abbrev Inv-loop : tie.InvT-loop
-Inv-loop words₀ p row w at₀ i₀ i-end words at i = (i ≤ i-end) × (i-end ≡ w / 32) × (at + length (rowWords (w / 32 - i) (4 * i) w row) ≡ p + length (rowWords (w / 32) 0 w row)) × (length words ≡ length words₀) × (sets words at (rowWords (w / 32 - i) (4 * i) w row) ≡ sets words₀ p (rowWords (w / 32) 0 w row))
+Inv-loop words₀ p row w codes at₀ i₀ i-end words at i = (i ≤ i-end) × (i-end ≡ w / 32) × (at + length (rowWords (w / 32 - i) (4 * i) w row) ≡ p + length (rowWords (w / 32) 0 w row)) × (length words ≡ length words₀) × (sets words at (rowWords (w / 32 - i) (4 * i) w row) ≡ sets words₀ p (rowWords (w / 32) 0 w row))
 
 abbrev μ-loop : tie.MeasureT-loop
-μ-loop words₀ p row w at₀ i₀ i-end words at i = i-end - i
+μ-loop words₀ p row w codes at₀ i₀ i-end words at i = i-end - i
 
 loop-holds : tie.Need-loop-holds Inv-loop μ-loop
 loop-holds c = let a = c .before .before .args in
@@ -29,7 +29,7 @@ put-four-requires : tie.Need-put-four-requires Inv-loop μ-loop
 put-four-requires c κs = let l = c .before .before .loop in
     let a = c .before .before .before .before .before .args in
     let z = row-length-step (a .w / 32) (l .i) (a .w) (a .row .now) (omega arith) in
-    (omega arith, (omega arith, omega (arith, z, four-length (a .w) (a .row .now) (4 * l .i))))
+    (omega arith, (omega arith, (omega (arith, z, four-length (a .w) (a .row .now) (4 * l .i)), c .before .before .before .before .before .pre .1 .1 .1)))
 
 add-i : tie.Need-add-i Inv-loop μ-loop
 add-i c = search needs

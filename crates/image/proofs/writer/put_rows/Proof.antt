@@ -13,10 +13,10 @@ use Rattle.image.proofs.writer.put_rows.Statement.{statement}
 use Rattle.image.proofs.writer.put_rows.Tie as tie
 
 abbrev Inv-loop : tie.InvT-loop
-Inv-loop words₀ p memory d w size at₀ r₀ words at r = (r ≤ d) × (size ≡ stride w) × (at + length (rowsWords (d - r) w (drop (r * stride w) memory)) ≡ p + length (rowsWords d w memory)) × (length words ≡ length words₀) × (sets words at (rowsWords (d - r) w (drop (r * stride w) memory)) ≡ sets words₀ p (rowsWords d w memory))
+Inv-loop words₀ p memory d w codes size at₀ r₀ words at r = (r ≤ d) × (size ≡ stride w) × (at + length (rowsWords (d - r) w (drop (r * stride w) memory)) ≡ p + length (rowsWords d w memory)) × (length words ≡ length words₀) × (sets words at (rowsWords (d - r) w (drop (r * stride w) memory)) ≡ sets words₀ p (rowsWords d w memory))
 
 abbrev μ-loop : tie.MeasureT-loop
-μ-loop words₀ p memory d w size at₀ r₀ words at r = d - r
+μ-loop words₀ p memory d w codes size at₀ r₀ words at r = d - r
 
 mul-size : tie.Need-mul-size Inv-loop μ-loop
 mul-size c = omega arith
@@ -53,7 +53,7 @@ put-row-requires c κs = let l = c .before .before .before .loop in
       omega (arith, row-fits (c .before .before)),
       (
         omega arith,
-        rw (row-part (a .memory .now) (l .r) (a .w) _ (l .inv .1)) (omega (arith, rows-length-step (a .memory .now) (a .d) (l .r) (a .w) (omega arith))),
+        (rw (row-part (a .memory .now) (l .r) (a .w) _ (l .inv .1)) (omega (arith, rows-length-step (a .memory .now) (a .d) (l .r) (a .w) (omega arith))), c .before .before .before .before .before .before .pre .1 .1 .1),
       ),
     )
 

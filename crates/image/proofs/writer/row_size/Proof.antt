@@ -10,10 +10,10 @@ use Rattle.image.proofs.writer.row_size.Statement.{statement}
 use Rattle.image.proofs.writer.row_size.Tie as tie
 
 abbrev Inv-loop : tie.InvT-loop
-Inv-loop row w n₀ i₀ i-end n i = (i ≤ i-end) × (i-end ≡ w / 32) × (n ≤ 97 * i) × (n + length (rowWords (w / 32 - i) (4 * i) w row) ≡ length (rowWords (w / 32) 0 w row))
+Inv-loop row w sizes n₀ i₀ i-end n i = (i ≤ i-end) × (i-end ≡ w / 32) × (n ≤ 97 * i) × (n + length (rowWords (w / 32 - i) (4 * i) w row) ≡ length (rowWords (w / 32) 0 w row))
 
 abbrev μ-loop : tie.MeasureT-loop
-μ-loop row w n₀ i₀ i-end n i = i-end - i
+μ-loop row w sizes n₀ i₀ i-end n i = i-end - i
 
 loop-holds : tie.Need-loop-holds Inv-loop μ-loop
 loop-holds c = let a = c .before .args in

@@ -12,10 +12,10 @@ use Rattle.image.proofs.writer.rows_size.Statement.{statement}
 use Rattle.image.proofs.writer.rows_size.Tie as tie
 
 abbrev Inv-loop : tie.InvT-loop
-Inv-loop memory d w size n₀ r₀ n r = (r ≤ d) × (size ≡ stride w) × (n ≤ 198656 * r) × (n + length (rowsWords (d - r) w (drop (r * stride w) memory)) ≡ length (rowsWords d w memory))
+Inv-loop memory d w sizes size n₀ r₀ n r = (r ≤ d) × (size ≡ stride w) × (n ≤ 198656 * r) × (n + length (rowsWords (d - r) w (drop (r * stride w) memory)) ≡ length (rowsWords d w memory))
 
 abbrev μ-loop : tie.MeasureT-loop
-μ-loop memory d w size n₀ r₀ n r = d - r
+μ-loop memory d w sizes size n₀ r₀ n r = d - r
 
 mul-size : tie.Need-mul-size Inv-loop μ-loop
 mul-size c = omega arith
@@ -46,7 +46,7 @@ part-row-size-end : tie.Need-part-row-size-end Inv-loop μ-loop
 part-row-size-end c = omega (arith, row-fits c)
 
 row-size-requires : tie.Need-row-size-requires Inv-loop μ-loop
-row-size-requires c κs = omega (arith, row-fits (c .before))
+row-size-requires c κs = (omega (arith, row-fits (c .before)), (omega arith, c .before .before .before .before .pre .1 .1 .1))
 
 add-n : tie.Need-add-n Inv-loop μ-loop
 add-n c = search needs

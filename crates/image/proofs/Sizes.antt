@@ -1,0 +1,114 @@
+-- What a merge byte alone says of a group: the levels of its slots, the number of its words and its layout code; and tables of these.
+use mathlib.Core.Path.{_≡_, refl, sym, ap, _∙_}
+use mathlib.Core.Bool.{Bool, true, false, cond, _&&_}
+use mathlib.Core.List.{List}
+use Prim.Native.Nat.{ℕ, zero, suc, _+_, _*_, _/_, _%_, _^_, _≤_, _<_}
+use native.Mathlib.Nat.{zero-mod, mod-one}
+use native.Mathlib.Omega.{arith}
+use borrow.Author.Tests.{eq-eqb, lt-ltb}
+use lib.Dec.{ltb}
+use lib.ListN.{length, getD, set, replicate}
+use lib.Pow.{pow-mono}
+use lib.Seq.{getD-set-same, getD-set-other}
+use Rattle.layout.specs.Layout.{Layout, valid}
+use Rattle.block.specs.Block.{counterAt}
+use Rattle.block.proofs.Slots.{levelOf, level-is}
+use Rattle.group.specs.declared.Group.{Group}
+use Rattle.group.specs.Group.{decode, read, reading}
+use Rattle.group.specs.Status.{invalidMerge, accepted, rejected}
+use Rattle.group.specs.Pack.{mergeCode, fourCode, packed}
+use Rattle.group.proofs.Changing.{shape-decode}
+use Rattle.group.proofs.Packing.{code-below}
+use Rattle.row.proofs.Lists.{range-more}
+use Rattle.image.specs.Image.{wordsOf, levelAt, isFirst}
+use Rattle.image.specs.Write.{slotSize, slotsSize, groupSize}
+use Rattle.image.proofs.Laws.{one-shl, read-level-le}
+
+-- the level that is read of a slot depends on the merge byte alone
+pub read-level : (g : Group) (k : ℕ) → read g k .level ≡ levelAt (g .merge) k
+unfolding levelAt read reading
+read-level g k = go (valid 3 (g .merge))
+  where
+    z : Group
+    z = record { counts = replicate 8 0; merge = g .merge }
+
+    go : (b : Bool)
+        → cond b (reading (counterAt (decode g) (k % 8))) (record { status = invalidMerge; value = 0; level = 0 }) .level
+        ≡ cond b (reading (counterAt (decode z) (k % 8))) (record { status = invalidMerge; value = 0; level = 0 }) .level
+    go true =
+        level-is (decode g) (k % 8) ∙ ap (λ (L : Layout 3). levelOf L (k % 8)) (shape-decode g ∙ sym (shape-decode z)) ∙ sym (level-is (decode z) (k % 8))
+    go false = refl
+
+-- slot 0 starts a counter
+pub first-zero : (m : ℕ) → isFirst m 0 ≡ true
+unfolding isFirst
+first-zero m = eq-eqb (0 % 2 ^ levelAt m 0) 0 (zero-mod (2 ^ levelAt m 0))
+
+pub level-at-le : (m k : ℕ) → levelAt m k ≤ 3
+unfolding levelAt
+level-at-le m k = read-level-le (record { counts = replicate 8 0; merge = m }) k
+
+-- the slot behind a counter, as the code finds it
+pub behind-is : (m k level : ℕ) → level ≡ levelAt m k → k + 1 * 2 ^ level % 2 ^ 64 ≡ k + 2 ^ levelAt m k
+behind-is m k level e = rw e (ap (λ (n : ℕ). k + n) (one-shl (levelAt m k) (omega (arith, level-at-le m k))))
+
+-- every slot of an invalid group is a counter of its own
+pub invalid-level : (m k : ℕ) → valid 3 m ≡ false → levelAt m k ≡ 0
+unfolding levelAt read
+invalid-level m k e = rw (levelAt, read, e)
+
+invalid-sizes : (n k m : ℕ) → valid 3 m ≡ false → slotsSize n k m ≡ n
+unfolding slotsSize slotSize isFirst wordsOf
+invalid-sizes zero k m e = refl
+invalid-sizes (suc n) k m e = rw (invalid-level m k e, eq-eqb (k % 1) 0 (mod-one k), invalid-sizes n (k + 1) m e) (omega arith)
+
+pub invalid-size : (m : ℕ) → valid 3 m ≡ false → groupSize m ≡ 8
+unfolding groupSize
+invalid-size m e = invalid-sizes 8 0 m e
+
+-- a counter has at most three words, and a group eight counters
+slot-size-le : (m k : ℕ) → slotSize m k ≤ 3
+unfolding slotSize wordsOf
+slot-size-le m k = go (isFirst m k)
+  where
+    go : (b : Bool) → cond b ((8 * 2 ^ levelAt m k + 23) / 24) 0 ≤ 3
+    go true = omega (arith, pow-mono {i = levelAt m k} {j = 3} (level-at-le m k))
+    go false = omega arith
+
+slots-size-le : (n k m : ℕ) → slotsSize n k m ≤ 3 * n
+unfolding slotsSize
+slots-size-le zero k m = omega arith
+slots-size-le (suc n) k m = omega (arith, slot-size-le m k, slots-size-le n (k + 1) m)
+
+pub group-size-le : (m : ℕ) → groupSize m ≤ 24
+unfolding groupSize
+group-size-le m = slots-size-le 8 0 m
+
+-- a table filled from the front: one entry more
+pub table-more : (f : ℕ → ℕ) (t : List ℕ) (i x : ℕ) → i < length t → x ≡ f i → ((k : ℕ) → k < i → getD t k 0 ≡ f k)
+    → (k : ℕ) → k < i + 1 → getD (set t i x) k 0 ≡ f k
+table-more f t i x h e p k l =
+    range-more (λ (k : ℕ). getD (set t i x) k 0 ≡ f k) 0 i
+    (λ k a b. getD-set-other t i k x 0 (λ z. omega arith) ∙ p k b)
+    (getD-set-same t i x 0 h ∙ e) k (omega arith) l
+
+-- the code of a layout of four groups by the codes of each
+abbrev pub codeOf : ℕ → ℕ
+codeOf m = cond (valid 3 m) (mergeCode m) 26
+
+pub packed-by : (a b c d : ℕ)
+    → packed a b c d .value
+    ≡ cond (ltb (codeOf a) 26 && ltb (codeOf b) 26 && ltb (codeOf c) 26 && ltb (codeOf d) 26) (codeOf a * 17576 + codeOf b * 676 + codeOf c * 26 + codeOf d) 0
+unfolding packed fourCode
+packed-by a b c d =
+    go (mergeCode a) (mergeCode b) (mergeCode c) (mergeCode d) (code-below a) (code-below b) (code-below c) (code-below d) (valid 3 a) (valid 3 b) (valid 3 c) (valid 3 d)
+  where
+    go : (w x y z : ℕ) → w < 26 → x < 26 → y < 26 → z < 26 → (p q r s : Bool)
+        → cond (p && q && r && s) (accepted (w * 17576 + x * 676 + y * 26 + z)) (rejected invalidMerge) .value
+        ≡ cond (ltb (cond p w 26) 26 && ltb (cond q x 26) 26 && ltb (cond r y 26) 26 && ltb (cond s z 26) 26)
+        (cond p w 26 * 17576 + cond q x 26 * 676 + cond r y 26 * 26 + cond s z 26) 0
+    go w x y z hw hx hy hz false q r s = refl
+    go w x y z hw hx hy hz true false r s = rw (lt-ltb w 26 hw)
+    go w x y z hw hx hy hz true true false s = rw (lt-ltb w 26 hw, lt-ltb x 26 hx)
+    go w x y z hw hx hy hz true true true false = rw (lt-ltb w 26 hw, lt-ltb x 26 hx, lt-ltb y 26 hy)
+    go w x y z hw hx hy hz true true true true = rw (lt-ltb w 26 hw, lt-ltb x 26 hx, lt-ltb y 26 hy, lt-ltb z 26 hz)
