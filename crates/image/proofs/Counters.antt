@@ -1,6 +1,6 @@
 -- The counters of a group in slot order: from the first slot of one counter on, its other slots start none, and the next counter starts
 -- behind them.
-use mathlib.Core.Path.{_≡_, refl, sym, ap, _∙_}
+use mathlib.Core.Path.{_≡_, sym, ap, _∙_}
 use mathlib.Core.Bool.{true, false, cond}
 use mathlib.Core.List.{List, _++_}
 use Prim.Native.Nat.{ℕ, zero, suc, _+_, _-_, _*_, _/_, _%_, _^_, _≤_, _<_}
@@ -16,9 +16,9 @@ use Rattle.block.specs.Block.{counterAt}
 use Rattle.block.proofs.Slots.{counter-in, counter-slots, same-before}
 use Rattle.group.specs.declared.Group.{Group}
 use Rattle.group.specs.Group.{decode}
-use Rattle.group.proofs.Changing.{Good, zero-good}
+use Rattle.group.proofs.Changing.{zero-good}
 use Rattle.word.specs.declared.Step.{Step}
-use Rattle.word.specs.Word.{go, next}
+use Rattle.word.specs.Word.{next}
 use Rattle.image.specs.Image.{levelAt, isFirst, slotWords, slotsWords}
 use Rattle.image.specs.Write.{slotSize, slotsSize}
 use Rattle.image.specs.Read.{checkSlot, checkSlots, readSlot, readSlots}

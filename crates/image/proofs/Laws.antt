@@ -4,7 +4,7 @@ use mathlib.Core.Path.{_≡_, refl, sym, ap, _∙_}
 use mathlib.Core.Bool.{Bool, true, false, cond, _&&_, _||_, true≢false}
 use mathlib.Core.List.{List, [], _∷_, _++_, append-assoc}
 use Prim.Native.Nat.{ℕ, zero, suc, _+_, _-_, _*_, _/_, _%_, _^_, _≤_, _<_}
-use native.Mathlib.Nat.{mod-eq-of-lt, one-mul, mul-le-mul-right, suc-mul, add-mul, zero-add, add-assoc, add-zero, add-suc, suc-add, mul-one, mul-comm, mul-assoc, pow-suc}
+use native.Mathlib.Nat.{mod-eq-of-lt, one-mul, mul-le-mul-right, suc-mul, add-mul, add-assoc, add-zero, add-suc, suc-add, mul-one, mul-comm, mul-assoc, pow-suc}
 use native.Mathlib.Numerals.{add-one, sub-one}
 use native.Mathlib.Omega.{arith}
 use borrow.Rule.Slice.PartMut.{putMid, post-is}
@@ -12,7 +12,7 @@ use borrow.Author.Tests.{eqb-true}
 use lib.Dec.{eqb, ltb}
 use lib.ListN.{length, getD, take, drop, set, length-append, drop-of-length-le, take-append-drop}
 use lib.Pow.{pow-mono, pow-pos}
-use lib.Seq.{sets, drop-cons, drop-drop, paste-suc, length-take-le, take-at, drop-at}
+use lib.Seq.{sets, drop-cons, drop-drop, length-take-le, take-at, drop-at}
 use Rattle.layout.specs.Layout.{valid}
 use Rattle.layout.proofs.Laws.{or-cases}
 use Rattle.block.specs.Block.{word as block-word, counterAt}
@@ -56,11 +56,6 @@ log-step (suc n) k p w h = rw (sub-one (suc n))
 pub log-none : (n k p w : ℕ) → n ≡ 0 → logFrom n k p w ≡ k
 unfolding logFrom
 log-none n k p w e = rw e
-
--- the code's test of a first slot
-pub first-is : (m k level : ℕ) (b : Bool) → level ≡ levelAt m k → b ≡ eqb (k % 2 ^ level) 0 → isFirst m k ≡ b
-unfolding isFirst
-first-is m k level b e f = ap (λ (l : ℕ). eqb (k % 2 ^ l) 0) (sym e) ∙ sym f
 
 -- sizes
 pub size-first : (m k level n : ℕ) → level ≡ levelAt m k → isFirst m k ≡ true → n ≡ wordsOf level → n ≡ slotSize m k
@@ -122,12 +117,6 @@ check-parts-step (suc n) words p limit h = rw (sub-one (suc n))
 pub check-parts-none : (n : ℕ) (words : List ℕ) (p limit : ℕ) → n ≡ 0 → checkParts n words p limit ≡ record { status = 0; position = p }
 unfolding checkParts
 check-parts-none n words p limit e = rw e
-
--- a turn of a copy from the front
-pub copy-more : (s d : List ℕ) (i : ℕ) → i < length s → i < length d → set (take i s ++ drop i d) i (getD s i 0) ≡ take (i + 1) s ++ drop (i + 1) d
-copy-more s d i h k =
-    let k0 : 0 + i < length d = omega arith in
-    simp (zero-add, add-one) (simp zero-add at (paste-suc d 0 s i 0 k0 h))
 
 -- the layout code of four groups, as the code reads their merge bytes
 pub layout-is : (w : ℕ) (row : List ℕ) (g : ℕ) → packed (getD row (w + g) 0) (getD row (w + g + 1) 0) (getD row (w + g + 2) 0) (getD row (w + g + 3) 0) .value ≡ layoutAt w row g

@@ -1,23 +1,12 @@
 -- The table of the merge bytes of one group by their layout codes.
-use mathlib.Core.Path.{_≡_, _∙_}
+use mathlib.Core.Path.{_≡_}
 use mathlib.Core.List.{List, [], _∷_}
-use Prim.Native.Nat.{ℕ, _+_, _/_, _%_, _≤_, _<_}
+use Prim.Native.Nat.{ℕ, _/_, _%_, _≤_, _<_}
 use native.Mathlib.Nat.{mod-eq-of-lt}
-use native.Mathlib.Decide.{decLt}
 use native.Mathlib.Omega.{arith}
 use borrow.Author.Tests.{lt-ltb, le-ltb}
-use lib.ListN.{length, getD, set}
-use lib.Seq.{getD-set-same, getD-set-other}
+use lib.ListN.{getD}
 use Rattle.group.specs.Pack.{codeMerge, fourMerges, unpacked}
-
--- a table filled from the front: one element more
-pub filled-more : (f : ℕ → ℕ) (l : List ℕ) (i x : ℕ) → i < length l → x ≡ f i
-    → ((k : ℕ) → k < i → getD l k 0 ≡ f k) → (k : ℕ) → k < i + 1 → getD (set l i x) k 0 ≡ f k
-filled-more f l i x h e p k m =
-    elim (decLt k i) [
-      | yes b ↦ getD-set-other l i k x 0 (λ q. omega arith) ∙ p k b
-      | no b ↦ let q : k ≡ i = omega arith in rw q (getD-set-same l i x 0 h ∙ e)
-    ]
 
 -- the last merge byte of a code below 26
 pub last-merge : (c : ℕ) → c < 26 → getD (unpacked c .merges) 3 0 ≡ codeMerge c

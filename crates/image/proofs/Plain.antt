@@ -63,10 +63,6 @@ plain-groups (suc n) g w row b h z =
     let e : 8 * (g + 1) ≡ 8 * g + 8 = omega arith in
     rw (m, r, s, take-add 8 (8 * n) (drop (8 * g) row), drop-drop 8 (8 * g) row, e) (ap (λ (l : List ℕ). l ++ map (word countKind) (take (8 * n) (drop (8 * g + 8) row))) (plain-words xs o) ∙ sym (map-append (word countKind) xs (take (8 * n) (drop (8 * g + 8) row))))
 
--- four merge bytes that are 0
-pub or-none : (a b : ℕ) → bitOr a b ≡ 0 → (a ≡ 0) × (b ≡ 0)
-or-none a b e = (omega (arith, or-add-and a b, and-le-l a b, and-le-r a b), omega (arith, or-add-and a b, and-le-l a b, and-le-r a b))
-
 -- words and count bytes one by one
 pub counts-step : (f : ℕ → ℕ) (n i at : ℕ) (row : List ℕ) → i < n → at + n ≤ length row
     → map f (take (n - i) (drop (at + i) row)) ≡ f (getD row (at + i) 0) ∷ map f (take (n - (i + 1)) (drop (at + (i + 1)) row))

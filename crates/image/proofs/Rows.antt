@@ -8,7 +8,7 @@ use native.Mathlib.Decide.{decLt}
 use native.Mathlib.Omega.{arith}
 use lib.Dec.{eqb}
 use borrow.Author.Tests.{eqb-false}
-use lib.ListN.{length, getD, take, drop, set, length-append, length-take, length-drop, length-set, List·getD-append, List·getD-eq-default, take-append-drop}
+use lib.ListN.{length, getD, take, drop, set, length-append, length-drop, length-set, List·getD-append, take-append-drop}
 use lib.Seq.{getD-take, getD-drop, getD-append-add, getD-set-same, getD-set-other, ext-getD, length-take-le}
 use Rattle.layout.specs.Layout.{valid}
 use Rattle.group.specs.declared.Group.{Group}
@@ -19,6 +19,7 @@ use Rattle.group.proofs.Packing.{unpack-pack}
 use Rattle.group.proofs.Changing.{Good}
 use Rattle.row.specs.Geometry.{stride}
 use Rattle.row.specs.Rows.{groupAt, withGroup}
+use Rattle.row.proofs.Unmerged.{bytes-drop, bytes-take}
 use Rattle.word.specs.declared.Step.{Step}
 use Rattle.word.specs.Word.{go, next, payload}
 use Rattle.image.specs.Image.{word, layoutKind, layoutAt, groupWords, groupsWords, fourWords, rowWords, rowsWords}
@@ -232,15 +233,6 @@ unfolding allValid
 valid-at [] i v h = absurd (omega arith)
 valid-at (m ∷ ms) zero v h = both (valid 3 m) (allValid ms) v .0
 valid-at (m ∷ ms) (suc i) v h = valid-at ms i (both (valid 3 m) (allValid ms) v .1) (omega arith)
-
-pub bytes-drop : (n : ℕ) (xs : List ℕ) → Bytes xs → Bytes (drop n xs)
-bytes-drop n xs h = λ i. rw (getD-drop n xs i 0) (h (n + i))
-
-pub bytes-take : (n : ℕ) (xs : List ℕ) → Bytes xs → Bytes (take n xs)
-bytes-take n xs h = λ i. elim (decLt i n) [
-  | yes l ↦ rw (getD-take n xs i 0 l) (h i)
-  | no l ↦ rw (List·getD-eq-default (take n xs) 0 {n = i} (omega (arith, length-take n xs))) (omega arith)
-]
 
 sound-row : (w : ℕ) (row : List ℕ) → w % 32 ≡ 0 → length row ≡ stride w → Bytes row → allValid (drop w row) ≡ true → Sound w row
 unfolding stride groupAt

@@ -1,15 +1,13 @@
 -- What a merge byte alone says of a group: the levels of its slots, the number of its words and its layout code; and tables of these.
 use mathlib.Core.Path.{_≡_, refl, sym, ap, _∙_}
 use mathlib.Core.Bool.{Bool, true, false, cond, _&&_}
-use mathlib.Core.List.{List}
 use Prim.Native.Nat.{ℕ, zero, suc, _+_, _*_, _/_, _%_, _^_, _≤_, _<_}
 use native.Mathlib.Nat.{zero-mod, mod-one}
 use native.Mathlib.Omega.{arith}
 use borrow.Author.Tests.{eq-eqb, lt-ltb}
 use lib.Dec.{ltb}
-use lib.ListN.{length, getD, set, replicate}
+use lib.ListN.{replicate}
 use lib.Pow.{pow-mono}
-use lib.Seq.{getD-set-same, getD-set-other}
 use Rattle.layout.specs.Layout.{Layout, valid}
 use Rattle.block.specs.Block.{counterAt}
 use Rattle.block.proofs.Slots.{levelOf, level-is}
@@ -19,7 +17,6 @@ use Rattle.group.specs.Status.{invalidMerge, accepted, rejected}
 use Rattle.group.specs.Pack.{mergeCode, fourCode, packed}
 use Rattle.group.proofs.Changing.{shape-decode}
 use Rattle.group.proofs.Packing.{code-below}
-use Rattle.row.proofs.Lists.{range-more}
 use Rattle.image.specs.Image.{wordsOf, levelAt, isFirst}
 use Rattle.image.specs.Write.{slotSize, slotsSize, groupSize}
 use Rattle.image.proofs.Laws.{one-shl, read-level-le}
@@ -83,14 +80,6 @@ slots-size-le (suc n) k m = omega (arith, slot-size-le m k, slots-size-le n (k +
 pub group-size-le : (m : ℕ) → groupSize m ≤ 24
 unfolding groupSize
 group-size-le m = slots-size-le 8 0 m
-
--- a table filled from the front: one entry more
-pub table-more : (f : ℕ → ℕ) (t : List ℕ) (i x : ℕ) → i < length t → x ≡ f i → ((k : ℕ) → k < i → getD t k 0 ≡ f k)
-    → (k : ℕ) → k < i + 1 → getD (set t i x) k 0 ≡ f k
-table-more f t i x h e p k l =
-    range-more (λ (k : ℕ). getD (set t i x) k 0 ≡ f k) 0 i
-    (λ k a b. getD-set-other t i k x 0 (λ z. omega arith) ∙ p k b)
-    (getD-set-same t i x 0 h ∙ e) k (omega arith) l
 
 -- the code of a layout of four groups by the codes of each
 abbrev pub codeOf : ℕ → ℕ

@@ -3,9 +3,7 @@ use mathlib.Core.Path.{_≡_, sym, ap, _∙_}
 use mathlib.Core.Bool.{true}
 use mathlib.Core.List.{List}
 use Prim.Native.Nat.{ℕ, _+_, _-_, _*_, _%_, _^_, _≤_, _<_}
-use native.Mathlib.Nat.{zero-mod}
 use native.Mathlib.Omega.{arith}
-use borrow.Author.Tests.{eq-eqb}
 use lib.Pow.{pow-pos, pow-mono}
 use Rattle.group.specs.declared.Group.{Group}
 use Rattle.group.specs.Group.{changed}
@@ -13,6 +11,7 @@ use Rattle.image.specs.Image.{wordsOf, levelAt, isFirst}
 use Rattle.image.specs.Write.{slotSize}
 use Rattle.image.specs.Read.{valueFrom, readSlot, readSlots}
 use Rattle.image.proofs.Laws.{one-shl, size-first, read-slot-first, read-slot-merge}
+use Rattle.image.proofs.Sizes.{first-zero}
 use Rattle.image.proofs.Counters.{counter-end, next-first, reads-turn}
 
 -- a slot where the walk stands: the first of a counter, or the end of the group
@@ -20,11 +19,7 @@ abbrev pub Stands : ℕ → ℕ → Type 0
 Stands m k = (k ≤ 8) × (k < 8 → isFirst m k ≡ true)
 
 pub stands-first : (m : ℕ) → Stands m 0
-unfolding isFirst
-stands-first m = (omega arith, λ h. eq-eqb (0 % 2 ^ levelAt m 0) 0 (zero-mod (2 ^ levelAt m 0)))
-
-pub step-is : (m k level : ℕ) → level ≡ levelAt m k → level ≤ 3 → k + 1 * 2 ^ level % 2 ^ 64 ≡ k + 2 ^ levelAt m k
-step-is m k level e h = ap (λ (n : ℕ). k + n) (one-shl level (omega arith) ∙ ap (λ (l : ℕ). 2 ^ l) e)
+stands-first m = (omega arith, λ h. first-zero m)
 
 pub step-small : (level : ℕ) → level ≤ 3 → (0 < 1 * 2 ^ level % 2 ^ 64) × (1 * 2 ^ level % 2 ^ 64 ≤ 8)
 step-small level h = rw (one-shl level (omega arith)) (pow-pos level, pow-mono {i = level} {j = 3} h)

@@ -1,11 +1,10 @@
 // Words, and the counters that they hold.
 use group::Group;
 ghost use mathlib.Core.Path.{_≡_};
-ghost use Prim.Native.Nat.{_+_, _*_, _%_, _^_, _<_, _≤_};
-ghost use lib.Dec.{eqb};
+ghost use Prim.Native.Nat.{_+_, _*_, _^_, _<_, _≤_};
 ghost use Rattle.image.specs.Image as spec;
 ghost use Rattle.image.specs.Image.{countKind, wordsOf, levelAt};
-ghost use Rattle.image.specs.Write.{slotSize, groupSize};
+ghost use Rattle.image.specs.Write.{groupSize};
 ghost use Rattle.image.specs.Read.{firstBits};
 
 // The kinds of words.
@@ -47,14 +46,6 @@ pub fn level_at(merge: u8, k: usize) -> u32
     r.level
 }
 
-// Whether a counter of this level that has slot k starts there.
-pub fn starts(level: u32, k: usize) -> bool
-    requires { ⌜ level ≤ 3 ⌝ }
-    ensures { λ r. ⌜ r ≡ eqb (k % 2 ^ level) 0 ⌝ }
-{
-    k % (1 << level) == 0
-}
-
 // The number of words of a counter.
 pub fn words_of(level: u32) -> u32
     requires { ⌜ level ≤ 3 ⌝ }
@@ -71,18 +62,6 @@ pub fn first_bits(level: u32) -> u32
     ensures { λ r. ⌜ r ≤ 24 ⌝ }
 {
     (8 << level) - 24 * (words_of(level) - 1)
-}
-
-// The number of words of the counter that starts at a slot, or 0.
-pub fn slot_size(merge: u8, k: usize) -> usize
-    ensures { λ r. ⌜ r ≡ slotSize merge k ⌝ }
-    ensures { λ r. ⌜ r ≤ 3 ⌝ }
-{
-    let level = level_at(merge, k);
-    if starts(level, k) {
-        return words_of(level) as usize;
-    }
-    0
 }
 
 // The number of words of a group's counters. Each slot of an invalid group is a counter of its own.

@@ -3,10 +3,9 @@ use mathlib.Core.Path.{_≡_, refl, sym, ap, ap₂, _∙_}
 use mathlib.Core.List.{List, [], _∷_, _++_, append-nil}
 use Prim.Native.Nat.{ℕ, zero, suc, _+_, _*_, _/_, _<_}
 use native.Mathlib.Nat.{zero-mul, suc-mul, zero-add, add-zero, one-mul}
-use native.Mathlib.Decide.{decLt}
 use native.Mathlib.Omega.{arith}
-use lib.ListN.{length, getD, take, drop, set, drop-of-length-le}
-use lib.Seq.{take-all, drop-drop, getD-set-same, getD-set-other}
+use lib.ListN.{length, getD, take, drop, drop-of-length-le}
+use lib.Seq.{take-all, drop-drop}
 use Rattle.group.specs.declared.Group.{Group}
 use Rattle.group.specs.Group.{read}
 use Rattle.hash.specs.Hash.{basis}
@@ -16,15 +15,6 @@ use Rattle.row.specs.Rows.{mapRows, ofRows, groupAt, withGroup, leastOr, least}
 use Rattle.row.specs.Row.{keySlot, addedIn, updateStatus, updateRow, readRow}
 use Rattle.row.proofs.Widths.{earlier-none}
 use Rattle.meter.specs.Meter.{rowOf, readStatus, readValue}
-
--- an array filled from the front: one element more
-pub filled-more : {A : Type 0} (f : ℕ → A) (l : List A) (i : ℕ) (x z : A) → i < length l → x ≡ f i
-    → ((k : ℕ) → k < i → getD l k z ≡ f k) → (k : ℕ) → k < i + 1 → getD (set l i x) k z ≡ f k
-filled-more f l i x z h e p k m =
-    elim (decLt k i) [
-      | yes b ↦ getD-set-other l i k x z (λ q. omega arith) ∙ p k b
-      | no b ↦ let q : k ≡ i = omega arith in rw q (getD-set-same l i x z h ∙ e)
-    ]
 
 -- two functions that agree on each of the rows read and write the same
 module _ (s : ℕ) where

@@ -8,7 +8,7 @@ use native.Mathlib.Decide.{decLt}
 use native.Mathlib.Omega.{arith}
 use borrow.Rule.Slice.PartMut.{putMid, post-is}
 use lib.ListN.{length, getD, take, drop, set, length-append, take-append-drop, drop-of-length-le}
-use lib.Seq.{paste-suc, length-take-le, take-at, drop-at, drop-drop, getD-drop}
+use lib.Seq.{paste-suc, length-take-le, take-at, drop-at, drop-drop, getD-drop, getD-set-same, getD-set-other}
 use Rattle.row.specs.Rows.{mapRows, ofRows, ofGroups, withGroup, largest}
 use Rattle.row.specs.Order.{earlier, earliest}
 use Rattle.row.specs.Row.{unitedAt, uniteGroups}
@@ -172,3 +172,12 @@ module _ (w : ℕ) (source : List ℕ) where
   unite-end row n g h =
       let e : n - g ≡ 0 = omega arith in
       rw e
+
+-- an array filled from the front: one element more
+pub filled-more : {A : Type 0} (f : ℕ → A) (l : List A) (i : ℕ) (x z : A) → i < length l → x ≡ f i
+    → ((k : ℕ) → k < i → getD l k z ≡ f k) → (k : ℕ) → k < i + 1 → getD (set l i x) k z ≡ f k
+filled-more f l i x z h e p k m =
+    elim (decLt k i) [
+      | yes b ↦ getD-set-other l i k x z (λ q. omega arith) ∙ p k b
+      | no b ↦ let q : k ≡ i = omega arith in rw q (getD-set-same l i x z h ∙ e)
+    ]

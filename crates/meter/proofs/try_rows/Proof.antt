@@ -12,7 +12,8 @@ use Rattle.row.specs.Rows.{ofRows}
 use Rattle.row.specs.Row.{addedIn}
 use Rattle.meter.specs.Meter.{rowOf}
 use Rattle.meter.proofs.Gather.{one-row, status-turn, status-end, rows-start}
-use Rattle.meter.proofs.Slots.{filled-more, addedStatus}
+use Rattle.row.proofs.Lists.{filled-more}
+use Rattle.meter.proofs.Slots.{addedStatus}
 use Rattle.meter.proofs.try_rows.Statement.{statement}
 use Rattle.meter.proofs.try_rows.Tie as tie
 

@@ -6,7 +6,8 @@ use Rattle.image.specs.Read.{checkSlot, checkSlots}
 use Rattle.word.proofs.Laws.{turn, halt}
 use Rattle.image.proofs.Laws.{check-slot-first, check-slots-none}
 use Rattle.image.proofs.Counters.{checks-turn}
-use Rattle.image.proofs.Steps.{Stands, stands-first, stands-next, step-is, step-small}
+use Rattle.image.proofs.Sizes.{behind-is}
+use Rattle.image.proofs.Steps.{Stands, stands-first, stands-next, step-small}
 use Rattle.image.proofs.reader.check_group.Statement.{statement}
 use Rattle.image.proofs.reader.check_group.Tie as tie
 
@@ -74,7 +75,7 @@ loop-again c = let l = c .before .before .before .before .before .before .before
     let s = c .before .before .check-parts in
     let k : l .k < 8 = omega arith in
     let f = l .inv .0 .1 k in
-    rw (step-is (a .merge) (l .k) (v .result) (v .ensures .0) (v .ensures .1)) (
+    rw (behind-is (a .merge) (l .k) (v .result) (v .ensures .0)) (
       stands-next (a .merge) (l .k) k f,
       sym (turn (s .result) _ _ (slot-is (c .before .before)) (c .if1 .left)) ∙ sym (checks-turn (l .k) (a .merge) (a .words .now) (l .at) k f) ∙ l .inv .1,
     )

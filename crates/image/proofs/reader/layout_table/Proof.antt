@@ -5,7 +5,8 @@ use borrow.Author.Needs.{needs}
 use lib.ListN.{length, getD, length-set}
 use Rattle.group.specs.declared.Unpacked.{Unpacked}
 use Rattle.group.specs.Pack.{codeMerge}
-use Rattle.image.proofs.Layouts.{filled-more, last-merge}
+use Rattle.row.proofs.Lists.{filled-more}
+use Rattle.image.proofs.Layouts.{last-merge}
 use Rattle.image.proofs.reader.layout_table.Statement.{statement}
 use Rattle.image.proofs.reader.layout_table.Tie as tie
 
@@ -40,7 +41,7 @@ loop-again : tie.Need-loop-again Inv-loop μ-loop
 loop-again c = let l = c .before .before .before .loop in
     let x = getD (c .before .unpack .result .merges) 3 0 in
     let e : x ≡ codeMerge (l .c) = ap (λ (u : Unpacked). getD (u .merges) 3 0) (c .before .unpack .ensures) ∙ last-merge (l .c) (omega arith) in
-    (omega arith, filled-more (λ (k : ℕ). codeMerge k) (l .t) (l .c) x (omega arith) e (l .inv .1), length-set (l .t) (l .c) x ∙ l .inv .2)
+    (omega arith, filled-more (λ (k : ℕ). codeMerge k) (l .t) (l .c) x 0 (omega arith) e (l .inv .1), length-set (l .t) (l .c) x ∙ l .inv .2)
 
 returns : tie.Need-returns Inv-loop μ-loop
 returns c = λ k h. c .before .loop .inv .1 k (omega arith)

@@ -9,7 +9,8 @@ use Rattle.image.specs.Write.{slotsSize, groupSize}
 use Rattle.image.specs.Read.{readSlots, readGroup}
 use Rattle.image.proofs.Laws.{size-first, sizes-none, read-slots-none}
 use Rattle.image.proofs.Counters.{sizes-turn}
-use Rattle.image.proofs.Steps.{Stands, stands-first, stands-next, step-is, step-small, reads-step}
+use Rattle.image.proofs.Sizes.{behind-is}
+use Rattle.image.proofs.Steps.{Stands, stands-first, stands-next, step-small, reads-step}
 use Rattle.image.proofs.reader.read_group.Statement.{statement}
 use Rattle.image.proofs.reader.read_group.Tie as tie
 
@@ -65,7 +66,7 @@ loop-again c = let l = c .before .before .before .before .before .before .loop i
     let f = l .inv .0 .1 k in
     let s = reads-step (a .merge) (l .k) (l .g) (c .before .change .result .group) (v .result) (n .result) (x .result) (a .words .now) (l .at)
     (l .inv .2) k f (v .ensures .0) (n .ensures .0) (x .ensures) (ap (λ (o : Outcome). o .group) (c .before .change .ensures)) in
-    rw (step-is (a .merge) (l .k) (v .result) (v .ensures .0) (v .ensures .1)) (
+    rw (behind-is (a .merge) (l .k) (v .result) (v .ensures .0)) (
       stands-next (a .merge) (l .k) k f,
       omega (arith, pow-pos (levelAt (a .merge) (l .k))),
       s .0,

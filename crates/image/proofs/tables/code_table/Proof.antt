@@ -3,7 +3,8 @@ use Prim.Native.Nat.{ℕ, _-_, _≤_, _<_}
 use native.Mathlib.Omega.{arith}
 use borrow.Author.Needs.{needs}
 use lib.ListN.{length, getD, length-set}
-use Rattle.image.proofs.Sizes.{codeOf, table-more}
+use Rattle.row.proofs.Lists.{filled-more}
+use Rattle.image.proofs.Sizes.{codeOf}
 use Rattle.image.proofs.tables.code_table.Statement.{statement}
 use Rattle.image.proofs.tables.code_table.Tie as tie
 
@@ -33,7 +34,7 @@ loop-less c = search needs
 
 loop-again : tie.Need-loop-again Inv-loop μ-loop
 loop-again c = let l = c .before .before .loop in
-    (omega arith, length-set (l .t) (l .m) (c .code-of .result) ∙ l .inv .1, table-more codeOf (l .t) (l .m) (c .code-of .result) (omega arith) (c .code-of .ensures) (l .inv .2))
+    (omega arith, length-set (l .t) (l .m) (c .code-of .result) ∙ l .inv .1, filled-more codeOf (l .t) (l .m) (c .code-of .result) 0 (omega arith) (c .code-of .ensures) (l .inv .2))
 
 returns : tie.Need-returns Inv-loop μ-loop
 returns c = λ k h. c .before .loop .inv .2 k (omega arith)

@@ -4,7 +4,7 @@ use native.Mathlib.Omega.{arith}
 use borrow.Author.Needs.{needs}
 use lib.ListN.{length, getD, length-set}
 use Rattle.image.specs.Write.{groupSize}
-use Rattle.image.proofs.Sizes.{table-more}
+use Rattle.row.proofs.Lists.{filled-more}
 use Rattle.image.proofs.tables.size_table.Statement.{statement}
 use Rattle.image.proofs.tables.size_table.Tie as tie
 
@@ -37,7 +37,7 @@ loop-less c = search needs
 
 loop-again : tie.Need-loop-again Inv-loop μ-loop
 loop-again c = let l = c .before .before .loop in
-    (omega arith, length-set (l .t) (l .m) (c .group-size .result) ∙ l .inv .1, table-more groupSize (l .t) (l .m) (c .group-size .result) (omega arith) (c .group-size .ensures .0) (l .inv .2))
+    (omega arith, length-set (l .t) (l .m) (c .group-size .result) ∙ l .inv .1, filled-more groupSize (l .t) (l .m) (c .group-size .result) 0 (omega arith) (c .group-size .ensures .0) (l .inv .2))
 
 returns : tie.Need-returns Inv-loop μ-loop
 returns c = λ k h. c .before .loop .inv .2 k (omega arith)
