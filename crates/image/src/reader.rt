@@ -143,6 +143,9 @@ pub fn merges_at(words: &[u32], p: usize, layouts: &[u8; 26]) -> [u8; 4]
     ensures { λ r. ⌜ r ≡ mergesAt (now (words .entry)) p ⌝ }
 {
     let code = payload(words, p) as usize;
+    if code == 0 {
+        return [0; 4];
+    }
     if 456976 <= code {
         return [0; 4];
     }
