@@ -41,12 +41,13 @@ pub fn read(d: usize, w: usize, memory: &mut [u8], words: &[u32]) -> Answer
     if status != 0 {
         return rejected(status, 0);
     }
-    let layouts = reader::layout_table();
-    let s = reader::check(words, d, w, &layouts);
+    let n = reader::table_size(words.len(), d, w);
+    let layouts = reader::layout_table(n);
+    let s = reader::check(words, d, w, &layouts[0..n]);
     if s.status != 0 {
         return rejected(s.status, s.position);
     }
-    reader::read_rows(memory, d, w, words, &layouts);
+    reader::read_rows(memory, d, w, words, &layouts[0..n]);
     accepted(s.position)
 }
 

@@ -125,41 +125,59 @@ pub fn check_groups(words: &[u32], p: usize, merges: [u8; 4]) -> Step
     go(at)
 }
 
-// The merge byte of each layout code of one group, so that a code is unpacked once for all words of an image.
-pub fn layout_table() -> [u8; 26]
-    ensures { λ r. ⌜ ((c : ℕ) → c < 26 → getD r c 0 ≡ codeMerge c) ⌝ }
+// How many layout codes are unpacked ahead for an image of n words: all or, when nothing or almost nothing is merged, none. 32 slots
+// take 33 words, and fewer when some are merged.
+pub fn table_size(n: usize, d: usize, w: usize) -> usize
+    requires { ⌜ d ≤ 8 ⌝ ∗ ⌜ w ≤ 65536 ⌝ }
+    ensures { λ r. ⌜ r ≤ 26 ⌝ }
+{
+    if n / 33 < d * (w / 32) {
+        return 26;
+    }
+    0
+}
+
+// The merge bytes of the first n layout codes of one group, so that each is unpacked once for all words of an image.
+pub fn layout_table(n: usize) -> [u8; 26]
+    requires { ⌜ n ≤ 26 ⌝ }
+    ensures { λ r. ⌜ ((c : ℕ) → c < n → getD r c 0 ≡ codeMerge c) ⌝ }
 {
     let mut t = [0u8; 26];
-    for c in 0..26 {
+    for c in 0..n {
         let u = group::unpack(c as u32);
         t[c] = u.merges[3];
     }
     t
 }
 
-// The merge bytes of the layout word at a position.
-pub fn merges_at(words: &[u32], p: usize, layouts: &[u8; 26]) -> [u8; 4]
-    requires { ⌜ ((c : ℕ) → c < 26 → getD (now layouts) c 0 ≡ codeMerge c) ⌝ }
+// The merge bytes of the layout word at a position, by the layouts unpacked ahead if there are any.
+pub fn merges_at(words: &[u32], p: usize, layouts: &[u8]) -> [u8; 4]
+    requires { ⌜ ((c : ℕ) → c < length (now layouts) → getD (now layouts) c 0 ≡ codeMerge c) ⌝ }
     ensures { λ r. ⌜ r ≡ mergesAt (now (words .entry)) p ⌝ }
 {
-    let code = payload(words, p) as usize;
+    let code = payload(words, p);
     if code == 0 {
         return [0; 4];
     }
     if 456976 <= code {
         return [0; 4];
     }
+    if layouts.len() < 26 {
+        let u = group::unpack(code);
+        return u.merges;
+    }
+    let at = code as usize;
     [
-        layouts[code / 17576],
-        layouts[code / 676 % 26],
-        layouts[code / 26 % 26],
-        layouts[code % 26],
+        layouts[at / 17576],
+        layouts[at / 676 % 26],
+        layouts[at / 26 % 26],
+        layouts[at % 26],
     ]
 }
 
 // The words of 32 slots.
-pub fn check_four(words: &[u32], p: usize, layouts: &[u8; 26]) -> Step
-    requires { ⌜ ((c : ℕ) → c < 26 → getD (now layouts) c 0 ≡ codeMerge c) ⌝ }
+pub fn check_four(words: &[u32], p: usize, layouts: &[u8]) -> Step
+    requires { ⌜ ((c : ℕ) → c < length (now layouts) → getD (now layouts) c 0 ≡ codeMerge c) ⌝ }
     ensures { λ r. ⌜ r ≡ checkFour (now (words .entry)) p ⌝ }
 {
     if is_clear(words, p) {
@@ -173,8 +191,8 @@ pub fn check_four(words: &[u32], p: usize, layouts: &[u8; 26]) -> Step
 }
 
 // The words of n times 32 slots.
-pub fn check_fours(words: &[u32], p: usize, n: usize, layouts: &[u8; 26]) -> Step
-    requires { ⌜ ((c : ℕ) → c < 26 → getD (now layouts) c 0 ≡ codeMerge c) ⌝ }
+pub fn check_fours(words: &[u32], p: usize, n: usize, layouts: &[u8]) -> Step
+    requires { ⌜ ((c : ℕ) → c < length (now layouts) → getD (now layouts) c 0 ≡ codeMerge c) ⌝ }
     ensures { λ r. ⌜ r ≡ checkFours n (now (words .entry)) p ⌝ }
 {
     let mut at = p;
@@ -209,8 +227,8 @@ pub fn check_end(words: &[u32], p: usize) -> Step
 }
 
 // All words, for a meter of d rows of w slots.
-pub fn check(words: &[u32], d: usize, w: usize, layouts: &[u8; 26]) -> Step
-    requires { ⌜ d ≤ 8 ⌝ ∗ ⌜ w ≤ 65536 ⌝ ∗ ⌜ ((c : ℕ) → c < 26 → getD (now layouts) c 0 ≡ codeMerge c) ⌝ }
+pub fn check(words: &[u32], d: usize, w: usize, layouts: &[u8]) -> Step
+    requires { ⌜ d ≤ 8 ⌝ ∗ ⌜ w ≤ 65536 ⌝ ∗ ⌜ ((c : ℕ) → c < length (now layouts) → getD (now layouts) c 0 ≡ codeMerge c) ⌝ }
     ensures { λ r. ⌜ r ≡ checked d w (now (words .entry)) ⌝ }
 {
     let h = check_head(words, d, w);
@@ -324,8 +342,8 @@ pub fn read_groups(
 }
 
 // A row of w slots. Gives the position after its words.
-pub fn read_row(row: &mut [u8], w: usize, words: &[u32], p: usize, layouts: &[u8; 26]) -> usize
-    requires { ⌜ w + w / 8 ≤ length (now row) ⌝ ∗ ⌜ w ≤ 65536 ⌝ ∗ ⌜ p < 2 ^ 29 ⌝ ∗ ⌜ ((c : ℕ) → c < 26 → getD (now layouts) c 0 ≡ codeMerge c) ⌝ }
+pub fn read_row(row: &mut [u8], w: usize, words: &[u32], p: usize, layouts: &[u8]) -> usize
+    requires { ⌜ w + w / 8 ≤ length (now row) ⌝ ∗ ⌜ w ≤ 65536 ⌝ ∗ ⌜ p < 2 ^ 29 ⌝ ∗ ⌜ ((c : ℕ) → c < length (now layouts) → getD (now layouts) c 0 ≡ codeMerge c) ⌝ }
     ensures { λ r. ⌜ r ≡ afterFours (w / 32) (now (words .entry)) p ⌝ }
     ensures { λ r. ⌜ r ≤ p + 97 * 2048 ⌝ }
     ensures { λ _. ⌜ now (row .exit) ≡ readFours (w / 32) 0 w (now (row .entry)) (now (words .entry)) p ⌝ }
@@ -338,8 +356,8 @@ pub fn read_row(row: &mut [u8], w: usize, words: &[u32], p: usize, layouts: &[u8
 }
 
 // d rows of a memory, from the words after the head.
-pub fn read_rows(memory: &mut [u8], d: usize, w: usize, words: &[u32], layouts: &[u8; 26])
-    requires { ⌜ d * stride w ≤ length (now memory) ⌝ ∗ ⌜ w ≤ 65536 ⌝ ∗ ⌜ d ≤ 8 ⌝ ∗ ⌜ ((c : ℕ) → c < 26 → getD (now layouts) c 0 ≡ codeMerge c) ⌝ }
+pub fn read_rows(memory: &mut [u8], d: usize, w: usize, words: &[u32], layouts: &[u8])
+    requires { ⌜ d * stride w ≤ length (now memory) ⌝ ∗ ⌜ w ≤ 65536 ⌝ ∗ ⌜ d ≤ 8 ⌝ ∗ ⌜ ((c : ℕ) → c < length (now layouts) → getD (now layouts) c 0 ≡ codeMerge c) ⌝ }
     ensures { λ _. ⌜ now (memory .exit) ≡ readRows d w (now (memory .entry)) (now (words .entry)) 1 ⌝ }
 {
     let size = w * 9 / 8;

@@ -1,7 +1,8 @@
 use mathlib.Core.Path.{sym, ap, _∙_}
 use native.Mathlib.Omega.{arith}
 use lib.ListN.{length}
-use Rattle.image.proofs.Calls.{sound-call, read-call, read-faulty, read-done}
+use Rattle.image.proofs.Calls.{Sound, sound-call, read-call, read-faulty, read-done}
+use Rattle.image.proofs.Layouts.{known-codes}
 use Rattle.row.specs.Order.{Done}
 use borrow.Author.Needs.{needs}
 use Rattle.image.proofs.read.Statement.{statement}
@@ -19,33 +20,54 @@ returns c = let a = c .before .before .before .before .before .args in
     let e = read-call (a .d) (a .w) (a .memory .now) (a .words .now) (s .result) (s .ensures) (c .before .if1 .taken) in
     (c .rejected .ensures ∙ ap (λ (x : Done). x .answer) (sym e), ap (λ (x : Done). x .memory) (sym e))
 
+-- a call whose shape is accepted
+sound : (c : tie.Else1) → let a = c .before .before .before .before .args in Sound (a .d) (a .w) (length (a .memory .now))
+sound c = let a = c .before .before .before .before .args in sound-call (a .d) (a .w) (length (a .memory .now)) (sym (c .before .bad-shape .ensures) ∙ c .if1 .left)
+
+table-size-requires : tie.Need-table-size-requires
+table-size-requires c κs = let k = sound c in (omega arith, omega arith)
+
 layout-table-requires : tie.Need-layout-table-requires
 layout-table-requires c κs = search needs
 
+sub-check : tie.Need-sub-check
+sub-check c = search needs
+
+part-check-start : tie.Need-part-check-start
+part-check-start c = search needs
+
+part-check-end : tie.Need-part-check-end
+part-check-end c = search needs
+
 check-requires : tie.Need-check-requires
-check-requires c κs = let a = c .before .before .before .before .before .before .args in
-    let s = c .before .before .before .bad-shape in
-    let z = c .before .before .if1 .left in
-    let k = sound-call (a .d) (a .w) (length (a .memory .now)) (sym (s .ensures) ∙ z) in
-    (omega arith, (omega arith, c .before .layout-table .ensures))
+check-requires c κs = let t = c .before .before .layout-table in
+    let k = sound (c .before .before .before .before) in
+    (omega arith, (omega arith, known-codes (t .result) (c .before .before .before .table-size .result) (t .ensures)))
 
 rejected-requires-2 : tie.Need-rejected-requires-2
 rejected-requires-2 c κs = search needs
 
 returns-2 : tie.Need-returns-2
-returns-2 c = let a = c .before .before .before .before .before .before .before .before .before .before .args in
-    let s = c .before .before .before .before .before .before .before .bad-shape in
-    let z = c .before .before .before .before .before .before .if1 .left in
+returns-2 c = let a = c .before .before .before .before .before .before .before .before .before .before .before .before .args in
+    let s = c .before .before .before .before .before .before .before .before .before .bad-shape in
+    let z = c .before .before .before .before .before .before .before .before .if1 .left in
     let t = c .before .before .before .check in
     let e = read-faulty (a .d) (a .w) (a .memory .now) (a .words .now) (s .result) (s .ensures) z (t .result) (t .ensures) (c .before .if2 .taken) in
     (c .rejected2 .ensures ∙ ap (λ (x : Done). x .answer) (sym e), ap (λ (x : Done). x .memory) (sym e))
 
+sub-read-rows : tie.Need-sub-read-rows
+sub-read-rows c = search needs
+
+part-read-rows-start : tie.Need-part-read-rows-start
+part-read-rows-start c = search needs
+
+part-read-rows-end : tie.Need-part-read-rows-end
+part-read-rows-end c = search needs
+
 read-rows-requires : tie.Need-read-rows-requires
-read-rows-requires c κs = let a = c .before .before .before .before .before .before .before .before .before .before .before .args in
-    let s = c .before .before .before .before .before .before .before .before .bad-shape in
-    let z = c .before .before .before .before .before .before .before .if1 .left in
-    let k = sound-call (a .d) (a .w) (length (a .memory .now)) (sym (s .ensures) ∙ z) in
-    (omega arith, (omega arith, (omega arith, c .before .before .before .before .before .before .layout-table .ensures)))
+read-rows-requires c κs = let t = c .before .before .before .before .before .before .before .before .layout-table in
+    let k = sound (c .before .before .before .before .before .before .before .before .before .before) in
+    (omega arith, (omega arith, (omega arith, known-codes (t .result) (c .before .before .before .before .before .before .before .before .before .table-size .result) (t .ensures))))
 
 accepted-requires : tie.Need-accepted-requires
 accepted-requires c κs = search needs
@@ -54,11 +76,11 @@ same-length : tie.Need-same-length
 same-length c = search needs
 
 returns-3 : tie.Need-returns-3
-returns-3 c = let a = c .before .before .before .before .before .before .before .before .before .before .before .before .before .before .before .args in
-    let s = c .before .before .before .before .before .before .before .before .before .before .before .before .bad-shape in
-    let z = c .before .before .before .before .before .before .before .before .before .before .before .if1 .left in
-    let t = c .before .before .before .before .before .before .before .before .check in
-    let e = read-done (a .d) (a .w) (a .memory .now) (a .words .now) (s .result) (s .ensures) z (t .result) (t .ensures) (c .before .before .before .before .before .before .if2 .left) in
+returns-3 c = let a = c .before .before .before .before .before .before .before .before .before .before .before .before .before .before .before .before .before .before .args in
+    let s = c .before .before .before .before .before .before .before .before .before .before .before .before .before .before .before .bad-shape in
+    let z = c .before .before .before .before .before .before .before .before .before .before .before .before .before .before .if1 .left in
+    let t = c .before .before .before .before .before .before .before .before .before .check in
+    let e = read-done (a .d) (a .w) (a .memory .now) (a .words .now) (s .result) (s .ensures) z (t .result) (t .ensures) (c .before .before .before .before .before .before .before .if2 .left) in
     (c .accepted .ensures ∙ ap (λ (x : Done). x .answer) (sym e), c .before .before .before .read-rows .ensures ∙ ap (λ (x : Done). x .memory) (sym e))
 
 pub read-spec : {M : Type 1} → statement M
@@ -68,10 +90,17 @@ read-spec =
     bad-shape-requires
     rejected-requires
     returns
+    table-size-requires
     layout-table-requires
+    sub-check
+    part-check-start
+    part-check-end
     check-requires
     rejected-requires-2
     returns-2
+    sub-read-rows
+    part-read-rows-start
+    part-read-rows-end
     read-rows-requires
     accepted-requires
     same-length

@@ -36,7 +36,7 @@ check-groups-requires c κs = search needs
 
 returns-3 : tie.Need-returns-3
 unfolding checkFour
-returns-3 c = let a = c .before .before .before .before .before .before .before .before .args in
+returns-3 c = let a = c .before .before .before .before .before .before .before .before .before .args in
     let s = c .before .before .before .before .below in
     c .check-groups .ensures
     ∙ ap (λ (m : List ℕ). checkGroups m (a .words .now) (s .result .position)) (c .before .merges-at .ensures)

@@ -11,10 +11,10 @@ use Rattle.image.proofs.reader.layout_table.Statement.{statement}
 use Rattle.image.proofs.reader.layout_table.Tie as tie
 
 abbrev Inv-loop : tie.InvT-loop
-Inv-loop t₀ c₀ t c = (c ≤ 26) × ((k : ℕ) → k < c → getD t k 0 ≡ codeMerge k) × (length t ≡ 26)
+Inv-loop n t₀ c₀ t c = (c ≤ n) × ((k : ℕ) → k < c → getD t k 0 ≡ codeMerge k) × (length t ≡ 26)
 
 abbrev μ-loop : tie.MeasureT-loop
-μ-loop t₀ c₀ t c = 26 - c
+μ-loop n t₀ c₀ t c = n - c
 
 loop-holds : tie.Need-loop-holds Inv-loop μ-loop
 loop-holds c = (omega arith, λ k h. absurd (omega arith), search needs)

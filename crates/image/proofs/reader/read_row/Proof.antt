@@ -17,7 +17,7 @@ abbrev μ-loop : tie.MeasureT-loop
 μ-loop row₀ w words p layouts at₀ i₀ i-end row at i = i-end - i
 
 loop-holds : tie.Need-loop-holds Inv-loop μ-loop
-loop-holds c = let a = c .before .before .args in
+loop-holds c = let a = c .before .before .before .args in
     (omega arith, refl, omega arith, refl, ap (λ (x : ℕ). afterFours x (a .words .now) (a .p)) (sub-zero (a .w / 32)), ap (λ (x : ℕ). readFours x 0 (a .w) (a .row .now) (a .words .now) (a .p)) (sub-zero (a .w / 32)))
 
 mul-read-groups : tie.Need-mul-read-groups Inv-loop μ-loop
@@ -40,7 +40,7 @@ loop-less c = search needs
 
 loop-again : tie.Need-loop-again Inv-loop μ-loop
 loop-again c = let l = c .before .before .before .before .before .before .loop in
-    let a = c .before .before .before .before .before .before .before .before .before .args in
+    let a = c .before .before .before .before .before .before .before .before .before .before .args in
     let s = c .before .before .read-groups in
     let m = c .before .before .before .merges-at .ensures in
     let n = a .w / 32 - (l .i + 1) in
@@ -60,7 +60,7 @@ same-length c = search needs
 
 returns : tie.Need-returns Inv-loop μ-loop
 returns c = let l = c .before .loop in
-    let a = c .before .before .before .before .args in (
+    let a = c .before .before .before .before .before .args in (
       sym (after-fours-none (a .w / 32 - l .i) (a .words .now) (l .at) (omega arith)) ∙ l .inv .4,
       (
         omega arith,

@@ -22,7 +22,7 @@ mul-size c = omega arith
 
 loop-holds : tie.Need-loop-holds Inv-loop μ-loop
 unfolding stride
-loop-holds c = let a = c .before .before .args in (
+loop-holds c = let a = c .before .before .before .args in (
   omega arith,
   refl,
   omega arith,
@@ -31,10 +31,10 @@ loop-holds c = let a = c .before .before .args in (
       ∙ ap (λ (n : ℕ). readRows n (a .w) (a .memory .now) (a .words .now) 1) (sub-zero (a .d)),
 )
 
-row-fits : (c : tie.In-loop Inv-loop μ-loop) → let a = c .before .before .before .before .args in c .before .loop .r * (a .w * 9 / 8) + a .w * 9 / 8 ≤ length (a .memory .now)
+row-fits : (c : tie.In-loop Inv-loop μ-loop) → let a = c .before .before .before .before .before .args in c .before .loop .r * (a .w * 9 / 8) + a .w * 9 / 8 ≤ length (a .memory .now)
 unfolding stride
-row-fits c = let a = c .before .before .before .before .args in
-    row-in (c .before .loop .r) (a .d) (a .w * 9 / 8) (c .loop-test .taken) (c .before .before .before .before .pre .0)
+row-fits c = let a = c .before .before .before .before .before .args in
+    row-in (c .before .loop .r) (a .d) (a .w * 9 / 8) (c .loop-test .taken) (c .before .before .before .before .before .pre .0)
 
 mul-a : tie.Need-mul-a Inv-loop μ-loop
 mul-a c = omega (arith, row-fits c)
@@ -53,7 +53,7 @@ part-read-row-end c = omega (arith, row-fits c)
 
 read-row-requires : tie.Need-read-row-requires Inv-loop μ-loop
 read-row-requires c κs = let fit = row-fits (c .before) in
-    (omega (arith, fit), (omega arith, (omega arith, c .before .before .before .before .before .pre .1 .1 .1)))
+    (omega (arith, fit), (omega arith, (omega arith, c .before .before .before .before .before .before .pre .1 .1 .1)))
 
 add-r : tie.Need-add-r Inv-loop μ-loop
 add-r c = search needs
@@ -64,7 +64,7 @@ loop-less c = search needs
 loop-again : tie.Need-loop-again Inv-loop μ-loop
 unfolding stride
 loop-again c = let l = c .before .before .before .before .before .loop in
-    let a = c .before .before .before .before .before .before .before .before .args in
+    let a = c .before .before .before .before .before .before .before .before .before .args in
     let s = c .before .before .read-row in
     let fit = row-fits (c .before .before .before .before) in (
       omega arith,
@@ -80,7 +80,7 @@ same-length c = search needs
 
 returns : tie.Need-returns Inv-loop μ-loop
 returns c = let l = c .before .loop in
-    let a = c .before .before .before .before .args in
+    let a = c .before .before .before .before .before .args in
     sym (read-rows-end (a .d) (l .r) (a .w) (l .memory) (a .words .now) (l .at) (omega arith)) ∙ l .inv .4
 
 pub read-rows-spec : {M : Type 1} → statement M
