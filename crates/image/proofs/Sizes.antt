@@ -2,14 +2,14 @@
 use mathlib.Core.Path.{_≡_, refl, sym, ap, _∙_}
 use mathlib.Core.Bool.{Bool, true, false, cond, _&&_}
 use mathlib.Core.List.{List}
-use Prim.Native.Nat.{ℕ, zero, suc, _+_, _*_, _/_, _%_, _^_, _≤_, _<_}
+use Prim.Native.Nat.{ℕ, zero, suc, _+_, _-_, _*_, _/_, _%_, _^_, _≤_, _<_}
 use native.Mathlib.Nat.{zero-mod, mod-one}
 use native.Mathlib.Omega.{arith}
 use borrow.Author.Tests.{eq-eqb, lt-ltb}
 use lib.Dec.{ltb}
-use lib.ListN.{length, getD, set, replicate}
+use lib.ListN.{length, getD, take, set, replicate, length-take}
 use lib.Pow.{pow-mono}
-use lib.Seq.{getD-set-same, getD-set-other}
+use lib.Seq.{getD-set-same, getD-set-other, getD-take}
 use Rattle.layout.specs.Layout.{Layout, valid}
 use Rattle.block.specs.Block.{counterAt}
 use Rattle.block.proofs.Slots.{levelOf, level-is}
@@ -91,6 +91,12 @@ table-more f t i x h e p k l =
     range-more (λ (k : ℕ). getD (set t i x) k 0 ≡ f k) 0 i
     (λ k a b. getD-set-other t i k x 0 (λ z. omega arith) ∙ p k b)
     (getD-set-same t i x 0 h ∙ e) k (omega arith) l
+
+-- the entries of its first n, lent
+pub table-part : (f : ℕ → ℕ) (t : List ℕ) (n : ℕ) → ((k : ℕ) → k < n → getD t k 0 ≡ f k) → (k : ℕ) → k < length (take (n - 0) t) → getD (take (n - 0) t) k 0 ≡ f k
+table-part f t n p k h =
+    let l : k < n = omega (arith, length-take (n - 0) t) in
+    getD-take (n - 0) t k 0 (omega arith) ∙ p k l
 
 -- the code of a layout of four groups by the codes of each
 abbrev pub codeOf : ℕ → ℕ
