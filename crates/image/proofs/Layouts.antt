@@ -1,24 +1,17 @@
 -- The table of the merge bytes of one group by their layout codes.
-use mathlib.Core.Path.{_≡_, _∙_}
+use mathlib.Core.Path.{_≡_}
 use mathlib.Core.List.{List, [], _∷_}
 use Prim.Native.Nat.{ℕ, _-_, _/_, _%_, _≤_, _<_}
 use native.Mathlib.Nat.{mod-eq-of-lt}
 use native.Mathlib.Omega.{arith}
 use borrow.Author.Tests.{lt-ltb, le-ltb}
-use lib.ListN.{length, getD, take, length-take}
-use lib.Seq.{getD-take}
+use lib.ListN.{length, getD}
 use Rattle.group.specs.Pack.{codeMerge, fourMerges, unpacked}
 
 -- the last merge byte of a code below 26
 pub last-merge : (c : ℕ) → c < 26 → getD (unpacked c .merges) 3 0 ≡ codeMerge c
 unfolding unpacked fourMerges
 last-merge c h = rw (lt-ltb c 456976 (omega arith), mod-eq-of-lt {n = c} {m = 26} h)
-
--- the part of a table that is filled, as it is lent
-pub known-codes : (t : List ℕ) (n : ℕ) → ((c : ℕ) → c < n → getD t c 0 ≡ codeMerge c) → (c : ℕ) → c < length (take (n - 0) t) → getD (take (n - 0) t) c 0 ≡ codeMerge c
-known-codes t n f c h =
-    let k : c < n = omega (arith, length-take (n - 0) t) in
-    getD-take (n - 0) t c 0 (omega arith) ∙ f c k
 
 -- the merge bytes of four groups by a table of all codes
 pub merges-by : (t : List ℕ) (code : ℕ) → ((c : ℕ) → c < length t → getD t c 0 ≡ codeMerge c) → 26 ≤ length t → code < 456976

@@ -1,13 +1,15 @@
 -- What a merge byte alone says of a group: the levels of its slots, the number of its words and its layout code; and tables of these.
 use mathlib.Core.Path.{_≡_, refl, sym, ap, _∙_}
 use mathlib.Core.Bool.{Bool, true, false, cond, _&&_}
-use Prim.Native.Nat.{ℕ, zero, suc, _+_, _*_, _/_, _%_, _^_, _≤_, _<_}
+use mathlib.Core.List.{List}
+use Prim.Native.Nat.{ℕ, zero, suc, _+_, _-_, _*_, _/_, _%_, _^_, _≤_, _<_}
 use native.Mathlib.Nat.{zero-mod, mod-one}
 use native.Mathlib.Omega.{arith}
 use borrow.Author.Tests.{eq-eqb, lt-ltb}
 use lib.Dec.{ltb}
-use lib.ListN.{replicate}
+use lib.ListN.{length, getD, take, replicate, length-take}
 use lib.Pow.{pow-mono}
+use lib.Seq.{getD-take}
 use Rattle.layout.specs.Layout.{Layout, valid}
 use Rattle.block.specs.Block.{counterAt}
 use Rattle.block.proofs.Slots.{levelOf, level-is}
@@ -80,6 +82,12 @@ slots-size-le (suc n) k m = omega (arith, slot-size-le m k, slots-size-le n (k +
 pub group-size-le : (m : ℕ) → groupSize m ≤ 24
 unfolding groupSize
 group-size-le m = slots-size-le 8 0 m
+
+-- the entries of its first n, lent
+pub table-part : (f : ℕ → ℕ) (t : List ℕ) (n : ℕ) → ((k : ℕ) → k < n → getD t k 0 ≡ f k) → (k : ℕ) → k < length (take (n - 0) t) → getD (take (n - 0) t) k 0 ≡ f k
+table-part f t n p k h =
+    let l : k < n = omega (arith, length-take (n - 0) t) in
+    getD-take (n - 0) t k 0 (omega arith) ∙ p k l
 
 -- the code of a layout of four groups by the codes of each
 abbrev pub codeOf : ℕ → ℕ

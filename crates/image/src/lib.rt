@@ -22,13 +22,14 @@ pub fn write(d: usize, w: usize, memory: &[u8], words: &mut [u32]) -> Answer
     if !writer::rows_valid(memory, d, w) {
         return rejected(group::INVALID_MERGE, 0);
     }
-    let sizes = tables::size_table();
-    let count = writer::rows_size(memory, d, w, &sizes) + 2;
+    let n = writer::table_size(memory, w);
+    let sizes = tables::size_table(n);
+    let count = writer::rows_size(memory, d, w, &sizes[0..n]) + 2;
     if words.len() < count {
         return rejected(format::TOO_FEW_WORDS, 0);
     }
-    let codes = tables::code_table();
-    writer::put_image(words, memory, d, w, &codes);
+    let codes = tables::code_table(n);
+    writer::put_image(words, memory, d, w, &codes[0..n]);
     accepted(count)
 }
 

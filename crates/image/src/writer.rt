@@ -2,11 +2,13 @@
 use crate::format;
 use crate::format::word;
 use crate::geometry::log_width;
+use crate::tables::code_at;
+use crate::tables::size_at;
 use group::Group;
 use row::load;
 ghost use mathlib.Core.Path.{_≡_};
 ghost use mathlib.Core.Bool.{true, false, cond, _&&_};
-ghost use mathlib.Core.List.{_∷_, [], _++_, map};
+ghost use mathlib.Core.List.{_∷_, _++_, map};
 ghost use Prim.Native.Nat.{ℕ, _+_, _*_, _/_, _%_, _<_, _≤_};
 ghost use lib.Dec.{ltb};
 ghost use lib.ListN.{length, getD, take, drop};
@@ -76,9 +78,26 @@ pub fn rows_valid(memory: &[u8], d: usize, w: usize) -> bool
     true
 }
 
+// How many entries of a table pay for an image of rows like this one: all, or none when few of its groups are merged.
+pub fn table_size(row: &[u8], w: usize) -> usize
+    requires { ⌜ w + w / 8 ≤ length (now row) ⌝ }
+    ensures { λ r. ⌜ r ≤ 128 ⌝ }
+{
+    let mut n = 0usize;
+    for i in 0..w / 32 {
+        if !clear(row, w + 4 * i) {
+            n += 1;
+            if n == 8 {
+                return 128;
+            }
+        }
+    }
+    0
+}
+
 // The number of words of the counters of four groups, from group g on.
-pub fn groups_size(row: &[u8], w: usize, g: usize, sizes: &[u8; 256]) -> usize
-    requires { ⌜ w + g + 4 ≤ length (now row) ⌝ ∗ ⌜ ((m : ℕ) → m < 256 → getD (now sizes) m 0 ≡ groupSize m) ⌝ }
+pub fn groups_size(row: &[u8], w: usize, g: usize, sizes: &[u8]) -> usize
+    requires { ⌜ w + g + 4 ≤ length (now row) ⌝ ∗ ⌜ ((m : ℕ) → m < length (now sizes) → getD (now sizes) m 0 ≡ groupSize m) ⌝ }
     ensures { λ r. ⌜ r ≡ length (groupsWords 4 g w (now (row .entry))) ⌝ }
     ensures { λ r. ⌜ r ≤ 96 ⌝ }
 {
@@ -87,14 +106,14 @@ pub fn groups_size(row: &[u8], w: usize, g: usize, sizes: &[u8; 256]) -> usize
     }
     let mut n = 0;
     for i in 0..4 {
-        n += sizes[row[w + g + i] as usize] as usize;
+        n += size_at(sizes, row[w + g + i]);
     }
     n
 }
 
 // The number of words of a row.
-pub fn row_size(row: &[u8], w: usize, sizes: &[u8; 256]) -> usize
-    requires { ⌜ w + w / 8 ≤ length (now row) ⌝ ∗ ⌜ w ≤ 65536 ⌝ ∗ ⌜ ((m : ℕ) → m < 256 → getD (now sizes) m 0 ≡ groupSize m) ⌝ }
+pub fn row_size(row: &[u8], w: usize, sizes: &[u8]) -> usize
+    requires { ⌜ w + w / 8 ≤ length (now row) ⌝ ∗ ⌜ w ≤ 65536 ⌝ ∗ ⌜ ((m : ℕ) → m < length (now sizes) → getD (now sizes) m 0 ≡ groupSize m) ⌝ }
     ensures { λ r. ⌜ r ≡ length (rowWords (w / 32) 0 w (now (row .entry))) ⌝ }
     ensures { λ r. ⌜ r ≤ 97 * 2048 ⌝ }
 {
@@ -106,8 +125,8 @@ pub fn row_size(row: &[u8], w: usize, sizes: &[u8; 256]) -> usize
 }
 
 // The number of words of d rows.
-pub fn rows_size(memory: &[u8], d: usize, w: usize, sizes: &[u8; 256]) -> usize
-    requires { ⌜ d * stride w ≤ length (now memory) ⌝ ∗ ⌜ w ≤ 65536 ⌝ ∗ ⌜ d ≤ 8 ⌝ ∗ ⌜ ((m : ℕ) → m < 256 → getD (now sizes) m 0 ≡ groupSize m) ⌝ }
+pub fn rows_size(memory: &[u8], d: usize, w: usize, sizes: &[u8]) -> usize
+    requires { ⌜ d * stride w ≤ length (now memory) ⌝ ∗ ⌜ w ≤ 65536 ⌝ ∗ ⌜ d ≤ 8 ⌝ ∗ ⌜ ((m : ℕ) → m < length (now sizes) → getD (now sizes) m 0 ≡ groupSize m) ⌝ }
     ensures { λ r. ⌜ r ≡ length (rowsWords d w (now (memory .entry))) ⌝ }
     ensures { λ r. ⌜ r ≤ 97 * 16384 ⌝ }
 {
@@ -183,17 +202,17 @@ fn four_code(a: u8, b: u8, c: u8, d: u8) -> u32
 }
 
 // The code of the layout of four groups, from group g on.
-pub fn layout_at(row: &[u8], w: usize, g: usize, codes: &[u8; 256]) -> u32
-    requires { ⌜ w + g + 4 ≤ length (now row) ⌝ ∗ ⌜ ((m : ℕ) → m < 256 → getD (now codes) m 0 ≡ cond (valid 3 m) (mergeCode m) 26) ⌝ }
+pub fn layout_at(row: &[u8], w: usize, g: usize, codes: &[u8]) -> u32
+    requires { ⌜ w + g + 4 ≤ length (now row) ⌝ ∗ ⌜ ((m : ℕ) → m < length (now codes) → getD (now codes) m 0 ≡ cond (valid 3 m) (mergeCode m) 26) ⌝ }
     ensures { λ r. ⌜ r ≡ layoutAt w (now (row .entry)) g ⌝ }
     ensures { λ r. ⌜ r < 456976 ⌝ }
 {
     let at = w + g;
     four_code(
-        codes[row[at] as usize],
-        codes[row[at + 1] as usize],
-        codes[row[at + 2] as usize],
-        codes[row[at + 3] as usize],
+        code_at(codes, row[at]),
+        code_at(codes, row[at + 1]),
+        code_at(codes, row[at + 2]),
+        code_at(codes, row[at + 3]),
     )
 }
 
@@ -217,15 +236,8 @@ pub fn put_clear(words: &mut [u32], p: usize, row: &[u8], g: usize)
 }
 
 // The words of 32 slots, from group g on, by group.
-pub fn put_mixed(
-    words: &mut [u32],
-    p: usize,
-    row: &[u8],
-    w: usize,
-    g: usize,
-    codes: &[u8; 256],
-) -> usize
-    requires { ⌜ 8 * g + 32 ≤ w ⌝ ∗ ⌜ w + g + 4 ≤ length (now row) ⌝ ∗ ⌜ p + length (fourWords w (now row) g) ≤ length (now words) ⌝ ∗ ⌜ ((m : ℕ) → m < 256 → getD (now codes) m 0 ≡ cond (valid 3 m) (mergeCode m) 26) ⌝ }
+pub fn put_mixed(words: &mut [u32], p: usize, row: &[u8], w: usize, g: usize, codes: &[u8]) -> usize
+    requires { ⌜ 8 * g + 32 ≤ w ⌝ ∗ ⌜ w + g + 4 ≤ length (now row) ⌝ ∗ ⌜ p + length (fourWords w (now row) g) ≤ length (now words) ⌝ ∗ ⌜ ((m : ℕ) → m < length (now codes) → getD (now codes) m 0 ≡ cond (valid 3 m) (mergeCode m) 26) ⌝ }
     ensures { λ r. ⌜ r ≡ p + length (fourWords w (now (row .entry)) g) ⌝ }
     ensures { λ _. ⌜ now (words .exit) ≡ sets (now (words .entry)) p (fourWords w (now (row .entry)) g) ⌝ }
 {
@@ -234,15 +246,8 @@ pub fn put_mixed(
 }
 
 // The words of 32 slots, from group g on.
-pub fn put_four(
-    words: &mut [u32],
-    p: usize,
-    row: &[u8],
-    w: usize,
-    g: usize,
-    codes: &[u8; 256],
-) -> usize
-    requires { ⌜ 8 * g + 32 ≤ w ⌝ ∗ ⌜ w + g + 4 ≤ length (now row) ⌝ ∗ ⌜ p + length (fourWords w (now row) g) ≤ length (now words) ⌝ ∗ ⌜ ((m : ℕ) → m < 256 → getD (now codes) m 0 ≡ cond (valid 3 m) (mergeCode m) 26) ⌝ }
+pub fn put_four(words: &mut [u32], p: usize, row: &[u8], w: usize, g: usize, codes: &[u8]) -> usize
+    requires { ⌜ 8 * g + 32 ≤ w ⌝ ∗ ⌜ w + g + 4 ≤ length (now row) ⌝ ∗ ⌜ p + length (fourWords w (now row) g) ≤ length (now words) ⌝ ∗ ⌜ ((m : ℕ) → m < length (now codes) → getD (now codes) m 0 ≡ cond (valid 3 m) (mergeCode m) 26) ⌝ }
     ensures { λ r. ⌜ r ≡ p + length (fourWords w (now (row .entry)) g) ⌝ }
     ensures { λ _. ⌜ now (words .exit) ≡ sets (now (words .entry)) p (fourWords w (now (row .entry)) g) ⌝ }
 {
@@ -254,8 +259,8 @@ pub fn put_four(
 }
 
 // The words of a row.
-pub fn put_row(words: &mut [u32], p: usize, row: &[u8], w: usize, codes: &[u8; 256]) -> usize
-    requires { ⌜ w + w / 8 ≤ length (now row) ⌝ ∗ ⌜ w ≤ 65536 ⌝ ∗ ⌜ p + length (rowWords (w / 32) 0 w (now row)) ≤ length (now words) ⌝ ∗ ⌜ ((m : ℕ) → m < 256 → getD (now codes) m 0 ≡ cond (valid 3 m) (mergeCode m) 26) ⌝ }
+pub fn put_row(words: &mut [u32], p: usize, row: &[u8], w: usize, codes: &[u8]) -> usize
+    requires { ⌜ w + w / 8 ≤ length (now row) ⌝ ∗ ⌜ w ≤ 65536 ⌝ ∗ ⌜ p + length (rowWords (w / 32) 0 w (now row)) ≤ length (now words) ⌝ ∗ ⌜ ((m : ℕ) → m < length (now codes) → getD (now codes) m 0 ≡ cond (valid 3 m) (mergeCode m) 26) ⌝ }
     ensures { λ r. ⌜ r ≡ p + length (rowWords (w / 32) 0 w (now (row .entry))) ⌝ }
     ensures { λ _. ⌜ now (words .exit) ≡ sets (now (words .entry)) p (rowWords (w / 32) 0 w (now (row .entry))) ⌝ }
 {
@@ -273,9 +278,9 @@ pub fn put_rows(
     memory: &[u8],
     d: usize,
     w: usize,
-    codes: &[u8; 256],
+    codes: &[u8],
 ) -> usize
-    requires { ⌜ d * stride w ≤ length (now memory) ⌝ ∗ ⌜ w ≤ 65536 ⌝ ∗ ⌜ p + length (rowsWords d w (now memory)) ≤ length (now words) ⌝ ∗ ⌜ ((m : ℕ) → m < 256 → getD (now codes) m 0 ≡ cond (valid 3 m) (mergeCode m) 26) ⌝ }
+    requires { ⌜ d * stride w ≤ length (now memory) ⌝ ∗ ⌜ w ≤ 65536 ⌝ ∗ ⌜ p + length (rowsWords d w (now memory)) ≤ length (now words) ⌝ ∗ ⌜ ((m : ℕ) → m < length (now codes) → getD (now codes) m 0 ≡ cond (valid 3 m) (mergeCode m) 26) ⌝ }
     ensures { λ r. ⌜ r ≡ p + length (rowsWords d w (now (memory .entry))) ⌝ }
     ensures { λ _. ⌜ now (words .exit) ≡ sets (now (words .entry)) p (rowsWords d w (now (memory .entry))) ⌝ }
 {
@@ -290,8 +295,8 @@ pub fn put_rows(
 }
 
 // The whole image.
-pub fn put_image(words: &mut [u32], memory: &[u8], d: usize, w: usize, codes: &[u8; 256])
-    requires { ⌜ d * stride w ≤ length (now memory) ⌝ ∗ ⌜ w ≤ 65536 ⌝ ∗ ⌜ d ≤ 8 ⌝ ∗ ⌜ length (image d w (now memory)) ≤ length (now words) ⌝ ∗ ⌜ ((m : ℕ) → m < 256 → getD (now codes) m 0 ≡ cond (valid 3 m) (mergeCode m) 26) ⌝ }
+pub fn put_image(words: &mut [u32], memory: &[u8], d: usize, w: usize, codes: &[u8])
+    requires { ⌜ d * stride w ≤ length (now memory) ⌝ ∗ ⌜ w ≤ 65536 ⌝ ∗ ⌜ d ≤ 8 ⌝ ∗ ⌜ length (image d w (now memory)) ≤ length (now words) ⌝ ∗ ⌜ ((m : ℕ) → m < length (now codes) → getD (now codes) m 0 ≡ cond (valid 3 m) (mergeCode m) 26) ⌝ }
     ensures { λ _. ⌜ now (words .exit) ≡ image d w (now (memory .entry)) ++ drop (length (image d w (now (memory .entry)))) (now (words .entry)) ⌝ }
 {
     words[0] = word(word::HEAD, log_width(w) * 16 + d as u32);

@@ -1,8 +1,10 @@
+use Prim.Native.Nat.{ℕ}
 use mathlib.Core.Path.{sym, ap, _∙_}
 use native.Mathlib.Omega.{arith}
 use lib.ListN.{length}
 use Rattle.image.proofs.Calls.{Sound, sound-call, read-call, read-faulty, read-done}
-use Rattle.image.proofs.Layouts.{known-codes}
+use Rattle.group.specs.Pack.{codeMerge}
+use Rattle.image.proofs.Sizes.{table-part}
 use Rattle.row.specs.Order.{Done}
 use borrow.Author.Needs.{needs}
 use Rattle.image.proofs.read.Statement.{statement}
@@ -42,7 +44,7 @@ part-check-end c = search needs
 check-requires : tie.Need-check-requires
 check-requires c κs = let t = c .before .before .layout-table in
     let k = sound (c .before .before .before .before) in
-    (omega arith, (omega arith, known-codes (t .result) (c .before .before .before .table-size .result) (t .ensures)))
+    (omega arith, (omega arith, table-part (λ (k : ℕ). codeMerge k) (t .result) (c .before .before .before .table-size .result) (t .ensures)))
 
 rejected-requires-2 : tie.Need-rejected-requires-2
 rejected-requires-2 c κs = search needs
@@ -67,7 +69,7 @@ part-read-rows-end c = search needs
 read-rows-requires : tie.Need-read-rows-requires
 read-rows-requires c κs = let t = c .before .before .before .before .before .before .before .before .layout-table in
     let k = sound (c .before .before .before .before .before .before .before .before .before .before) in
-    (omega arith, (omega arith, (omega arith, known-codes (t .result) (c .before .before .before .before .before .before .before .before .before .table-size .result) (t .ensures))))
+    (omega arith, (omega arith, (omega arith, table-part (λ (k : ℕ). codeMerge k) (t .result) (c .before .before .before .before .before .before .before .before .before .table-size .result) (t .ensures))))
 
 accepted-requires : tie.Need-accepted-requires
 accepted-requires c κs = search needs

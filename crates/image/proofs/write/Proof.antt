@@ -1,12 +1,15 @@
 use mathlib.Core.Path.{_≡_, sym, ap, _∙_}
-use Prim.Native.Nat.{_+_}
+use Prim.Native.Nat.{_+_, _*_, _/_}
 use native.Mathlib.Omega.{arith}
 use borrow.Author.Tests.{not-true, not-false}
 use lib.ListN.{length}
-use Rattle.image.proofs.Calls.{sound-call, image-length, write-call, write-invalid, write-short, write-done}
+use Rattle.image.proofs.Calls.{Sound, sound-call, image-length, write-call, write-invalid, write-short, write-done}
 use Rattle.group.specs.Status.{accepted}
 use Rattle.image.specs.Image.{image}
-use Rattle.image.specs.Write.{Written}
+use Rattle.image.specs.Write.{groupSize, Written}
+use Rattle.row.specs.Geometry.{stride}
+use Rattle.image.proofs.Laws.{row-in}
+use Rattle.image.proofs.Sizes.{table-part, codeOf}
 use borrow.Author.Needs.{needs}
 use Rattle.image.proofs.write.Statement.{statement}
 use Rattle.image.proofs.write.Tie as tie
@@ -23,12 +26,12 @@ returns c = let a = c .before .before .before .before .before .args in
     let e = write-call (a .d) (a .w) (a .memory .now) (a .words .now) (s .result) (s .ensures) (c .before .if1 .taken) in
     (c .rejected .ensures ∙ ap (λ (x : Written). x .answer) (sym e), ap (λ (x : Written). x .words) (sym e))
 
+-- a call whose depth, width and memory have passed
+sound : (c : tie.Else1) → let a = c .before .before .before .before .args in Sound (a .d) (a .w) (length (a .memory .now))
+sound c = let a = c .before .before .before .before .args in sound-call (a .d) (a .w) (length (a .memory .now)) (sym (c .before .bad-shape .ensures) ∙ c .if1 .left)
+
 rows-valid-requires : tie.Need-rows-valid-requires
-rows-valid-requires c κs = let a = c .before .before .before .before .args in
-    let s = c .before .bad-shape in
-    let z = c .if1 .left in
-    let k = sound-call (a .d) (a .w) (length (a .memory .now)) (sym (s .ensures) ∙ z) in
-    (omega arith, omega arith)
+rows-valid-requires c κs = let k = sound c in (omega arith, omega arith)
 
 rejected-requires-2 : tie.Need-rejected-requires-2
 rejected-requires-2 c κs = search needs
@@ -41,15 +44,28 @@ returns-2 c = let a = c .before .before .before .before .before .before .before 
     let e = write-invalid (a .d) (a .w) (a .memory .now) (a .words .now) (s .result) (s .ensures) z v in
     (c .rejected2 .ensures ∙ ap (λ (x : Written). x .answer) (sym e), ap (λ (x : Written). x .words) (sym e))
 
+table-size-requires : tie.Need-table-size-requires
+unfolding stride
+table-size-requires c κs = let a = c .before .before .before .before .before .before .args in
+    let k = sound (c .before .before) in
+    omega (arith, row-in 0 (a .d) (a .w * 9 / 8) {n = length (a .memory .now)} (omega arith) (omega arith), k .width .whole)
+
 size-table-requires : tie.Need-size-table-requires
 size-table-requires c κs = search needs
 
+sub-rows-size : tie.Need-sub-rows-size
+sub-rows-size c = search needs
+
+part-rows-size-start : tie.Need-part-rows-size-start
+part-rows-size-start c = search needs
+
+part-rows-size-end : tie.Need-part-rows-size-end
+part-rows-size-end c = search needs
+
 rows-size-requires : tie.Need-rows-size-requires
-rows-size-requires c κs = let a = c .before .before .before .before .before .before .before .before .args in
-    let s = c .before .before .before .before .before .bad-shape in
-    let z = c .before .before .before .before .if1 .left in
-    let k = sound-call (a .d) (a .w) (length (a .memory .now)) (sym (s .ensures) ∙ z) in
-    (omega arith, (omega arith, (omega arith, c .before .size-table .ensures)))
+rows-size-requires c κs = let k = sound (c .before .before .before .before .before .before) in
+    let t = c .before .before .size-table in
+    (omega arith, (omega arith, (omega arith, table-part groupSize (t .result) (c .before .before .before .table-size .result) (t .ensures))))
 
 add-count : tie.Need-add-count
 add-count c = search needs
@@ -58,22 +74,30 @@ rejected-requires-3 : tie.Need-rejected-requires-3
 rejected-requires-3 c κs = search needs
 
 returns-3 : tie.Need-returns-3
-returns-3 c = let a = c .before .before .before .before .before .before .before .before .before .before .before .args in
-    let s = c .before .before .before .before .before .before .before .before .bad-shape in
-    let z = c .before .before .before .before .before .before .before .if1 .left in
-    let v = sym (c .before .before .before .before .before .before .rows-valid .ensures) ∙ not-false _ (c .before .before .before .before .before .if2 .left) in
+returns-3 c = let a = c .before .before .before .before .before .before .before .before .before .before .before .before .before .args in
+    let s = c .before .before .before .before .before .before .before .before .before .before .bad-shape in
+    let z = c .before .before .before .before .before .before .before .before .before .if1 .left in
+    let v = sym (c .before .before .before .before .before .before .before .before .rows-valid .ensures) ∙ not-false _ (c .before .before .before .before .before .before .before .if2 .left) in
     let e = write-short (a .d) (a .w) (a .memory .now) (a .words .now) (s .result) (s .ensures) z v (omega (arith, image-length (a .d) (a .w) (a .memory .now), c .before .before .rows-size .ensures .0)) in
     (c .rejected3 .ensures ∙ ap (λ (x : Written). x .answer) (sym e), ap (λ (x : Written). x .words) (sym e))
 
 code-table-requires : tie.Need-code-table-requires
 code-table-requires c κs = search needs
 
+sub-put-image : tie.Need-sub-put-image
+sub-put-image c = search needs
+
+part-put-image-start : tie.Need-part-put-image-start
+part-put-image-start c = search needs
+
+part-put-image-end : tie.Need-part-put-image-end
+part-put-image-end c = search needs
+
 put-image-requires : tie.Need-put-image-requires
-put-image-requires c κs = let a = c .before .before .before .before .before .before .before .before .before .before .before .before .before .args in
-    let s = c .before .before .before .before .before .before .before .before .before .before .bad-shape in
-    let z = c .before .before .before .before .before .before .before .before .before .if1 .left in
-    let k = sound-call (a .d) (a .w) (length (a .memory .now)) (sym (s .ensures) ∙ z) in
-    (omega arith, (omega arith, (omega arith, (omega (arith, image-length (a .d) (a .w) (a .memory .now), c .before .before .before .before .rows-size .ensures .0), c .before .before .code-table .ensures))))
+put-image-requires c κs = let a = c .before .before .before .before .before .before .before .before .before .before .before .before .before .before .before .before .args in
+    let k = sound (c .before .before .before .before .before .before .before .before .before .before .before .before) in
+    let t = c .before .before .before .code-table in
+    (omega arith, (omega arith, (omega arith, (omega (arith, image-length (a .d) (a .w) (a .memory .now), c .before .before .before .before .before .rows-size .ensures .0), table-part codeOf (t .result) (c .before .before .before .before .before .before .before .before .before .table-size .result) (t .ensures)))))
 
 accepted-requires : tie.Need-accepted-requires
 accepted-requires c κs = search needs
@@ -82,11 +106,11 @@ same-length : tie.Need-same-length
 same-length c = search needs
 
 returns-4 : tie.Need-returns-4
-returns-4 c = let a = c .before .before .before .before .before .before .before .before .before .before .before .before .before .before .before .before .before .args in
-    let s = c .before .before .before .before .before .before .before .before .before .before .before .before .before .before .bad-shape in
-    let z = c .before .before .before .before .before .before .before .before .before .before .before .before .before .if1 .left in
-    let v = sym (c .before .before .before .before .before .before .before .before .before .before .before .before .rows-valid .ensures) ∙ not-false _ (c .before .before .before .before .before .before .before .before .before .before .before .if2 .left) in
-    let n : c .before .before .before .before .before .before .before .before .rows-size .result + 2 ≡ length (image (a .d) (a .w) (a .memory .now)) = omega (arith, image-length (a .d) (a .w) (a .memory .now), c .before .before .before .before .before .before .before .before .rows-size .ensures .0) in
+returns-4 c = let a = c .before .before .before .before .before .before .before .before .before .before .before .before .before .before .before .before .before .before .before .before .args in
+    let s = c .before .before .before .before .before .before .before .before .before .before .before .before .before .before .before .before .before .bad-shape in
+    let z = c .before .before .before .before .before .before .before .before .before .before .before .before .before .before .before .before .if1 .left in
+    let v = sym (c .before .before .before .before .before .before .before .before .before .before .before .before .before .before .before .rows-valid .ensures) ∙ not-false _ (c .before .before .before .before .before .before .before .before .before .before .before .before .before .before .if2 .left) in
+    let n : c .before .before .before .before .before .before .before .before .before .rows-size .result + 2 ≡ length (image (a .d) (a .w) (a .memory .now)) = omega (arith, image-length (a .d) (a .w) (a .memory .now), c .before .before .before .before .before .before .before .before .before .rows-size .ensures .0) in
     let e = write-done (a .d) (a .w) (a .memory .now) (a .words .now) (s .result) (s .ensures) z v (omega (arith, n)) in
     (c .accepted .ensures ∙ ap accepted n ∙ ap (λ (x : Written). x .answer) (sym e), c .before .before .before .put-image .ensures ∙ ap (λ (x : Written). x .words) (sym e))
 
@@ -100,12 +124,19 @@ write-spec =
     rows-valid-requires
     rejected-requires-2
     returns-2
+    table-size-requires
     size-table-requires
+    sub-rows-size
+    part-rows-size-start
+    part-rows-size-end
     rows-size-requires
     add-count
     rejected-requires-3
     returns-3
     code-table-requires
+    sub-put-image
+    part-put-image-start
+    part-put-image-end
     put-image-requires
     accepted-requires
     same-length

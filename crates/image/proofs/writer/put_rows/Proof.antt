@@ -23,14 +23,14 @@ mul-size c = omega arith
 
 loop-holds : tie.Need-loop-holds Inv-loop μ-loop
 unfolding stride
-loop-holds c = let a = c .before .before .args in
+loop-holds c = let a = c .before .before .before .args in
     let e = ap₂ (λ (n k : ℕ). rowsWords n (a .w) (drop k (a .memory .now))) (sub-zero (a .d)) (zero-mul (stride (a .w))) in
     (omega arith, refl, ap (λ (x : List ℕ). a .p + length x) e, refl, ap (sets (a .words .now) (a .p)) e)
 
-row-fits : (c : tie.In-loop Inv-loop μ-loop) → let a = c .before .before .before .before .args in c .before .loop .r * (a .w * 9 / 8) + a .w * 9 / 8 ≤ length (a .memory .now)
+row-fits : (c : tie.In-loop Inv-loop μ-loop) → let a = c .before .before .before .before .before .args in c .before .loop .r * (a .w * 9 / 8) + a .w * 9 / 8 ≤ length (a .memory .now)
 unfolding stride
-row-fits c = let a = c .before .before .before .before .args in
-    row-in (c .before .loop .r) (a .d) (a .w * 9 / 8) (c .loop-test .taken) (c .before .before .before .before .pre .0)
+row-fits c = let a = c .before .before .before .before .before .args in
+    row-in (c .before .loop .r) (a .d) (a .w * 9 / 8) (c .loop-test .taken) (c .before .before .before .before .before .pre .0)
 
 mul-a : tie.Need-mul-a Inv-loop μ-loop
 mul-a c = omega (arith, row-fits c)
@@ -49,11 +49,11 @@ part-put-row-end c = omega (arith, row-fits (c .before))
 
 put-row-requires : tie.Need-put-row-requires Inv-loop μ-loop
 put-row-requires c κs = let l = c .before .before .before .loop in
-    let a = c .before .before .before .before .before .before .args in (
+    let a = c .before .before .before .before .before .before .before .args in (
       omega (arith, row-fits (c .before .before)),
       (
         omega arith,
-        (rw (row-part (a .memory .now) (l .r) (a .w) _ (l .inv .1)) (omega (arith, rows-length-step (a .memory .now) (a .d) (l .r) (a .w) (omega arith))), c .before .before .before .before .before .before .pre .1 .1 .1),
+        (rw (row-part (a .memory .now) (l .r) (a .w) _ (l .inv .1)) (omega (arith, rows-length-step (a .memory .now) (a .d) (l .r) (a .w) (omega arith))), c .before .before .before .before .before .before .before .pre .1 .1 .1),
       ),
     )
 
@@ -65,7 +65,7 @@ loop-less c = search needs
 
 loop-again : tie.Need-loop-again Inv-loop μ-loop
 loop-again c = let l = c .before .before .before .before .before .before .loop in
-    let a = c .before .before .before .before .before .before .before .before .before .args in
+    let a = c .before .before .before .before .before .before .before .before .before .before .args in
     let s = c .before .before .put-row in
     let row = rowWords (a .w / 32) 0 (a .w) (take (stride (a .w)) (drop (l .r * stride (a .w)) (a .memory .now))) in
     let e = ap (rowWords (a .w / 32) 0 (a .w)) (row-part (a .memory .now) (l .r) (a .w) _ (l .inv .1)) in
@@ -83,7 +83,7 @@ same-length c = search needs
 
 returns : tie.Need-returns Inv-loop μ-loop
 returns c = let l = c .before .loop in
-    let a = c .before .before .before .before .args in
+    let a = c .before .before .before .before .before .args in
     let e = rows-none (a .d - l .r) (a .w) (drop (l .r * stride (a .w)) (a .memory .now)) (omega arith) in
     (omega (arith, ap length e), sym (ap (sets (l .words) (l .at)) e) ∙ l .inv .4)
 

@@ -16,7 +16,7 @@ abbrev μ-loop : tie.MeasureT-loop
 μ-loop row w sizes n₀ i₀ i-end n i = i-end - i
 
 loop-holds : tie.Need-loop-holds Inv-loop μ-loop
-loop-holds c = let a = c .before .args in
+loop-holds c = let a = c .before .before .args in
     (omega arith, refl, omega arith, zero-add _ ∙ ap (λ (x : ℕ). length (rowWords x 0 (a .w) (a .row .now))) (sub-zero (a .w / 32)))
 
 mul-groups-size : tie.Need-mul-groups-size Inv-loop μ-loop
@@ -39,12 +39,12 @@ loop-less c = search needs
 
 loop-again : tie.Need-loop-again Inv-loop μ-loop
 loop-again c = let l = c .before .before .loop in
-    let a = c .before .before .before .before .args in
+    let a = c .before .before .before .before .before .args in
     (omega arith, l .inv .1, omega arith, omega (arith, row-length-step (a .w / 32) (l .i) (a .w) (a .row .now) (omega arith), c .groups-size .ensures .0))
 
 returns : tie.Need-returns Inv-loop μ-loop
 returns c = let l = c .before .loop in
-    let a = c .before .before .before .args in
+    let a = c .before .before .before .before .args in
     (omega (arith, ap length (row-none (a .w / 32 - l .i) (4 * l .i) (a .w) (a .row .now) (omega arith))), omega arith)
 
 pub row-size-spec : {M : Type 1} → statement M

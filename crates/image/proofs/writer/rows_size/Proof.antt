@@ -22,13 +22,13 @@ mul-size c = omega arith
 
 loop-holds : tie.Need-loop-holds Inv-loop μ-loop
 unfolding stride
-loop-holds c = let a = c .before .args in
+loop-holds c = let a = c .before .before .args in
     (omega arith, refl, omega arith, zero-add _ ∙ ap₂ (λ (n k : ℕ). length (rowsWords n (a .w) (drop k (a .memory .now)))) (sub-zero (a .d)) (zero-mul (stride (a .w))))
 
-row-fits : (c : tie.In-loop Inv-loop μ-loop) → let a = c .before .before .before .args in c .before .loop .r * (a .w * 9 / 8) + a .w * 9 / 8 ≤ length (a .memory .now)
+row-fits : (c : tie.In-loop Inv-loop μ-loop) → let a = c .before .before .before .before .args in c .before .loop .r * (a .w * 9 / 8) + a .w * 9 / 8 ≤ length (a .memory .now)
 unfolding stride
-row-fits c = let a = c .before .before .before .args in
-    row-in (c .before .loop .r) (a .d) (a .w * 9 / 8) (c .loop-test .taken) (c .before .before .before .pre .0)
+row-fits c = let a = c .before .before .before .before .args in
+    row-in (c .before .loop .r) (a .d) (a .w * 9 / 8) (c .loop-test .taken) (c .before .before .before .before .pre .0)
 
 mul-a : tie.Need-mul-a Inv-loop μ-loop
 mul-a c = omega (arith, row-fits c)
@@ -46,7 +46,7 @@ part-row-size-end : tie.Need-part-row-size-end Inv-loop μ-loop
 part-row-size-end c = omega (arith, row-fits c)
 
 row-size-requires : tie.Need-row-size-requires Inv-loop μ-loop
-row-size-requires c κs = (omega (arith, row-fits (c .before)), (omega arith, c .before .before .before .before .pre .1 .1 .1))
+row-size-requires c κs = (omega (arith, row-fits (c .before)), (omega arith, c .before .before .before .before .before .pre .1 .1 .1))
 
 add-n : tie.Need-add-n Inv-loop μ-loop
 add-n c = search needs
@@ -59,14 +59,14 @@ loop-less c = search needs
 
 loop-again : tie.Need-loop-again Inv-loop μ-loop
 loop-again c = let l = c .before .before .before .loop in
-    let a = c .before .before .before .before .before .args in
+    let a = c .before .before .before .before .before .before .args in
     let z : c .row-size .result ≡ length (rowWords (a .w / 32) 0 (a .w) (take (stride (a .w)) (drop (l .r * stride (a .w)) (a .memory .now))))
     = c .row-size .ensures .0 ∙ ap (λ (x : List ℕ). length (rowWords (a .w / 32) 0 (a .w) x)) (row-part (a .memory .now) (l .r) (a .w) _ (l .inv .1)) in
     (omega arith, l .inv .1, omega arith, omega (arith, rows-length-step (a .memory .now) (a .d) (l .r) (a .w) (omega arith), z))
 
 returns : tie.Need-returns Inv-loop μ-loop
 returns c = let l = c .before .loop in
-    let a = c .before .before .before .args in
+    let a = c .before .before .before .before .args in
     (omega (arith, ap length (rows-none (a .d - l .r) (a .w) (drop (l .r * stride (a .w)) (a .memory .now)) (omega arith))), omega arith)
 
 pub rows-size-spec : {M : Type 1} → statement M
