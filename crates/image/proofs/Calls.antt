@@ -1,23 +1,23 @@
 -- What the calls answer, by their tests.
 use mathlib.Core.Path.{_≡_, refl, sym, ap, _∙_}
-use mathlib.Core.Bool.{Bool, true, false}
+use mathlib.Core.Bool.{true, false}
 use mathlib.Core.List.{List, [], _∷_, _++_}
 use Prim.Native.Nat.{ℕ, zero, suc, _+_, _*_, _≤_, _<_}
 use native.Mathlib.Nat.{zero-add}
 use native.Mathlib.Omega.{arith}
-use borrow.Author.Tests.{eqb-true, leb-true, eq-eqb, ne-eqb, le-leb, lt-leb}
-use lib.Dec.{eqb, leb}
+use borrow.Author.Tests.{eq-eqb, ne-eqb, le-leb, lt-leb}
+use lib.Dec.{leb}
 use lib.ListN.{length, drop, set, length-append}
 use lib.Seq.{sets, sets-eq}
 use Rattle.group.specs.Status.{invalidMerge, accepted, rejected}
-use Rattle.row.specs.Geometry.{validDepth, validWidth, stride, size}
+use Rattle.row.specs.Geometry.{stride, size}
 use Rattle.row.specs.Order.{unless, firstOf, badShape}
 use Rattle.word.specs.declared.Step.{Step}
 use Rattle.word.specs.Word.{headKind}
 use Rattle.image.specs.Image.{word, headPayload, rowsWords, body, endWord, image}
 use Rattle.image.specs.Write.{tooFewWords, validRows, writeStatus, finishWrite, written}
 use Rattle.image.specs.Read.{checked, readRows, finishRead, readAfter, taken}
-use Rattle.word.proofs.Laws.{both}
+use Rattle.row.proofs.Widths.{shape-good}
 use Rattle.image.proofs.Laws.{Width, width-is, sets-append}
 
 -- a call whose depth, width and memory have passed
@@ -27,19 +27,11 @@ pub record Sound (d w n : ℕ) : Type 0 where
   pub width : Width w
   pub long : n ≡ d * stride w
 
-three : (a b c : Bool) → firstOf (unless a 1 ∷ unless b 2 ∷ unless c 3 ∷ []) ≡ 0 → (a ≡ true) × (b ≡ true) × (c ≡ true)
-unfolding firstOf
-three true true true e = (refl, refl, refl)
-three true true false e = absurd (omega arith)
-three true false c e = absurd (omega arith)
-three false b c e = absurd (omega arith)
-
 pub sound-call : (d w n : ℕ) → badShape d w n ≡ 0 → Sound d w n
-unfolding validDepth size
+unfolding size
 sound-call d w n e =
-    let t = three (validDepth d) (validWidth w) (eqb n (size d w)) e in
-    let b = both (leb 1 d) (leb d 8) (t .0) in
-    record { deep = leb-true 1 d (b .0); depth = leb-true d 8 (b .1); width = width-is w (t .1); long = eqb-true n (d * stride w) (t .2) }
+    let s = shape-good d w n e in
+    record { deep = s .0; depth = s .1 .1; width = width-is w (s .1 .0); long = s .1 .2 }
 
 -- an image's length, and an image as the code puts it
 pub image-length : (d w : ℕ) (memory : List ℕ) → length (image d w memory) ≡ length (rowsWords d w memory) + 2

@@ -4,7 +4,7 @@ use mathlib.Core.Path.{_≡_, refl, sym, ap, _∙_}
 use mathlib.Core.Bool.{Bool, true, false, cond, _&&_, _||_, true≢false}
 use mathlib.Core.List.{List, [], _∷_, _++_, append-assoc}
 use Prim.Native.Nat.{ℕ, zero, suc, _+_, _-_, _*_, _/_, _%_, _^_, _≤_, _<_}
-use native.Mathlib.Nat.{mod-eq-of-lt, one-mul, mul-le-mul-right, suc-mul, add-mul, add-assoc, add-zero, add-suc, suc-add, mul-one, mul-comm, mul-assoc, pow-suc}
+use native.Mathlib.Nat.{mod-eq-of-lt, one-mul, mul-le-mul-right, add-mul, add-assoc, add-zero, add-suc, suc-add, mul-one, mul-comm, mul-assoc, pow-suc}
 use native.Mathlib.Numerals.{add-one, sub-one}
 use native.Mathlib.Omega.{arith}
 use borrow.Rule.Slice.PartMut.{putMid, post-is}
@@ -158,11 +158,8 @@ width-is w e =
     powers-are 12 32 w Width
     (λ i h. record { least = omega (arith, pow-pos i); most = omega (arith, pow-mono {i = i} {j = 11} (omega arith)); whole = omega arith }) e
 
--- row r of d rows
-pub row-in : (r d s : ℕ) {n : ℕ} → r < d → d * s ≤ n → r * s + s ≤ n
-row-in r d s h k = omega (arith, mul-le-mul-right {m = suc r} {n = d} s h, suc-mul r s)
-
-pub row-part : (memory : List ℕ) (r w size : ℕ) → size ≡ stride w → take (r * size + size - r * size) (drop (r * size) memory) ≡ take (stride w) (drop (r * stride w) memory)
+-- the bytes of row r, and those after it
+row-part : (memory : List ℕ) (r w size : ℕ) → size ≡ stride w → take (r * size + size - r * size) (drop (r * size) memory) ≡ take (stride w) (drop (r * stride w) memory)
 row-part memory r w size e =
     let s : r * size + size - r * size ≡ size = omega arith in
     rw s (ap (λ (n : ℕ). take n (drop (r * n) memory)) e)

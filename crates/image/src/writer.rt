@@ -6,6 +6,7 @@ use crate::tables::code_at;
 use crate::tables::size_at;
 use group::Group;
 use row::load;
+use row::row_at;
 ghost use mathlib.Core.Path.{_≡_};
 ghost use mathlib.Core.Bool.{true, false, cond, _&&_};
 ghost use mathlib.Core.List.{_∷_, _++_, map};
@@ -15,7 +16,7 @@ ghost use lib.ListN.{length, getD, take, drop};
 ghost use lib.Seq.{sets};
 ghost use Rattle.layout.specs.Layout.{valid};
 ghost use Rattle.group.specs.Pack.{mergeCode};
-ghost use Rattle.row.specs.Geometry.{stride};
+ghost use Rattle.row.specs.Geometry.{RowsIn};
 ghost use Rattle.image.specs.Image as spec;
 ghost use Rattle.image.specs.Image.{layoutKind, countKind, parts, groupWords, groupsWords, layoutAt, fourWords, rowWords, rowsWords, image};
 ghost use Rattle.image.specs.Write.{allValid, validRows, groupSize};
@@ -64,14 +65,11 @@ pub fn row_valid(row: &[u8], w: usize) -> bool
 
 // Whether all merge bytes of d rows are valid.
 pub fn rows_valid(memory: &[u8], d: usize, w: usize) -> bool
-    requires { ⌜ d * stride w ≤ length (now memory) ⌝ ∗ ⌜ w ≤ 65536 ⌝ }
+    requires { ⌜ RowsIn d w (length (now memory)) ⌝ }
     ensures { λ r. ⌜ r ≡ validRows d w (now (memory .entry)) ⌝ }
 {
-    let size = w * 9 / 8;
     for r in 0..d {
-        let a = r * size;
-        let e = a + size;
-        if !row_valid(&memory[a..e], w) {
+        if !row_valid(row_at(w, memory, r), w) {
             return false;
         }
     }
@@ -126,16 +124,13 @@ pub fn row_size(row: &[u8], w: usize, sizes: &[u8]) -> usize
 
 // The number of words of d rows.
 pub fn rows_size(memory: &[u8], d: usize, w: usize, sizes: &[u8]) -> usize
-    requires { ⌜ d * stride w ≤ length (now memory) ⌝ ∗ ⌜ w ≤ 65536 ⌝ ∗ ⌜ d ≤ 8 ⌝ ∗ ⌜ ((m : ℕ) → m < length (now sizes) → getD (now sizes) m 0 ≡ groupSize m) ⌝ }
+    requires { ⌜ RowsIn d w (length (now memory)) ⌝ ∗ ⌜ ((m : ℕ) → m < length (now sizes) → getD (now sizes) m 0 ≡ groupSize m) ⌝ }
     ensures { λ r. ⌜ r ≡ length (rowsWords d w (now (memory .entry))) ⌝ }
     ensures { λ r. ⌜ r ≤ 97 * 16384 ⌝ }
 {
-    let size = w * 9 / 8;
     let mut n = 0;
     for r in 0..d {
-        let a = r * size;
-        let e = a + size;
-        n += row_size(&memory[a..e], w, sizes);
+        n += row_size(row_at(w, memory, r), w, sizes);
     }
     n
 }
@@ -280,23 +275,20 @@ pub fn put_rows(
     w: usize,
     codes: &[u8],
 ) -> usize
-    requires { ⌜ d * stride w ≤ length (now memory) ⌝ ∗ ⌜ w ≤ 65536 ⌝ ∗ ⌜ p + length (rowsWords d w (now memory)) ≤ length (now words) ⌝ ∗ ⌜ ((m : ℕ) → m < length (now codes) → getD (now codes) m 0 ≡ cond (valid 3 m) (mergeCode m) 26) ⌝ }
+    requires { ⌜ RowsIn d w (length (now memory)) ⌝ ∗ ⌜ p + length (rowsWords d w (now memory)) ≤ length (now words) ⌝ ∗ ⌜ ((m : ℕ) → m < length (now codes) → getD (now codes) m 0 ≡ cond (valid 3 m) (mergeCode m) 26) ⌝ }
     ensures { λ r. ⌜ r ≡ p + length (rowsWords d w (now (memory .entry))) ⌝ }
     ensures { λ _. ⌜ now (words .exit) ≡ sets (now (words .entry)) p (rowsWords d w (now (memory .entry))) ⌝ }
 {
-    let size = w * 9 / 8;
     let mut at = p;
     for r in 0..d {
-        let a = r * size;
-        let e = a + size;
-        at = put_row(words, at, &memory[a..e], w, codes);
+        at = put_row(words, at, row_at(w, memory, r), w, codes);
     }
     at
 }
 
 // The whole image.
 pub fn put_image(words: &mut [u32], memory: &[u8], d: usize, w: usize, codes: &[u8])
-    requires { ⌜ d * stride w ≤ length (now memory) ⌝ ∗ ⌜ w ≤ 65536 ⌝ ∗ ⌜ d ≤ 8 ⌝ ∗ ⌜ length (image d w (now memory)) ≤ length (now words) ⌝ ∗ ⌜ ((m : ℕ) → m < length (now codes) → getD (now codes) m 0 ≡ cond (valid 3 m) (mergeCode m) 26) ⌝ }
+    requires { ⌜ RowsIn d w (length (now memory)) ⌝ ∗ ⌜ length (image d w (now memory)) ≤ length (now words) ⌝ ∗ ⌜ ((m : ℕ) → m < length (now codes) → getD (now codes) m 0 ≡ cond (valid 3 m) (mergeCode m) 26) ⌝ }
     ensures { λ _. ⌜ now (words .exit) ≡ image d w (now (memory .entry)) ++ drop (length (image d w (now (memory .entry)))) (now (words .entry)) ⌝ }
 {
     words[0] = word(word::HEAD, log_width(w) * 16 + d as u32);

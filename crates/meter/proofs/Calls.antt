@@ -13,9 +13,9 @@ use Rattle.row.specs.Geometry.{stride, size, RowsIn}
 use Rattle.row.specs.Order.{firstOf, earliest, badDepth, badWidth, badLength, badShape, badKey, answerOf, finish}
 use Rattle.row.specs.Rows.{mapRows, ofRows, least, largest}
 use Rattle.row.specs.Row.{updateStatus, updateRow}
-use Rattle.row.proofs.Widths.{first-rest, first-part, first-one}
+use Rattle.row.proofs.Widths.{shape-good, first-rest, first-part, first-one}
 use Rattle.meter.specs.Meter.{badCall, cleared, updated, readStatus, readValue, estimated, rowStatus, rowLevel, widest, sourceStatus, sourceAdded, united}
-use Rattle.meter.proofs.Gather.{shape-good, first-stop, first-skip, answer-bad, rejecting, accepting}
+use Rattle.meter.proofs.Gather.{first-stop, first-skip, answer-bad, rejecting, accepting}
 
 -- a call with a key: its shape comes first
 pub call-shape-bad : (d w : ℕ) (memory key : List ℕ) → (badShape d w (length memory) ≡ 0 → ⊥) → badShape d w (length memory) ≡ badCall d w memory key

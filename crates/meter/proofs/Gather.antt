@@ -1,38 +1,19 @@
 -- What is read of rows, gathered one by one, and a call's tests taken in two parts.
 use mathlib.Core.Path.{_≡_, refl, sym, ap, _∙_}
-use mathlib.Core.Bool.{Bool, true, false}
 use mathlib.Core.List.{List, [], _∷_, _++_}
 use Prim.Native.Nat.{ℕ, zero, suc, _+_, _-_, _*_, _≤_, _<_, min, max}
 use native.Mathlib.Nat.{max-zero}
 use native.Mathlib.Numerals.{add-one}
 use native.Mathlib.Omega.{arith}
-use borrow.Author.Tests.{eqb-true, ne-eqb}
-use lib.Dec.{eqb}
-use lib.ListN.{length, take, drop, set, replicate, length-drop, replicate-append-replicate}
-use lib.Seq.{length-take-le, take-suc-set}
-use Rattle.row.specs.Geometry.{validDepth, validWidth, stride, size, RowIn, RowsIn}
-use Rattle.row.specs.Order.{firstOf, earlier, earliest, unless, badShape, answerOf, finish}
+use borrow.Author.Tests.{ne-eqb}
+use lib.ListN.{length, take, drop, set, replicate, replicate-append-replicate}
+use lib.Seq.{take-suc-set}
+use Rattle.row.specs.Geometry.{stride}
+use Rattle.row.specs.Order.{firstOf, earlier, earliest, answerOf, finish}
 use Rattle.row.specs.Rows.{ofRows, leastOr, least, largest}
-use Rattle.row.proofs.Widths.{depth-in, earlier-none, earlier-assoc}
-use Rattle.row.proofs.Lists.{row-in, rows-read, rows-read-none, rows-read-all}
+use Rattle.row.proofs.Widths.{earlier-none, earlier-assoc}
+use Rattle.row.proofs.Lists.{rows-read, rows-read-none, rows-read-all}
 use Rattle.meter.specs.Meter.{rowOf}
-
--- each of the rows lies in the memory
-pub one-row : (d w r : ℕ) {bytes : ℕ} → RowsIn d w bytes → r < d → RowIn w r bytes
-unfolding size
-one-row d w r p h = (p .0, omega (arith, p .1), row-in r d (stride w) h (omega (arith, p .2)))
-
--- a shape with nothing wrong
-pub shape-good : (d w bytes : ℕ) → badShape d w bytes ≡ 0 → (1 ≤ d) × RowsIn d w bytes
-unfolding firstOf
-shape-good d w bytes = go (validDepth d) (validWidth w) (eqb bytes (size d w)) refl refl refl
-  where
-    go : (a b c : Bool) → validDepth d ≡ a → validWidth w ≡ b → eqb bytes (size d w) ≡ c
-        → firstOf (unless a 1 ∷ unless b 2 ∷ unless c 3 ∷ []) ≡ 0 → (1 ≤ d) × RowsIn d w bytes
-    go true true true p q s e = (depth-in d p .0, (q, depth-in d p .1, eqb-true bytes (size d w) s))
-    go true true false p q s e = absurd (omega arith)
-    go true false c p q s e = absurd (omega arith)
-    go false b c p q s e = absurd (omega arith)
 
 module _ (f : ℕ → List ℕ → ℕ) (w : ℕ) (d r : ℕ) (memory : List ℕ) where
   pub status-turn : (s x : ℕ) → r < d → x ≡ f r (rowOf w memory r)
@@ -91,10 +72,6 @@ zeros-turn memory i h e =
     ∙ take-suc-set memory i 0 h
     ∙ ap (λ (l : List ℕ). l ++ (0 ∷ [])) e
     ∙ replicate-append-replicate i 1 0
-
-pub row-length : (w r : ℕ) (memory : List ℕ) → r * stride w + stride w ≤ length memory → length (rowOf w memory r) ≡ stride w
-unfolding rowOf
-row-length w r memory h = length-take-le (stride w) (drop (r * stride w) memory) (rw (length-drop (r * stride w) memory) (omega arith))
 
 -- tests in checking order, one by one
 pub first-stop : (s : ℕ) (ss : List ℕ) → (s ≡ 0 → ⊥) → firstOf (s ∷ ss) ≡ s

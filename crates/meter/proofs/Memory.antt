@@ -19,11 +19,11 @@ use Rattle.row.specs.Geometry.{validWidth, stride, size, RowsIn}
 use Rattle.row.specs.Order.{firstOf, earlier, earliest, unless, badLength, badShape, answerOf, finish}
 use Rattle.row.specs.Rows.{mapRows, ofRows, ofGroups, groupAt}
 use Rattle.row.specs.Row.{keySlot, addedIn, updateStatus, updateRow, unitedAt, unitedStatus, uniteStatus, uniteRow}
-use Rattle.row.proofs.Widths.{wide, stride-is, slot-in, group-in, first-one}
+use Rattle.row.proofs.Widths.{shape-good, wide, stride-is, slot-in, group-in, first-one}
+use Rattle.row.proofs.Lists.{one-row, row-length}
 use Rattle.row.proofs.Groups.{row-mapped, length-mapped, length-with, group-same, group-other, eight-at, length-united, united-from}
 use Rattle.meter.specs.Meter.{badCall, rowOf, cleared, updated, sourceStatus, sourceAdded, united}
 use Rattle.meter.specs.Valid.{Valid}
-use Rattle.meter.proofs.Gather.{one-row, shape-good, row-length}
 use Rattle.meter.proofs.Calls.{call-good, cleared-good, updated-good, united-good}
 
 -- no status where the first of several is none
@@ -175,7 +175,8 @@ update-accepted d w memory key amount e =
 
 -- lengths of the rows of a memory that they lie in
 pub rows-long : (d w : ℕ) (memory : List ℕ) → RowsIn d w (length memory) → (r : ℕ) → r < d → length (rowOf w memory r) ≡ stride w
-rows-long d w memory p r h = row-length w r memory (one-row d w r p h .2)
+unfolding rowOf
+rows-long d w memory p r h = row-length r (stride w) memory (one-row d w r p h .2)
 
 pub update-valid : (d w : ℕ) (memory key : List ℕ) (amount : ℕ) → updated d w memory key amount .answer .status ≡ 0 → Valid d w memory
     → Valid d w (updated d w memory key amount .memory)

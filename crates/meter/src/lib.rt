@@ -9,6 +9,7 @@ use row::bad_shape;
 use row::earlier;
 use row::keys::key_slots;
 use row::keys::row_slot;
+use row::row_at;
 ghost use mathlib.Core.Path.{_≡_};
 ghost use mathlib.Core.Bool.{cond};
 ghost use mathlib.Core.List.{List};
@@ -17,7 +18,7 @@ ghost use lib.Dec.{eqb};
 ghost use lib.ListN.{length, getD, replicate};
 ghost use Rattle.group.specs.declared.Group as spec_group;
 ghost use Rattle.group.specs.Group.{read};
-ghost use Rattle.row.specs.Geometry.{RowIn, RowsIn};
+ghost use Rattle.row.specs.Geometry.{RowsIn};
 ghost use Rattle.row.specs.Geometry as geometry;
 ghost use Rattle.row.specs.Order.{earliest};
 ghost use Rattle.row.specs.Rows.{mapRows, ofRows, groupAt, withGroup, least, largest};
@@ -64,18 +65,6 @@ fn whole(bytes: &[u8]) -> &[u8]
     ensures { λ s. ⌜ now s ≡ now (bytes .entry) ⌝ }
 {
     &bytes[0..bytes.len()]
-}
-
-// Row r of a memory.
-fn row_at(w: usize, memory: &[u8], r: usize) -> &[u8]
-    requires { ⌜ RowIn w r (length (now memory)) ⌝ }
-    ensures { λ s. ⌜ now s ≡ rowOf w (now (memory .entry)) r ⌝ }
-    ensures { λ s. ⌜ length (now s) ≡ geometry.stride w ⌝ }
-{
-    let stride = row::stride(w);
-    let start = r * stride;
-    let end = start + stride;
-    &memory[start..end]
 }
 
 // The groups that an update leaves in the rows, and the first status.

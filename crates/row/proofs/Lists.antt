@@ -7,8 +7,10 @@ use native.Mathlib.Numerals.{add-one, sub-one}
 use native.Mathlib.Decide.{decLt}
 use native.Mathlib.Omega.{arith}
 use borrow.Rule.Slice.PartMut.{putMid, post-is}
-use lib.ListN.{length, getD, take, drop, set, length-append, take-append-drop, drop-of-length-le}
+use lib.ListN.{length, getD, take, drop, set, length-append, length-drop, take-append-drop, drop-of-length-le}
 use lib.Seq.{paste-suc, length-take-le, take-at, drop-at, drop-drop, getD-drop, getD-set-same, getD-set-other}
+use Rattle.row.specs.Geometry.{size, RowIn, RowsIn}
+use Rattle.row.specs.Geometry as geometry
 use Rattle.row.specs.Rows.{mapRows, ofRows, ofGroups, withGroup, largest}
 use Rattle.row.specs.Order.{earlier, earliest}
 use Rattle.row.specs.Row.{unitedAt, uniteGroups}
@@ -39,6 +41,13 @@ range-more P a k h p i l m = elim (decLt i k) [
 -- row r of d rows lies in the memory
 pub row-in : (r d stride : ℕ) {n : ℕ} → r < d → d * stride ≤ n → r * stride + stride ≤ n
 row-in r d stride h k = omega (arith, mul-le-mul-right {m = suc r} {n = d} stride h, suc-mul r stride)
+
+pub one-row : (d w r : ℕ) {bytes : ℕ} → RowsIn d w bytes → r < d → RowIn w r bytes
+unfolding size
+one-row d w r p h = (p .0, omega (arith, p .1), row-in r d (geometry.stride w) h (omega (arith, p .2)))
+
+pub row-length : (r stride : ℕ) (memory : List ℕ) → r * stride + stride ≤ length memory → length (take stride (drop (r * stride) memory)) ≡ stride
+row-length r stride memory h = length-take-le stride (drop (r * stride) memory) (rw (length-drop (r * stride) memory) (omega arith))
 
 -- the row after it starts where it ends
 next-row : (r stride : ℕ) → (r + 1) * stride ≡ r * stride + stride

@@ -1,6 +1,6 @@
 -- Laws of widths and of the order of rejections.
 use mathlib.Core.Path.{_≡_, refl, sym, ap, _∙_}
-use mathlib.Core.Bool.{true, false, true≢false, or-true, and-eq-true-iff}
+use mathlib.Core.Bool.{Bool, true, false, true≢false, or-true, and-eq-true-iff}
 use mathlib.Core.Logic.{⊎-elim}
 use mathlib.Core.List.{List, [], _∷_, _++_}
 use Prim.Native.Nat.{ℕ, zero, suc, _+_, _-_, _*_, _/_, _%_, _^_, _≤_, _<_, min}
@@ -14,8 +14,8 @@ use lib.Dec.{eqb, leb}
 use lib.Pow.{pow-add, pow-mono, pow-lt}
 use Rattle.layout.proofs.Laws.{or-cases}
 use Rattle.block.proofs.Every.{both-ways}
-use Rattle.row.specs.Geometry.{oneOfPowers, validDepth, validWidth, stride}
-use Rattle.row.specs.Order.{firstOf, earlier, answerOf}
+use Rattle.row.specs.Geometry.{oneOfPowers, validDepth, validWidth, stride, size, RowsIn}
+use Rattle.row.specs.Order.{firstOf, unless, badShape, earlier, answerOf}
 use Rattle.group.specs.Status.{rejected}
 
 shift : (p i : ℕ) → p * 2 * 2 ^ i ≡ p * 2 ^ suc i
@@ -162,6 +162,18 @@ unfolding validDepth
 depth-in d v =
     let p = and-eq-true-iff (leb 1 d) (leb d 8) .0 v in
     (leb-true 1 d (p .0), leb-true d 8 (p .1))
+
+-- a shape with nothing wrong
+pub shape-good : (d w bytes : ℕ) → badShape d w bytes ≡ 0 → (1 ≤ d) × RowsIn d w bytes
+unfolding firstOf
+shape-good d w bytes = go (validDepth d) (validWidth w) (eqb bytes (size d w)) refl refl refl
+  where
+    go : (a b c : Bool) → validDepth d ≡ a → validWidth w ≡ b → eqb bytes (size d w) ≡ c
+        → firstOf (unless a 1 ∷ unless b 2 ∷ unless c 3 ∷ []) ≡ 0 → (1 ≤ d) × RowsIn d w bytes
+    go true true true p q s e = (depth-in d p .0, (q, depth-in d p .1, eqb-true bytes (size d w) s))
+    go true true false p q s e = absurd (omega arith)
+    go true false c p q s e = absurd (omega arith)
+    go false b c p q s e = absurd (omega arith)
 
 -- the shape of a memory
 pub size-in : (d w : ℕ) → validDepth d ≡ true → validWidth w ≡ true → d * stride w ≤ 589824

@@ -11,7 +11,7 @@ ghost use mathlib.Core.List.{_++_};
 ghost use Prim.Native.Nat.{ℕ, _+_, _*_, _/_, _<_, _≤_, max};
 ghost use lib.Dec.{eqb};
 ghost use lib.ListN.{length, getD, take, drop};
-ghost use Rattle.row.specs.Geometry.{validDepth, validWidth};
+ghost use Rattle.row.specs.Geometry.{validDepth, validWidth, RowIn};
 ghost use Rattle.row.specs.Geometry as geometry;
 ghost use Rattle.row.specs.Order.{badKey, badShape, answerOf};
 ghost use Rattle.row.specs.Order as order;
@@ -110,6 +110,18 @@ pub fn answer(status: u8, value: u64) -> Answer
         position: 0,
         value: 0,
     }
+}
+
+// Row r of a memory.
+pub fn row_at(w: usize, memory: &[u8], r: usize) -> &[u8]
+    requires { ⌜ RowIn w r (length (now memory)) ⌝ }
+    ensures { λ s. ⌜ now s ≡ take (geometry.stride w) (drop (r * geometry.stride w) (now (memory .entry))) ⌝ }
+    ensures { λ s. ⌜ length (now s) ≡ geometry.stride w ⌝ }
+{
+    let stride = stride(w);
+    let start = r * stride;
+    let end = start + stride;
+    &memory[start..end]
 }
 
 // The eight bytes from `at` on.
@@ -220,7 +232,7 @@ pub fn widest_row(row: &[u8], w: usize) -> Answer
 }
 
 // Group g of a row united with that of a source row.
-pub fn united_at(row: &[u8], source: &[u8], w: usize, g: usize) -> Outcome
+fn united_at(row: &[u8], source: &[u8], w: usize, g: usize) -> Outcome
     requires { ⌜ 8 * g + 8 ≤ w ⌝ ∗ ⌜ w + g < length (now row) ⌝ ∗ ⌜ w + g < length (now source) ⌝ }
     ensures { λ r. ⌜ r ≡ unitedAt w (now (source .entry)) (now (row .entry)) g ⌝ }
 {

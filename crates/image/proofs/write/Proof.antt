@@ -1,14 +1,15 @@
 use mathlib.Core.Path.{_≡_, sym, ap, _∙_}
-use Prim.Native.Nat.{_+_, _*_, _/_}
+use Prim.Native.Nat.{_+_, _≤_}
 use native.Mathlib.Omega.{arith}
 use borrow.Author.Tests.{not-true, not-false}
 use lib.ListN.{length}
-use Rattle.image.proofs.Calls.{Sound, sound-call, image-length, write-call, write-invalid, write-short, write-done}
+use Rattle.image.proofs.Calls.{image-length, write-call, write-invalid, write-short, write-done}
 use Rattle.group.specs.Status.{accepted}
 use Rattle.image.specs.Image.{image}
 use Rattle.image.specs.Write.{groupSize, Written}
-use Rattle.row.specs.Geometry.{stride}
-use Rattle.image.proofs.Laws.{row-in}
+use Rattle.row.specs.Geometry.{RowsIn}
+use Rattle.row.proofs.Widths.{shape-good, stride-is}
+use Rattle.row.proofs.Lists.{one-row}
 use Rattle.image.proofs.Sizes.{table-part, codeOf}
 use borrow.Author.Needs.{needs}
 use Rattle.image.proofs.write.Statement.{statement}
@@ -27,11 +28,11 @@ returns c = let a = c .before .before .before .before .before .args in
     (c .rejected .ensures ∙ ap (λ (x : Written). x .answer) (sym e), ap (λ (x : Written). x .words) (sym e))
 
 -- a call whose depth, width and memory have passed
-sound : (c : tie.Else1) → let a = c .before .before .before .before .args in Sound (a .d) (a .w) (length (a .memory .now))
-sound c = let a = c .before .before .before .before .args in sound-call (a .d) (a .w) (length (a .memory .now)) (sym (c .before .bad-shape .ensures) ∙ c .if1 .left)
+shape : (c : tie.Else1) → let a = c .before .before .before .before .args in (1 ≤ a .d) × RowsIn (a .d) (a .w) (length (a .memory .now))
+shape c = let a = c .before .before .before .before .args in shape-good (a .d) (a .w) (length (a .memory .now)) (sym (c .before .bad-shape .ensures) ∙ c .if1 .left)
 
 rows-valid-requires : tie.Need-rows-valid-requires
-rows-valid-requires c κs = let k = sound c in (omega arith, omega arith)
+rows-valid-requires c κs = shape c .1
 
 rejected-requires-2 : tie.Need-rejected-requires-2
 rejected-requires-2 c κs = search needs
@@ -45,10 +46,9 @@ returns-2 c = let a = c .before .before .before .before .before .before .before 
     (c .rejected2 .ensures ∙ ap (λ (x : Written). x .answer) (sym e), ap (λ (x : Written). x .words) (sym e))
 
 table-size-requires : tie.Need-table-size-requires
-unfolding stride
 table-size-requires c κs = let a = c .before .before .before .before .before .before .args in
-    let k = sound (c .before .before) in
-    omega (arith, row-in 0 (a .d) (a .w * 9 / 8) {n = length (a .memory .now)} (omega arith) (omega arith), k .width .whole)
+    let k = shape (c .before .before) in
+    omega (arith, one-row (a .d) (a .w) 0 (k .1) (k .0) .2, stride-is (a .w))
 
 size-table-requires : tie.Need-size-table-requires
 size-table-requires c κs = search needs
@@ -63,9 +63,8 @@ part-rows-size-end : tie.Need-part-rows-size-end
 part-rows-size-end c = search needs
 
 rows-size-requires : tie.Need-rows-size-requires
-rows-size-requires c κs = let k = sound (c .before .before .before .before .before .before) in
-    let t = c .before .before .size-table in
-    (omega arith, (omega arith, (omega arith, table-part groupSize (t .result) (c .before .before .before .table-size .result) (t .ensures))))
+rows-size-requires c κs = let t = c .before .before .size-table in
+    (shape (c .before .before .before .before .before .before) .1, table-part groupSize (t .result) (c .before .before .before .table-size .result) (t .ensures))
 
 add-count : tie.Need-add-count
 add-count c = search needs
@@ -95,9 +94,8 @@ part-put-image-end c = search needs
 
 put-image-requires : tie.Need-put-image-requires
 put-image-requires c κs = let a = c .before .before .before .before .before .before .before .before .before .before .before .before .before .before .before .before .args in
-    let k = sound (c .before .before .before .before .before .before .before .before .before .before .before .before) in
     let t = c .before .before .before .code-table in
-    (omega arith, (omega arith, (omega arith, (omega (arith, image-length (a .d) (a .w) (a .memory .now), c .before .before .before .before .before .rows-size .ensures .0), table-part codeOf (t .result) (c .before .before .before .before .before .before .before .before .before .table-size .result) (t .ensures)))))
+    (shape (c .before .before .before .before .before .before .before .before .before .before .before .before) .1, (omega (arith, image-length (a .d) (a .w) (a .memory .now), c .before .before .before .before .before .rows-size .ensures .0), table-part codeOf (t .result) (c .before .before .before .before .before .before .before .before .before .table-size .result) (t .ensures)))
 
 accepted-requires : tie.Need-accepted-requires
 accepted-requires c κs = search needs

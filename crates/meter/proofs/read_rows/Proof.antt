@@ -9,7 +9,9 @@ use Rattle.group.specs.Group.{read}
 use Rattle.row.specs.Geometry.{stride}
 use Rattle.row.specs.Order.{earlier, earliest}
 use Rattle.row.specs.Rows.{ofRows, groupAt, least, leastOr}
-use Rattle.meter.proofs.Gather.{one-row, status-turn, status-end, least-start, least-turn, least-end, statuses-start}
+use Rattle.meter.specs.Meter.{rowOf}
+use Rattle.row.proofs.Lists.{one-row}
+use Rattle.meter.proofs.Gather.{status-turn, status-end, least-start, least-turn, least-end, statuses-start}
 use Rattle.meter.proofs.Slots.{slotStatus, slotValue}
 use Rattle.meter.proofs.read_rows.Statement.{statement}
 use Rattle.meter.proofs.read_rows.Tie as tie
@@ -37,6 +39,7 @@ read-row-requires c κs = let p = c .before .before .before .pre in
     (p .1 .0 .0, (c .before .row-at .ensures .1, p .1 .1 0 (p .0)))
 
 loop-holds : tie.Need-loop-holds Inv-loop μ-loop
+unfolding rowOf
 loop-holds c = let s = c .before .before .before .before in
     let a = s .args in
     let e = c .read-row .ensures ∙ ap (λ (row : List ℕ). counterOf (a .w) (a .slots .now) row 0) (c .before .before .row-at .ensures .0) in (
@@ -74,6 +77,7 @@ loop-less : tie.Need-loop-less Inv-loop μ-loop
 loop-less c = search needs
 
 loop-again : tie.Need-loop-again Inv-loop μ-loop
+unfolding rowOf
 loop-again c = let a = c .before .before .before .before .before .before .before .before .before .before .before .args in
     let l = c .before .before .before .before .before .before .loop in
     let x = c .before .before .read-row2 in

@@ -11,8 +11,8 @@ use Rattle.row.specs.Order.{earlier, earliest}
 use Rattle.row.specs.Rows.{ofRows}
 use Rattle.row.specs.Row.{addedIn}
 use Rattle.meter.specs.Meter.{rowOf}
-use Rattle.meter.proofs.Gather.{one-row, status-turn, status-end, rows-start}
-use Rattle.row.proofs.Lists.{filled-more}
+use Rattle.meter.proofs.Gather.{status-turn, status-end, rows-start}
+use Rattle.row.proofs.Lists.{one-row, filled-more}
 use Rattle.meter.proofs.Slots.{addedStatus}
 use Rattle.meter.proofs.try_rows.Statement.{statement}
 use Rattle.meter.proofs.try_rows.Tie as tie
@@ -61,6 +61,7 @@ loop-less : tie.Need-loop-less Inv-loop μ-loop
 loop-less c = search needs
 
 loop-again : tie.Need-loop-again Inv-loop μ-loop
+unfolding rowOf
 loop-again c = let s = c .before .before .before .before .before .before .before .before in
     let a = s .args in
     let l = c .before .before .before .before .before .before .loop in

@@ -6,9 +6,8 @@ use mathlib.Core.List.{List}
 use lib.ListN.{length}
 use Rattle.row.specs.Rows.{mapRows}
 use Rattle.row.specs.Row.{uniteRow}
-use Rattle.meter.specs.Meter.{sourceAdded}
-use Rattle.row.proofs.Lists.{lent, rowsFrom, rows-start, rows-turn, rows-end}
-use Rattle.meter.proofs.Gather.{one-row}
+use Rattle.meter.specs.Meter.{rowOf, sourceAdded}
+use Rattle.row.proofs.Lists.{one-row, lent, rowsFrom, rows-start, rows-turn, rows-end}
 use Rattle.meter.proofs.unite_rows.Statement.{statement}
 use Rattle.meter.proofs.unite_rows.Tie as tie
 
@@ -63,7 +62,7 @@ loop-less : tie.Need-loop-less Inv-loop μ-loop
 loop-less c = search needs
 
 loop-again : tie.Need-loop-again Inv-loop μ-loop
-unfolding sourceAdded
+unfolding rowOf sourceAdded
 loop-again c = let a = c .before .before .before .before .before .before .before .before .before .before .args in
     let l = c .before .before .before .before .before .before .loop in
     let stride = c .before .before .before .before .before .before .before .stride .result in

@@ -4,12 +4,13 @@ use native.Mathlib.Omega.{arith}
 use borrow.Author.Needs.{needs}
 use mathlib.Core.List.{List}
 use Rattle.row.specs.Geometry.{stride}
-use Rattle.meter.specs.Meter.{sourceStatus}
+use Rattle.meter.specs.Meter.{rowOf, sourceStatus}
 use lib.ListN.{drop}
 use Rattle.row.specs.Order.{earlier, earliest}
 use Rattle.row.specs.Rows.{ofRows}
 use Rattle.row.specs.Row.{uniteStatus}
-use Rattle.meter.proofs.Gather.{one-row, status-turn, status-end, rows-start}
+use Rattle.row.proofs.Lists.{one-row}
+use Rattle.meter.proofs.Gather.{status-turn, status-end, rows-start}
 use Rattle.meter.proofs.unite_status.Statement.{statement}
 use Rattle.meter.proofs.unite_status.Tie as tie
 
@@ -43,7 +44,7 @@ loop-less : tie.Need-loop-less Inv-loop μ-loop
 loop-less c = search needs
 
 loop-again : tie.Need-loop-again Inv-loop μ-loop
-unfolding sourceStatus
+unfolding rowOf sourceStatus
 loop-again c = let a = c .before .before .before .before .before .before .before .before .args in
     let l = c .before .before .before .before .before .loop in
     let e = c .before .unite-status .ensures ∙ ap₂ (λ (source row : List ℕ). uniteStatus (a .w) source row) (c .before .before .row-at2 .ensures .0) (c .before .before .before .row-at .ensures .0) in (

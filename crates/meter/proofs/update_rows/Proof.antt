@@ -7,8 +7,7 @@ use borrow.Author.Tests.{ne-eqb}
 use lib.ListN.{length}
 use Rattle.group.specs.declared.Group.{Group}
 use Rattle.row.specs.Rows.{mapRows}
-use Rattle.row.proofs.Lists.{lent, rowsFrom, rows-start, rows-turn, rows-end}
-use Rattle.meter.proofs.Gather.{one-row}
+use Rattle.row.proofs.Lists.{one-row, lent, rowsFrom, rows-start, rows-turn, rows-end}
 use Rattle.meter.proofs.Slots.{groupStored, stored-added}
 use Rattle.meter.proofs.update_rows.Statement.{statement}
 use Rattle.meter.proofs.update_rows.Tie as tie

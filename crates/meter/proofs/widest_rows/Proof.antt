@@ -3,12 +3,13 @@ use Prim.Native.Nat.{_-_, _*_, _≤_, max}
 use native.Mathlib.Omega.{arith}
 use borrow.Author.Needs.{needs}
 use Rattle.row.specs.Geometry.{stride}
-use Rattle.meter.specs.Meter.{rowStatus, rowLevel}
+use Rattle.meter.specs.Meter.{rowOf, rowStatus, rowLevel}
 use lib.ListN.{drop}
 use Rattle.row.specs.Order.{earlier, earliest}
 use Rattle.row.specs.Rows.{ofRows, largest}
 use Rattle.row.specs.Row.{widestStatus, widestRow}
-use Rattle.meter.proofs.Gather.{one-row, status-turn, status-end, level-turn, level-end, rows-start, levels-start}
+use Rattle.row.proofs.Lists.{one-row}
+use Rattle.meter.proofs.Gather.{status-turn, status-end, level-turn, level-end, rows-start, levels-start}
 use Rattle.meter.proofs.widest_rows.Statement.{statement}
 use Rattle.meter.proofs.widest_rows.Tie as tie
 
@@ -42,6 +43,7 @@ loop-less : tie.Need-loop-less Inv-loop μ-loop
 loop-less c = search needs
 
 loop-again : tie.Need-loop-again Inv-loop μ-loop
+unfolding rowOf
 loop-again c = let a = c .before .before .before .before .before .before .before .args in
     let l = c .before .before .before .before .before .loop in
     let row = c .before .before .before .row-at .ensures .0 in

@@ -7,7 +7,8 @@ use lib.ListN.{length, take, drop}
 use Rattle.row.specs.Geometry.{stride}
 use native.Mathlib.Nat.{sub-zero, zero-mul}
 use Rattle.image.specs.Read.{readRows}
-use Rattle.image.proofs.Laws.{rowsFrom, row-in, read-rows-turn, read-rows-end}
+use Rattle.row.proofs.Lists.{row-in}
+use Rattle.image.proofs.Laws.{rowsFrom, read-rows-turn, read-rows-end}
 use Rattle.image.proofs.reader.read_rows.Statement.{statement}
 use Rattle.image.proofs.reader.read_rows.Tie as tie
 

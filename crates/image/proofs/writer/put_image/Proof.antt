@@ -31,7 +31,7 @@ slice-write-words c = let a = c .before .before .before .before .before .args in
 
 put-rows-requires : tie.Need-put-rows-requires
 put-rows-requires c κs = let a = c .before .before .before .before .before .before .args in
-    (omega arith, (omega arith, (rw (length-set (a .words .now) 0 (c .before .word .result)) (omega (arith, image-length (a .d) (a .w) (a .memory .now))), c .before .before .before .before .before .before .pre .1 .1 .1 .1)))
+    (c .before .before .before .before .before .before .pre .0, (rw (length-set (a .words .now) 0 (c .before .word .result)) (omega (arith, image-length (a .d) (a .w) (a .memory .now))), c .before .before .before .before .before .before .pre .1 .1))
 
 kept : (c : tie.After-slice-known2) → length (c .before .before .put-rows .last .0) ≡ length (c .before .before .before .before .before .before .before .before .before .args .words .now)
 kept c = let a = c .before .before .before .before .before .before .before .before .before .args in

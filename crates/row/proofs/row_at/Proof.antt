@@ -1,14 +1,12 @@
 use mathlib.Core.Path.{_≡_, ap, _∙_}
 use Prim.Native.Nat.{_+_, _-_, _*_, _≤_}
 use native.Mathlib.Omega.{arith}
-use Rattle.row.specs.Geometry.{stride}
-use Rattle.meter.specs.Meter.{rowOf}
 use lib.ListN.{length, take, drop}
-use Rattle.row.proofs.Lists.{lent}
-use Rattle.meter.proofs.Gather.{row-length}
+use Rattle.row.specs.Geometry.{stride}
+use Rattle.row.proofs.Lists.{lent, row-length}
 use borrow.Author.Needs.{needs}
-use Rattle.meter.proofs.row_at.Statement.{statement}
-use Rattle.meter.proofs.row_at.Tie as tie
+use Rattle.row.proofs.row_at.Statement.{statement}
+use Rattle.row.proofs.row_at.Tie as tie
 
 row-end : (c : tie.After-stride) → c .before .before .args .r * c .stride .result + c .stride .result ≤ length (c .before .before .args .memory .now)
 row-end c = rw (c .stride .ensures) (c .before .before .pre .2)
@@ -32,11 +30,11 @@ part-result-end : tie.Need-part-result-end
 part-result-end c = omega (arith, row-end c)
 
 returns : tie.Need-returns
-unfolding rowOf
-returns c = let s = c .before .before .before in
-    let e : take (s .args .r * c .before .stride .result + c .before .stride .result - s .args .r * c .before .stride .result) (drop (s .args .r * c .before .stride .result) (s .args .memory .now)) ≡ rowOf (s .args .w) (s .args .memory .now) (s .args .r) =
-    rw (c .before .stride .ensures) (lent (s .args .r * stride (s .args .w)) (stride (s .args .w)) (s .args .memory .now)) in
-    (e, ap length e ∙ row-length (s .args .w) (s .args .r) (s .args .memory .now) (s .pre .2))
+returns c = let a = c .before .before .before .args in
+    let n = c .before .stride .result in
+    let e : take (a .r * n + n - a .r * n) (drop (a .r * n) (a .memory .now)) ≡ take (stride (a .w)) (drop (a .r * stride (a .w)) (a .memory .now)) =
+    rw (c .before .stride .ensures) (lent (a .r * stride (a .w)) (stride (a .w)) (a .memory .now)) in
+    (e, ap length e ∙ row-length (a .r) (stride (a .w)) (a .memory .now) (c .before .before .before .pre .2))
 
 pub row-at-spec : {M : Type 1} → statement M
 row-at-spec =
