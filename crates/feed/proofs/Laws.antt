@@ -11,7 +11,7 @@ use lib.Seq.{take-suc-set}
 use lib.Dec.{eqb, leb}
 use borrow.Author.Tests.{leb-true, eq-eqb, ne-eqb}
 use lib.Pow.{pow-mono}
-use Rattle.row.specs.Order.{badShape}
+use Rattle.geometry.specs.Order.{badShape}
 use Rattle.meter.specs.Meter.{estimated}
 use Rattle.word.specs.declared.Step.{Step}
 use Rattle.word.specs.Word.{endKind, go, next, payload, isDue}

@@ -10,7 +10,7 @@ use lib.Dec.{eqb, ltb}
 use lib.ListN.{length, take, length-take}
 use lib.Seq.{getD-take}
 use Rattle.group.specs.Status.{badPayload}
-use Rattle.row.specs.Order.{badShape, badKey}
+use Rattle.geometry.specs.Order.{badShape, badKey}
 use Rattle.word.specs.declared.Step.{Step}
 use Rattle.word.specs.Word.{headKind, endKind, go, stop, badWord, next, payload, isDue, tested, below}
 use Rattle.feed.specs.declared.words.Opening.{Opening}

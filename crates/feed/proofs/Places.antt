@@ -8,7 +8,7 @@ use native.Mathlib.Omega.{arith}
 use lib.Dec.{eqb}
 use lib.ListN.{length}
 use Rattle.group.specs.declared.Answer.{Answer}
-use Rattle.row.specs.Order.{badShape, answerOf, finish}
+use Rattle.geometry.specs.Order.{badShape, answerOf, finish}
 use Rattle.meter.specs.Meter.{updated, estimated}
 use Rattle.word.specs.declared.Step.{Step}
 use Rattle.word.specs.Word.{go, stop, next, isDue, tested, below}

@@ -5,7 +5,7 @@ use mathlib.Core.List.{List, [], _∷_}
 use lib.Dec.{eqb}
 use Rattle.group.specs.declared.Answer.{Answer}
 use Rattle.group.specs.Status.{accepted}
-use Rattle.row.specs.Order.{firstOf, badDepth, badWidth}
+use Rattle.geometry.specs.Order.{firstOf, badDepth, badWidth}
 use Rattle.word.specs.declared.Step.{Step}
 use Rattle.word.specs.Word.{headKind, stop, next, payload, below}
 use Rattle.feed.specs.Answers.{faulty}

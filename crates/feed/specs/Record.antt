@@ -5,7 +5,7 @@ use mathlib.Core.List.{List}
 use lib.Dec.{eqb}
 use lib.ListN.{length}
 use Rattle.group.specs.declared.Answer.{Answer}
-use Rattle.row.specs.Order.{badShape}
+use Rattle.geometry.specs.Order.{badShape}
 use Rattle.meter.specs.Meter.{updated, estimated}
 use Rattle.feed.specs.declared.words.Opening.{Opening}
 use Rattle.feed.specs.declared.words.Opening.the-variants as opening

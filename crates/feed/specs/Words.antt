@@ -4,7 +4,7 @@ use mathlib.Core.Bool.{Bool, cond, _&&_}
 use mathlib.Core.List.{List, [], _∷_}
 use lib.Dec.{eqb, ltb}
 use Rattle.group.specs.Status.{badPayload}
-use Rattle.row.specs.Order.{badKey}
+use Rattle.geometry.specs.Order.{badKey}
 use Rattle.word.specs.declared.Step.{Step}
 use Rattle.word.specs.Word.{endKind, badWord, go, next, payload, isDue, tested, below}
 use Rattle.feed.specs.declared.words.Opening.{Opening}

@@ -27,9 +27,9 @@ pub fn answer(r: Recorded) -> Answer
     ensures { λ a. ⌜ a ≡ recordAnswer r ⌝ }
 {
     match r {
-        Recorded::Updated => row::answer(0, 0),
-        Recorded::Estimate { value } => row::answer(0, value),
-        Recorded::Ended => row::answer(0, 0),
+        Recorded::Updated => geometry::answer(0, 0),
+        Recorded::Estimate { value } => geometry::answer(0, value),
+        Recorded::Ended => geometry::answer(0, 0),
         Recorded::Rejected { status, position } => Answer {
             status,
             position,
@@ -54,10 +54,10 @@ pub fn head_width(payload: u64) -> usize
 fn bad_geometry(payload: u64) -> u8
     ensures { λ r. ⌜ r ≡ badGeometry payload ⌝ }
 {
-    if !row::valid_depth(head_depth(payload)) {
+    if !geometry::valid_depth(head_depth(payload)) {
         return 1;
     }
-    if !row::valid_width(head_width(payload)) {
+    if !geometry::valid_width(head_width(payload)) {
         return 2;
     }
     0
@@ -86,7 +86,7 @@ pub fn head(words: &[u32]) -> Answer
     if bad != 0 {
         return faulty(bad, 0);
     }
-    row::answer(0, payload)
+    geometry::answer(0, payload)
 }
 
 // The number of words that a record or the end takes.
@@ -163,7 +163,7 @@ pub fn record(d: usize, w: usize, memory: &mut [u8], before: u64, words: &[u32])
     ensures { λ r. ⌜ now (memory .exit) ≡ recorded d w (now (memory .entry)) before (now (words .entry)) .memory ⌝ }
     ensures { λ r. ⌜ recordAnswer r .position ≤ length (now (words .entry)) ⌝ }
 {
-    let bad = row::bad_shape(d, w, memory.len());
+    let bad = geometry::bad_shape(d, w, memory.len());
     if bad != 0 {
         return Recorded::Rejected {
             status: bad,

@@ -39,7 +39,7 @@ pub enum Body {
 fn opens_key(n: u32, o: Opening) -> Opening
     ensures { λ r. ⌜ r ≡ opensKey n o ⌝ }
 {
-    let bad = row::bad_key(n as usize);
+    let bad = geometry::bad_key(n as usize);
     if bad != 0 {
         return Opening::Refused { status: bad };
     }

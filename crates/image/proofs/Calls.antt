@@ -10,14 +10,14 @@ use lib.Dec.{leb}
 use lib.ListN.{length, drop, set, length-append}
 use lib.Seq.{sets, sets-eq}
 use Rattle.group.specs.Status.{invalidMerge, accepted, rejected}
-use Rattle.row.specs.Geometry.{stride, size}
-use Rattle.row.specs.Order.{unless, firstOf, badShape}
+use Rattle.geometry.specs.Geometry.{stride, size}
+use Rattle.geometry.specs.Order.{unless, firstOf, badShape}
 use Rattle.word.specs.declared.Step.{Step}
 use Rattle.word.specs.Word.{headKind}
 use Rattle.image.specs.Image.{word, headPayload, rowsWords, body, endWord, image}
 use Rattle.image.specs.Write.{tooFewWords, validRows, writeStatus, finishWrite, written}
 use Rattle.image.specs.Read.{checked, readRows, finishRead, readAfter, taken}
-use Rattle.row.proofs.Widths.{shape-good}
+use Rattle.geometry.proofs.Widths.{shape-good}
 use Rattle.image.proofs.Laws.{Width, width-is, sets-append}
 
 -- a call whose depth, width and memory have passed

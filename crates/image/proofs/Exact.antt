@@ -16,8 +16,8 @@ use Rattle.group.specs.Pack.{packed, fourMerges, unpacked}
 use Rattle.group.proofs.Laws.{Eight}
 use Rattle.group.proofs.Packing.{code-merge, pack-unpack}
 use Rattle.group.proofs.Changing.{Good}
-use Rattle.row.specs.Geometry.{stride}
-use Rattle.row.specs.Rows.{groupAt, withGroup}
+use Rattle.geometry.specs.Geometry.{stride}
+use Rattle.geometry.specs.Rows.{groupAt, withGroup}
 use Rattle.word.specs.declared.Step.{Step}
 use Rattle.word.specs.Word.{go, next, payload, below}
 use Rattle.image.specs.Image.{word, layoutKind, layoutAt, groupWords, groupsWords, fourWords, rowWords, rowsWords}

@@ -21,8 +21,8 @@ use Rattle.block.proofs.Slots.{level-le}
 use Rattle.group.specs.declared.Group.{Group}
 use Rattle.group.specs.declared.Reading.{Reading}
 use Rattle.group.specs.Group.{read, reading, bytes, decode, changed, unchanged}
-use Rattle.row.specs.Geometry.{oneOfPowers, validWidth, stride}
-use Rattle.row.specs.Rows.{groupAt, withGroup}
+use Rattle.geometry.specs.Geometry.{oneOfPowers, validWidth, stride}
+use Rattle.geometry.specs.Rows.{groupAt, withGroup}
 use Rattle.group.specs.Status.{invalidMerge, accepted, rejected}
 use Rattle.group.specs.Pack.{fourCode, packed}
 use Rattle.group.proofs.Packing.{four-below}

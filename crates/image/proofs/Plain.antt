@@ -9,7 +9,7 @@ use native.Mathlib.Omega.{arith}
 use lib.ListN.{length, getD, take, drop, set, replicate, length-append, length-drop, length-map}
 use lib.Bits.{bitOr, bitXor, or-add-and, xor-add-and, xor-shr, and-le-l, and-le-r}
 use lib.Seq.{sets, sets-eq, drop-cons, getD-drop, take-add, drop-drop, length-take-le}
-use Rattle.row.specs.Rows.{groupAt, withGroup}
+use Rattle.geometry.specs.Rows.{groupAt, withGroup}
 use Rattle.layout.specs.Layout.{layout, valid, bit, ones, marks}
 use Rattle.block.specs.Block.{cap, block, fill, counterAt}
 use Rattle.group.specs.Group.{number, bytes, decode, read, reading}

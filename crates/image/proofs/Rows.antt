@@ -17,9 +17,9 @@ use Rattle.group.specs.Pack.{fourCode, packed, unpacked}
 use Rattle.group.proofs.Bytes.{Bytes}
 use Rattle.group.proofs.Packing.{unpack-pack}
 use Rattle.group.proofs.Changing.{Good}
-use Rattle.row.specs.Geometry.{stride}
-use Rattle.row.specs.Rows.{groupAt, withGroup}
-use Rattle.row.proofs.Unmerged.{bytes-drop, bytes-take}
+use Rattle.geometry.specs.Geometry.{stride}
+use Rattle.geometry.specs.Rows.{groupAt, withGroup}
+use Rattle.geometry.proofs.Lists.{bytes-drop, bytes-take}
 use Rattle.word.specs.declared.Step.{Step}
 use Rattle.word.specs.Word.{go, next, payload}
 use Rattle.image.specs.Image.{word, layoutKind, layoutAt, groupWords, groupsWords, fourWords, rowWords, rowsWords}

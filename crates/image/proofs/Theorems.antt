@@ -14,8 +14,8 @@ use lib.Pow.{pow-add, pow-pos}
 use lib.Seq.{take-append-seam}
 use Rattle.group.specs.Status.{badPayload, accepted}
 use Rattle.group.proofs.Bytes.{Bytes}
-use Rattle.row.specs.Geometry.{validWidth}
-use Rattle.row.specs.Order.{badShape, Done}
+use Rattle.geometry.specs.Geometry.{validWidth}
+use Rattle.geometry.specs.Order.{badShape, Done}
 use Rattle.word.specs.declared.Step.{Step}
 use Rattle.word.specs.Word.{headKind, endKind, go, stop, badWord, next, payload, tested, below}
 use Rattle.image.specs.Image.{word, logFrom, logWidth, headPayload, rowsWords, body, endWord, image}

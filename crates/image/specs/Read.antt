@@ -8,9 +8,9 @@ use Rattle.group.specs.declared.Group.{Group}
 use Rattle.group.specs.Status.{badPayload, accepted, rejected}
 use Rattle.group.specs.Group.{changed}
 use Rattle.group.specs.Pack.{unpacked}
-use Rattle.row.specs.Geometry.{stride}
-use Rattle.row.specs.Order.{badShape, Done}
-use Rattle.row.specs.Rows.{withGroup}
+use Rattle.geometry.specs.Geometry.{stride}
+use Rattle.geometry.specs.Order.{badShape, Done}
+use Rattle.geometry.specs.Rows.{withGroup}
 use Rattle.word.specs.Word.{headKind, endKind, badWord, go, stop, next, payload, tested, below}
 use Rattle.image.specs.Image.{layoutKind, countKind, headPayload, wordsOf, levelAt, isFirst}
 use Rattle.image.specs.Write.{slotSize, groupSize}

@@ -7,8 +7,8 @@ use lib.ListN.{length, take, drop}
 use Rattle.layout.specs.Layout.{valid}
 use Rattle.group.specs.declared.Answer.{Answer}
 use Rattle.group.specs.Status.{invalidMerge, accepted, rejected}
-use Rattle.row.specs.Geometry.{stride}
-use Rattle.row.specs.Order.{unless, firstOf, badShape}
+use Rattle.geometry.specs.Geometry.{stride}
+use Rattle.geometry.specs.Order.{unless, firstOf, badShape}
 use Rattle.image.specs.Image.{wordsOf, levelAt, isFirst, image}
 
 -- line 7

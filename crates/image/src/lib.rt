@@ -1,8 +1,8 @@
 // The image of a meter: 32-bit words that hold its depth, its width, and every counter at its layout.
 mod format;
-mod geometry;
 mod reader;
 mod tables;
+mod width;
 mod writer;
 
 use group::Answer;
@@ -15,7 +15,7 @@ pub fn write(d: usize, w: usize, memory: &[u8], words: &mut [u32]) -> Answer
     ensures { λ r. ⌜ r ≡ written d w (now (memory .entry)) (now (words .entry)) .answer ⌝ }
     ensures { λ _. ⌜ now (words .exit) ≡ written d w (now (memory .entry)) (now (words .entry)) .words ⌝ }
 {
-    let status = row::bad_shape(d, w, memory.len());
+    let status = geometry::bad_shape(d, w, memory.len());
     if status != 0 {
         return rejected(status, 0);
     }
@@ -38,7 +38,7 @@ pub fn read(d: usize, w: usize, memory: &mut [u8], words: &[u32]) -> Answer
     ensures { λ r. ⌜ r ≡ taken d w (now (memory .entry)) (now (words .entry)) .answer ⌝ }
     ensures { λ _. ⌜ now (memory .exit) ≡ taken d w (now (memory .entry)) (now (words .entry)) .memory ⌝ }
 {
-    let status = row::bad_shape(d, w, memory.len());
+    let status = geometry::bad_shape(d, w, memory.len());
     if status != 0 {
         return rejected(status, 0);
     }

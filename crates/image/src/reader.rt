@@ -1,8 +1,8 @@
 // Reading an image: the words are checked first, and the memory is written only when every word has passed.
 use crate::format;
-use crate::geometry::log_width;
+use crate::width::log_width;
+use geometry::store;
 use group::Group;
-use row::store;
 use word::Step;
 use word::below;
 use word::go;
@@ -16,8 +16,8 @@ ghost use Prim.Native.Nat.{ℕ, _+_, _*_, _/_, _%_, _^_, _<_, _≤_};
 ghost use lib.ListN.{length, getD, take, drop};
 ghost use lib.Seq.{sets};
 ghost use Rattle.group.specs.Pack.{codeMerge};
-ghost use Rattle.row.specs.Geometry.{stride};
-ghost use Rattle.row.specs.Rows.{withGroup};
+ghost use Rattle.geometry.specs.Geometry.{stride};
+ghost use Rattle.geometry.specs.Rows.{withGroup};
 ghost use Rattle.image.specs.Write.{groupSize};
 ghost use Rattle.image.specs.Read.{checkHead, checkParts, checkSlots, checkGroups, checkFour, checkFours, checkEnd, checked, valueFrom, mergesAt, readGroup, readGroups, afterGroups, readFours, afterFours, readRows};
 

@@ -1,12 +1,12 @@
 // Writing an image. Each function that writes takes the position of its first word and gives the position after its last.
 use crate::format;
 use crate::format::word;
-use crate::geometry::log_width;
 use crate::tables::code_at;
 use crate::tables::size_at;
+use crate::width::log_width;
+use geometry::load;
+use geometry::row_at;
 use group::Group;
-use row::load;
-use row::row_at;
 ghost use mathlib.Core.Path.{_≡_};
 ghost use mathlib.Core.Bool.{true, false, cond, _&&_};
 ghost use mathlib.Core.List.{_∷_, _++_, map};
@@ -16,7 +16,7 @@ ghost use lib.ListN.{length, getD, take, drop};
 ghost use lib.Seq.{sets};
 ghost use Rattle.layout.specs.Layout.{valid};
 ghost use Rattle.group.specs.Pack.{mergeCode};
-ghost use Rattle.row.specs.Geometry.{RowsIn};
+ghost use Rattle.geometry.specs.Geometry.{RowsIn};
 ghost use Rattle.image.specs.Image as spec;
 ghost use Rattle.image.specs.Image.{layoutKind, countKind, parts, groupWords, groupsWords, layoutAt, fourWords, rowWords, rowsWords, image};
 ghost use Rattle.image.specs.Write.{allValid, validRows, groupSize};

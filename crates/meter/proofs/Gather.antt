@@ -8,11 +8,11 @@ use native.Mathlib.Omega.{arith}
 use borrow.Author.Tests.{ne-eqb}
 use lib.ListN.{length, take, drop, set, replicate, replicate-append-replicate}
 use lib.Seq.{take-suc-set}
-use Rattle.row.specs.Geometry.{stride}
-use Rattle.row.specs.Order.{firstOf, earlier, earliest, answerOf, finish}
-use Rattle.row.specs.Rows.{ofRows, leastOr, least, largest}
-use Rattle.row.proofs.Widths.{earlier-none, earlier-assoc}
-use Rattle.row.proofs.Lists.{rows-read, rows-read-none, rows-read-all}
+use Rattle.geometry.specs.Geometry.{stride}
+use Rattle.geometry.specs.Order.{firstOf, earlier, earliest, answerOf, finish}
+use Rattle.geometry.specs.Rows.{ofRows, leastOr, least, largest}
+use Rattle.geometry.proofs.Widths.{earlier-none, earlier-assoc}
+use Rattle.geometry.proofs.Lists.{rows-read, rows-read-none, rows-read-all}
 use Rattle.meter.specs.Meter.{rowOf}
 
 module _ (f : ℕ → List ℕ → ℕ) (w : ℕ) (d r : ℕ) (memory : List ℕ) where

@@ -15,13 +15,15 @@ use lib.Bits.{bitXor}
 use Rattle.hash.specs.Hash.{basis, fnv, fnvStep}
 use Rattle.hash.proofs.Hashing.{slot-lt}
 use Rattle.group.proofs.Outcomes.{added-eight, added-valid, united-valid}
-use Rattle.row.specs.Geometry.{validWidth, stride, size, RowsIn}
-use Rattle.row.specs.Order.{firstOf, earlier, earliest, unless, badLength, badShape, answerOf, finish}
-use Rattle.row.specs.Rows.{mapRows, ofRows, ofGroups, groupAt}
-use Rattle.row.specs.Row.{keySlot, addedIn, updateStatus, updateRow, unitedAt, unitedStatus, uniteStatus, uniteRow}
-use Rattle.row.proofs.Widths.{shape-good, wide, stride-is, slot-in, group-in, first-one}
-use Rattle.row.proofs.Lists.{one-row, row-length}
-use Rattle.row.proofs.Groups.{row-mapped, length-mapped, length-with, group-same, group-other, eight-at, length-united, united-from}
+use Rattle.geometry.specs.Geometry.{validWidth, stride, size, RowsIn}
+use Rattle.geometry.specs.Order.{firstOf, earlier, earliest, unless, badLength, badShape, answerOf, finish}
+use Rattle.geometry.specs.Rows.{mapRows, ofRows, ofGroups, groupAt}
+use Rattle.keys.specs.Keys.{keySlot}
+use Rattle.row.specs.Row.{addedIn, updateStatus, updateRow, unitedAt, unitedStatus, uniteStatus, uniteRow}
+use Rattle.geometry.proofs.Widths.{shape-good, wide, stride-is, slot-in, group-in, first-one}
+use Rattle.geometry.proofs.Lists.{one-row, row-length}
+use Rattle.geometry.proofs.Groups.{row-mapped, length-mapped, length-with, group-same, group-other, eight-at}
+use Rattle.row.proofs.Unions.{length-united, united-from}
 use Rattle.meter.specs.Meter.{badCall, rowOf, cleared, updated, sourceStatus, sourceAdded, united}
 use Rattle.meter.specs.Valid.{Valid}
 use Rattle.meter.proofs.Calls.{call-good, cleared-good, updated-good, united-good}

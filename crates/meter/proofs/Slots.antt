@@ -9,11 +9,12 @@ use lib.Seq.{take-all, drop-drop}
 use Rattle.group.specs.declared.Group.{Group}
 use Rattle.group.specs.Group.{read}
 use Rattle.hash.specs.Hash.{basis}
-use Rattle.row.specs.Geometry.{stride, size}
-use Rattle.row.specs.Order.{earliest}
-use Rattle.row.specs.Rows.{mapRows, ofRows, groupAt, withGroup, leastOr, least}
-use Rattle.row.specs.Row.{keySlot, addedIn, updateStatus, updateRow, readRow}
-use Rattle.row.proofs.Widths.{earlier-none}
+use Rattle.geometry.specs.Geometry.{stride, size}
+use Rattle.geometry.specs.Order.{earliest}
+use Rattle.geometry.specs.Rows.{mapRows, ofRows, groupAt, withGroup, leastOr, least}
+use Rattle.keys.specs.Keys.{keySlot}
+use Rattle.row.specs.Row.{addedIn, updateStatus, updateRow, readRow}
+use Rattle.geometry.proofs.Widths.{earlier-none}
 use Rattle.meter.specs.Meter.{rowOf, readStatus, readValue}
 
 -- two functions that agree on each of the rows read and write the same

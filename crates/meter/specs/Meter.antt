@@ -4,9 +4,9 @@ use mathlib.Core.List.{List, [], _∷_}
 use lib.ListN.{length, take, drop, replicate}
 use Rattle.group.specs.declared.Answer.{Answer}
 use Rattle.hash.specs.Hash.{basis}
-use Rattle.row.specs.Geometry.{stride}
-use Rattle.row.specs.Order.{firstOf, earliest, badDepth, badWidth, badLength, badShape, badKey, answerOf, Done, finish}
-use Rattle.row.specs.Rows.{mapRows, ofRows, least, largest}
+use Rattle.geometry.specs.Geometry.{stride}
+use Rattle.geometry.specs.Order.{firstOf, earliest, badDepth, badWidth, badLength, badShape, badKey, answerOf, Done, finish}
+use Rattle.geometry.specs.Rows.{mapRows, ofRows, least, largest}
 use Rattle.row.specs.Row.{updateStatus, updateRow, readRow, widestStatus, widestRow, uniteStatus, uniteRow}
 
 -- Clearing reads nothing and sets every byte to 0.

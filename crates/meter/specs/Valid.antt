@@ -5,8 +5,8 @@ use mathlib.Core.Bool.{true}
 use mathlib.Core.List.{List}
 use lib.ListN.{length}
 use Rattle.layout.specs.Layout.{valid}
-use Rattle.row.specs.Geometry.{RowsIn}
-use Rattle.row.specs.Rows.{groupAt}
+use Rattle.geometry.specs.Geometry.{RowsIn}
+use Rattle.geometry.specs.Rows.{groupAt}
 use Rattle.meter.specs.Meter.{rowOf}
 
 -- a memory of the right length with valid merge bytes

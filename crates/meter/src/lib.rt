@@ -1,15 +1,15 @@
 // A meter in lent memory: clearing, updates, estimates, the widest level and unions. Every call takes any depth, width, memory and
 // key, and answers by document 01's number, place and figure. A rejected call leaves the memory as it was.
+use geometry::answer;
+use geometry::bad_key;
+use geometry::bad_shape;
+use geometry::earlier;
+use geometry::row_at;
 use group::Answer;
 use group::Group;
 use hash::Hash;
-use row::answer;
-use row::bad_key;
-use row::bad_shape;
-use row::earlier;
-use row::keys::key_slots;
-use row::keys::row_slot;
-use row::row_at;
+use keys::key_slots;
+use keys::row_slot;
 ghost use mathlib.Core.Path.{_≡_};
 ghost use mathlib.Core.Bool.{cond};
 ghost use mathlib.Core.List.{List};
@@ -18,10 +18,10 @@ ghost use lib.Dec.{eqb};
 ghost use lib.ListN.{length, getD, replicate};
 ghost use Rattle.group.specs.declared.Group as spec_group;
 ghost use Rattle.group.specs.Group.{read};
-ghost use Rattle.row.specs.Geometry.{RowsIn};
-ghost use Rattle.row.specs.Geometry as geometry;
-ghost use Rattle.row.specs.Order.{earliest};
-ghost use Rattle.row.specs.Rows.{mapRows, ofRows, groupAt, withGroup, least, largest};
+ghost use Rattle.geometry.specs.Geometry.{RowsIn};
+ghost use Rattle.geometry.specs.Geometry as geometry;
+ghost use Rattle.geometry.specs.Order.{earliest};
+ghost use Rattle.geometry.specs.Rows.{mapRows, ofRows, groupAt, withGroup, least, largest};
 ghost use Rattle.row.specs.Row.{addedIn};
 ghost use Rattle.meter.specs.Meter.{rowOf, cleared, badCall, updated, estimated, rowStatus, rowLevel, sourceStatus, sourceAdded};
 ghost use Rattle.meter.specs.Meter as spec;
@@ -108,7 +108,7 @@ fn update_rows(d: usize, w: usize, memory: &mut [u8], slots: &[usize; 8], amount
     if t.status != 0 {
         return t.status;
     }
-    let stride = row::stride(w);
+    let stride = geometry::stride(w);
     for r in 0..d {
         let a = r * stride;
         let e = a + stride;
@@ -236,7 +236,7 @@ fn unite_rows(d: usize, w: usize, memory: &mut [u8], source: &[u8])
     requires { ⌜ RowsIn d w (length (now memory)) ⌝ ∗ ⌜ length (now source) ≡ length (now memory) ⌝ }
     ensures { λ _. ⌜ now (memory .exit) ≡ mapRows (sourceAdded w (now (source .entry))) (geometry.stride w) d 0 (now (memory .entry)) ⌝ }
 {
-    let stride = row::stride(w);
+    let stride = geometry::stride(w);
     for r in 0..d {
         let start = r * stride;
         let end = start + stride;

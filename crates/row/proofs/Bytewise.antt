@@ -17,10 +17,10 @@ use Rattle.group.specs.declared.Outcome.{Outcome}
 use Rattle.group.specs.Group.{number, bytes, decode, stored, united}
 use Rattle.group.proofs.Bytes.{Bytes, number-lt, bytes-number}
 use Rattle.group.proofs.Laws.{united-fits}
-use Rattle.row.specs.Rows.{groupAt, withGroup}
+use Rattle.geometry.specs.Rows.{groupAt, withGroup}
 use Rattle.row.specs.Row.{unitedAt, uniteGroups}
-use Rattle.row.proofs.Groups.{eight-at, with-counts}
-use Rattle.row.proofs.Lists.{same-from}
+use Rattle.geometry.proofs.Groups.{eight-at, with-counts}
+use Rattle.geometry.proofs.Lists.{same-from}
 use Rattle.row.proofs.Unmerged.{valid-0}
 
 -- the sums of two lists of bytes, which are bytes again

@@ -1,6 +1,3 @@
-pub mod Widths
 pub mod Unmerged
-pub mod Lists
-pub mod Groups
+pub mod Unions
 pub mod Bytewise
-pub mod Lanes

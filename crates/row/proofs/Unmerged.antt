@@ -3,11 +3,8 @@ use mathlib.Core.Path.{_≡_, refl, ap}
 use mathlib.Core.Bool.{true}
 use mathlib.Core.List.{List}
 use Prim.Native.Nat.{ℕ, zero, suc, _+_, _*_, _/_, _%_, _^_, _≤_, _<_}
-use native.Mathlib.Decide.{decLt}
 use native.Mathlib.Omega.{arith}
-use lib.Bits.{bitOr, or-add-and, and-le-l, and-le-r}
-use lib.ListN.{length, getD, take, drop, length-take, List·getD-eq-default}
-use lib.Seq.{getD-drop, getD-take}
+use lib.ListN.{length, getD, take, drop}
 use Rattle.layout.specs.Layout.{Layout, halves, bit, ones, layout, valid}
 use Rattle.block.specs.Block.{cap, Fits, fill, block, total}
 use Rattle.block.proofs.Laws.{fill-fits, total-lt}
@@ -16,25 +13,13 @@ use Rattle.group.specs.declared.Outcome.{Outcome}
 use Rattle.group.specs.Group.{number, decode, united, stored}
 use Rattle.group.proofs.Bytes.{Bytes, number-lt}
 use Rattle.group.proofs.Laws.{united-stored}
-use Rattle.row.specs.Geometry.{validWidth, stride}
-use Rattle.row.specs.Order.{earlier, earliest}
-use Rattle.row.specs.Rows.{ofGroups, groupAt}
+use Rattle.geometry.specs.Geometry.{validWidth, stride}
+use Rattle.geometry.specs.Order.{earlier, earliest}
+use Rattle.geometry.specs.Rows.{ofGroups, groupAt}
 use Rattle.row.specs.Row.{unitedAt, unitedStatus, uniteStatus}
-use Rattle.row.proofs.Widths.{group-in, stride-is}
-use Rattle.row.proofs.Groups.{eight-at}
-
-pub bytes-drop : (n : ℕ) (xs : List ℕ) → Bytes xs → Bytes (drop n xs)
-bytes-drop n xs b i = rw (getD-drop n xs i 0) (b (n + i))
-
-pub bytes-take : (n : ℕ) (xs : List ℕ) → Bytes xs → Bytes (take n xs)
-bytes-take n xs b = λ i. elim (decLt i n) [
-  | yes l ↦ rw (getD-take n xs i 0 l) (b i)
-  | no l ↦ rw (List·getD-eq-default (take n xs) 0 {n = i} (omega (arith, length-take n xs))) (omega arith)
-]
-
--- bytes taken together that are 0
-pub or-none : (a b : ℕ) → bitOr a b ≡ 0 → (a ≡ 0) × (b ≡ 0)
-or-none a b e = (omega (arith, or-add-and a b, and-le-r a b), omega (arith, or-add-and a b, and-le-l a b))
+use Rattle.geometry.proofs.Lists.{bytes-drop, bytes-take}
+use Rattle.geometry.proofs.Widths.{group-in, stride-is}
+use Rattle.geometry.proofs.Groups.{eight-at}
 
 -- a block that is not merged has the total of its halves
 halves-total : {n : ℕ} (l r : Layout n) (w : ℕ) → w < cap (suc n) → total (fill (halves l r) w) < cap n + cap n

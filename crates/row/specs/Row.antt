@@ -1,16 +1,12 @@
 -- What a meter's calls do in one row of w slots. Document 01, 'Where a key lands' and 'Updating, asking, uniting'.
 use Prim.Native.Nat.{ℕ, zero, suc, _+_, _/_}
-use mathlib.Core.List.{List, _∷_}
+use mathlib.Core.List.{List}
 use Rattle.group.specs.declared.Outcome.{Outcome}
 use Rattle.group.specs.declared.Reading.{Reading}
-use Rattle.hash.specs.Hash.{fnv, slotOf}
 use Rattle.group.specs.Group.{read, added, united, widestOf}
-use Rattle.row.specs.Order.{earliest}
-use Rattle.row.specs.Rows.{groupAt, withGroup, ofGroups, largest}
-
--- the slot of a key in row r: the hash goes on from a state with the row number as one byte, then the key
-unfoldable pub keySlot : ℕ → ℕ → List ℕ → ℕ → ℕ
-keySlot state w key r = slotOf (fnv state (r ∷ key)) w
+use Rattle.keys.specs.Keys.{keySlot}
+use Rattle.geometry.specs.Order.{earliest}
+use Rattle.geometry.specs.Rows.{groupAt, withGroup, ofGroups, largest}
 
 -- an update adds an amount in the group of the key's slot
 unfoldable pub addedIn : ℕ → List ℕ → ℕ → ℕ → Outcome

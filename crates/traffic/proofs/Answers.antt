@@ -17,11 +17,12 @@ use Rattle.group.specs.Status.{accepted}
 use Rattle.hash.specs.Hash.{basis}
 use Rattle.group.specs.Group.{encode, read, reading, widestOf}
 use Rattle.group.proofs.Laws.{decode-encode, encode-valid}
-use Rattle.row.specs.Geometry.{validDepth, validWidth, stride, size}
-use Rattle.row.specs.Order.{firstOf, earliest, badShape, badKey, answerOf}
-use Rattle.row.specs.Rows.{ofRows, ofGroups, least, largest, groupAt}
-use Rattle.row.specs.Row.{keySlot, readRow, levelStatus, levelAt, widestStatus, widestRow}
-use Rattle.row.proofs.Widths.{depth-in, slot-in, group-in}
+use Rattle.geometry.specs.Geometry.{validDepth, validWidth, stride, size}
+use Rattle.geometry.specs.Order.{firstOf, earliest, badShape, badKey, answerOf}
+use Rattle.geometry.specs.Rows.{ofRows, ofGroups, least, largest, groupAt}
+use Rattle.keys.specs.Keys.{keySlot}
+use Rattle.row.specs.Row.{readRow, levelStatus, levelAt, widestStatus, widestRow}
+use Rattle.geometry.proofs.Widths.{depth-in, slot-in, group-in}
 use Rattle.meter.specs.Meter.{rowOf, readStatus, readValue, estimated, rowStatus, rowLevel, widest}
 use Rattle.meter.proofs.Calls.{call-key, estimated-good, widest-good}
 use Rattle.meter.proofs.Memory.{key-in}

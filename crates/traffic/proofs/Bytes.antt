@@ -17,9 +17,9 @@ use Rattle.group.specs.declared.Group.{Group}
 use Rattle.group.specs.Group.{bytes, encode}
 use Rattle.group.proofs.Laws.{encode-valid}
 use Rattle.group.proofs.Bytes.{Bytes}
-use Rattle.row.specs.Geometry.{validWidth, stride, size}
-use Rattle.row.specs.Rows.{ofGroups, groupAt}
-use Rattle.row.proofs.Widths.{wide, stride-is}
+use Rattle.geometry.specs.Geometry.{validWidth, stride, size}
+use Rattle.geometry.specs.Rows.{ofGroups, groupAt}
+use Rattle.geometry.proofs.Widths.{wide, stride-is}
 use Rattle.meter.specs.Meter.{rowOf}
 use Rattle.image.specs.Write.{allValid, validRows}
 use Rattle.traffic.specs.Traffic.{Pair, blockTotal}

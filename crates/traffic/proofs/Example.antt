@@ -10,9 +10,9 @@ use Rattle.block.specs.Sum as sums
 use Rattle.hash.specs.Hash as hashes
 use Rattle.group.specs.Group as groups
 use Rattle.group.specs.Pack as packs
-use Rattle.row.specs.Geometry as geometry
-use Rattle.row.specs.Order as order
-use Rattle.row.specs.Rows as rows
+use Rattle.geometry.specs.Geometry as geometry
+use Rattle.geometry.specs.Order as order
+use Rattle.geometry.specs.Rows as rows
 use Rattle.row.specs.Row as row
 use Rattle.meter.specs.Meter as meter
 use Rattle.word.specs.Word as words

@@ -6,9 +6,9 @@ use native.Mathlib.Nat.{zero-mul}
 use native.Mathlib.Decide.{ℕ-discrete}
 use native.Mathlib.Omega.{arith}
 use lib.ListN.{take, drop}
-use Rattle.row.specs.Geometry.{stride}
-use Rattle.row.specs.Order.{earlier, earliest}
-use Rattle.row.specs.Rows.{ofRows, ofGroups, leastOr, least, largest}
+use Rattle.geometry.specs.Geometry.{stride}
+use Rattle.geometry.specs.Order.{earlier, earliest}
+use Rattle.geometry.specs.Rows.{ofRows, ofGroups, leastOr, least, largest}
 use Rattle.meter.specs.Meter.{rowOf}
 use Rattle.image.proofs.Laws.{drop-row}
 

@@ -7,7 +7,7 @@ use borrow.Author.Tests.{eqb-true}
 use lib.Dec.{eqb, eqb·suc-zero}
 use lib.ListN.{length}
 use Rattle.group.specs.declared.Answer.{Answer}
-use Rattle.row.specs.Order.{badShape, badKey}
+use Rattle.geometry.specs.Order.{badShape, badKey}
 use Rattle.meter.specs.Meter.{updated, estimated}
 use Rattle.word.specs.Word.{endKind, payload, isDue}
 use Rattle.feed.specs.declared.Recorded.{Recorded}

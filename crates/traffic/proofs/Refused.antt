@@ -7,7 +7,7 @@ use native.Mathlib.Decide.{ℕ-discrete}
 use borrow.Author.Tests.{eqb-false}
 use lib.Dec.{eqb}
 use lib.ListN.{length}
-use Rattle.row.specs.Order.{badShape, Done, finish}
+use Rattle.geometry.specs.Order.{badShape, Done, finish}
 use Rattle.meter.specs.Meter.{cleared, updated, united}
 use Rattle.meter.proofs.Memory.{status-is}
 use Rattle.image.specs.Read.{checked, taken}

@@ -14,11 +14,12 @@ use Rattle.hash.specs.Hash.{basis}
 use Rattle.group.specs.Group.{bytes, encode, settle, added}
 use Rattle.group.specs.Group as group
 use Rattle.group.proofs.Laws.{decode-encode, encode-valid}
-use Rattle.row.specs.Geometry.{validDepth, validWidth, stride, size, RowsIn}
-use Rattle.row.specs.Rows.{groupAt}
-use Rattle.row.specs.Row.{keySlot, addedIn, unitedAt}
-use Rattle.row.proofs.Widths.{depth-in, group-in}
-use Rattle.row.proofs.Lists.{row-in}
+use Rattle.geometry.specs.Geometry.{validDepth, validWidth, stride, size, RowsIn}
+use Rattle.geometry.specs.Rows.{groupAt}
+use Rattle.keys.specs.Keys.{keySlot}
+use Rattle.row.specs.Row.{addedIn, unitedAt}
+use Rattle.geometry.proofs.Widths.{depth-in, group-in}
+use Rattle.geometry.proofs.Lists.{row-in}
 use Rattle.meter.specs.Meter.{rowOf, updated, united}
 use Rattle.meter.proofs.Memory.{Updated, update-accepted, update-group, update-other, United, unite-accepted, unite-group, rows-long}
 use Rattle.traffic.specs.Traffic.{Pair, sumOf, blockTotal}

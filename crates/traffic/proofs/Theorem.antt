@@ -9,8 +9,8 @@ use lib.Dec.{eqb}
 use lib.ListN.{length, drop, replicate}
 use Rattle.group.specs.declared.Answer.{Answer}
 use Rattle.group.specs.Status.{accepted}
-use Rattle.row.specs.Geometry.{validDepth, validWidth, size}
-use Rattle.row.specs.Order.{badKey}
+use Rattle.geometry.specs.Geometry.{validDepth, validWidth, size}
+use Rattle.geometry.specs.Order.{badKey}
 use Rattle.meter.specs.Meter.{cleared, updated, estimated}
 use Rattle.meter.proofs.Calls.{cleared-good, call-key, estimated-bad}
 use Rattle.image.specs.Image.{image}

@@ -12,7 +12,7 @@ use lib.Pow.{shr-shr}
 use Rattle.layout.proofs.Laws.{or-cases}
 use Rattle.block.specs.Block.{cap}
 use Rattle.hash.specs.Hash.{basis}
-use Rattle.row.specs.Row.{keySlot}
+use Rattle.keys.specs.Keys.{keySlot}
 use Rattle.traffic.specs.Traffic.{Pair, sumOf, sameKey, keyTotal, blockOf, blockTotal, anyBelow, overflows, levelUpTo}
 use Rattle.traffic.proofs.Canon.{Adds, half}
 

@@ -5,8 +5,8 @@ use mathlib.Core.Bool.{Bool, true, cond}
 use mathlib.Core.List.{List, [], _∷_, _++_}
 use lib.Dec.{eqb}
 use lib.ListN.{replicate}
-use Rattle.row.specs.Geometry.{size}
-use Rattle.row.specs.Order.{Done}
+use Rattle.geometry.specs.Geometry.{size}
+use Rattle.geometry.specs.Order.{Done}
 use Rattle.meter.specs.Meter.{cleared, updated, estimated, united}
 use Rattle.meter.specs.Meter as meter
 use Rattle.image.specs.Image.{image}

@@ -8,8 +8,8 @@ use lib.ListN.{length, getD}
 use Rattle.block.specs.Block.{Block, counter, split, cap}
 use Rattle.group.specs.declared.Group.{Group}
 use Rattle.group.specs.Group.{encode}
-use Rattle.row.specs.Geometry.{stride, size}
-use Rattle.row.specs.Rows.{ofGroups, groupAt}
+use Rattle.geometry.specs.Geometry.{stride, size}
+use Rattle.geometry.specs.Rows.{ofGroups, groupAt}
 use Rattle.meter.specs.Meter.{rowOf}
 use Rattle.traffic.specs.Traffic.{Pair, blockTotal}
 

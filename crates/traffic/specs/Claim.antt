@@ -5,7 +5,7 @@ use mathlib.Core.Bool.{true}
 use mathlib.Core.List.{List}
 use lib.ListN.{length}
 use Rattle.group.specs.Status.{accepted}
-use Rattle.row.specs.Geometry.{validDepth, validWidth}
+use Rattle.geometry.specs.Geometry.{validDepth, validWidth}
 use Rattle.meter.specs.Meter.{estimated, widest}
 use Rattle.word.specs.Word.{payload}
 use Rattle.feed.specs.declared.Recorded.the-variants as case

@@ -5,8 +5,8 @@ use mathlib.Core.List.{List, [], _∷_}
 use lib.Dec.{leb, eqb}
 use Rattle.block.specs.Block.{cap}
 use Rattle.hash.specs.Hash.{basis}
-use Rattle.row.specs.Row.{keySlot}
-use Rattle.row.specs.Rows.{ofGroups, least}
+use Rattle.keys.specs.Keys.{keySlot}
+use Rattle.geometry.specs.Rows.{ofGroups, least}
 
 -- The traffic, which document 01's book holds, is a list of pairs of key and amount.
 pub record Pair : Type 0 where

@@ -1,4 +1,4 @@
-use Rattle.row.specs.Order.{answerOf}
+use Rattle.geometry.specs.Order.{answerOf}
 use borrow.Author.Needs.{needs}
 use Rattle.feed.proofs.answer.Statement.{statement}
 use Rattle.feed.proofs.answer.Tie as tie

@@ -1,8 +1,8 @@
 use mathlib.Core.Path.{_≡_, sym, ap, _∙_}
 use mathlib.Core.Bool.{true, false}
 use borrow.Author.Tests.{not-true, not-false}
-use Rattle.row.specs.Geometry.{validDepth, validWidth}
-use Rattle.row.specs.Order.{firstOf}
+use Rattle.geometry.specs.Geometry.{validDepth, validWidth}
+use Rattle.geometry.specs.Order.{firstOf}
 use Rattle.feed.specs.Head.{headDepth, headWidth, badGeometry}
 use borrow.Author.Needs.{needs}
 use Rattle.feed.proofs.bad_geometry.Statement.{statement}

@@ -3,7 +3,7 @@ use Rattle.word.specs.declared.Step.{Step}
 use Rattle.word.specs.Word.{stop, payload}
 use mathlib.Core.Path.{ap, _∙_}
 use borrow.Author.Tests.{eq-eqb, ne-eqb}
-use Rattle.row.specs.Order.{answerOf}
+use Rattle.geometry.specs.Order.{answerOf}
 use Rattle.word.proofs.Laws.{turn, halt}
 use Rattle.feed.specs.Head.{headStep, headed, badGeometry}
 use borrow.Author.Needs.{needs}

@@ -3,7 +3,7 @@ use mathlib.Core.List.{List}
 use Prim.Native.Nat.{ℕ}
 use borrow.Author.Needs.{needs}
 use Rattle.group.specs.declared.Answer.{Answer}
-use Rattle.row.specs.Order.{Done}
+use Rattle.geometry.specs.Order.{Done}
 use Rattle.meter.specs.Meter.{updated}
 use Rattle.feed.specs.declared.words.Body.{Body}
 use Rattle.feed.specs.declared.Recorded.the-variants as case

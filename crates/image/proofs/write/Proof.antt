@@ -7,9 +7,9 @@ use Rattle.image.proofs.Calls.{image-length, write-call, write-invalid,
 use Rattle.group.specs.Status.{accepted}
 use Rattle.image.specs.Image.{image}
 use Rattle.image.specs.Write.{groupSize, Written}
-use Rattle.row.specs.Geometry.{RowsIn}
-use Rattle.row.proofs.Widths.{shape-good, stride-is}
-use Rattle.row.proofs.Lists.{one-row}
+use Rattle.geometry.specs.Geometry.{RowsIn}
+use Rattle.geometry.proofs.Widths.{shape-good, stride-is}
+use Rattle.geometry.proofs.Lists.{one-row}
 use Rattle.image.proofs.Sizes.{table-part, codeOf}
 use borrow.Author.Needs.{needs}
 use Rattle.image.proofs.write.Statement.{statement}

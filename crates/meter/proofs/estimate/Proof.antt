@@ -2,9 +2,9 @@ use mathlib.Core.Path.{_≡_, sym, ap, ap₂, _∙_}
 use mathlib.Core.List.{List}
 use Prim.Native.Nat.{ℕ, _<_}
 use Rattle.group.specs.declared.Reading.{Reading}
-use Rattle.row.specs.Order.{answerOf}
+use Rattle.geometry.specs.Order.{answerOf}
 use lib.ListN.{getD}
-use Rattle.row.specs.Row.{keySlot}
+use Rattle.keys.specs.Keys.{keySlot}
 use Rattle.meter.specs.Meter.{badCall}
 use Rattle.meter.proofs.Calls.{call-rows, estimated-bad, estimated-good}
 use Rattle.meter.proofs.Slots.{read-status-by-key, read-value-by-key, one-long, one-read-status, one-read-value}

@@ -6,11 +6,11 @@ use mathlib.Core.List.{List}
 use lib.ListN.{getD, drop}
 use Rattle.group.specs.declared.Reading.{Reading}
 use Rattle.group.specs.Group.{read}
-use Rattle.row.specs.Geometry.{stride}
-use Rattle.row.specs.Order.{earlier, earliest}
-use Rattle.row.specs.Rows.{ofRows, groupAt, least, leastOr}
+use Rattle.geometry.specs.Geometry.{stride}
+use Rattle.geometry.specs.Order.{earlier, earliest}
+use Rattle.geometry.specs.Rows.{ofRows, groupAt, least, leastOr}
 use Rattle.meter.specs.Meter.{rowOf}
-use Rattle.row.proofs.Lists.{one-row}
+use Rattle.geometry.proofs.Lists.{one-row}
 use Rattle.meter.proofs.Gather.{status-turn, status-end, least-start, least-turn, least-end, statuses-start}
 use Rattle.meter.proofs.Slots.{slotStatus, slotValue}
 use Rattle.meter.proofs.read_rows.Statement.{statement}

@@ -6,13 +6,13 @@ use mathlib.Core.List.{List}
 use lib.ListN.{length, getD, drop, length-set}
 use Rattle.group.specs.declared.Group.{Group}
 use Rattle.group.specs.declared.Outcome.{Outcome}
-use Rattle.row.specs.Geometry.{stride}
-use Rattle.row.specs.Order.{earlier, earliest}
-use Rattle.row.specs.Rows.{ofRows}
+use Rattle.geometry.specs.Geometry.{stride}
+use Rattle.geometry.specs.Order.{earlier, earliest}
+use Rattle.geometry.specs.Rows.{ofRows}
 use Rattle.row.specs.Row.{addedIn}
 use Rattle.meter.specs.Meter.{rowOf}
 use Rattle.meter.proofs.Gather.{status-turn, status-end, rows-start}
-use Rattle.row.proofs.Lists.{one-row, filled-more}
+use Rattle.geometry.proofs.Lists.{one-row, filled-more}
 use Rattle.meter.proofs.Slots.{addedStatus}
 use Rattle.meter.proofs.try_rows.Statement.{statement}
 use Rattle.meter.proofs.try_rows.Tie as tie

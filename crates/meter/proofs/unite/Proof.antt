@@ -1,5 +1,5 @@
 use mathlib.Core.Path.{sym, _∙_}
-use Rattle.row.proofs.Widths.{shape-good}
+use Rattle.geometry.proofs.Widths.{shape-good}
 use Rattle.meter.proofs.Calls.{united-bad, united-length, united-full, united-good}
 use borrow.Author.Needs.{needs}
 use Rattle.meter.proofs.unite.Statement.{statement}

@@ -4,10 +4,10 @@ use native.Mathlib.Omega.{arith}
 use borrow.Author.Needs.{needs}
 use mathlib.Core.List.{List}
 use lib.ListN.{length}
-use Rattle.row.specs.Rows.{mapRows}
+use Rattle.geometry.specs.Rows.{mapRows}
 use Rattle.row.specs.Row.{uniteRow}
 use Rattle.meter.specs.Meter.{rowOf, sourceAdded}
-use Rattle.row.proofs.Lists.{one-row, lent, rowsFrom, rows-start, rows-turn, rows-end}
+use Rattle.geometry.proofs.Lists.{one-row, lent, rowsFrom, rows-start, rows-turn, rows-end}
 use Rattle.meter.proofs.unite_rows.Statement.{statement}
 use Rattle.meter.proofs.unite_rows.Tie as tie
 

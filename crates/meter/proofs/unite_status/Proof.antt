@@ -3,13 +3,13 @@ use Prim.Native.Nat.{ℕ, _-_, _*_, _≤_}
 use native.Mathlib.Omega.{arith}
 use borrow.Author.Needs.{needs}
 use mathlib.Core.List.{List}
-use Rattle.row.specs.Geometry.{stride}
+use Rattle.geometry.specs.Geometry.{stride}
 use Rattle.meter.specs.Meter.{rowOf, sourceStatus}
 use lib.ListN.{drop}
-use Rattle.row.specs.Order.{earlier, earliest}
-use Rattle.row.specs.Rows.{ofRows}
+use Rattle.geometry.specs.Order.{earlier, earliest}
+use Rattle.geometry.specs.Rows.{ofRows}
 use Rattle.row.specs.Row.{uniteStatus}
-use Rattle.row.proofs.Lists.{one-row}
+use Rattle.geometry.proofs.Lists.{one-row}
 use Rattle.meter.proofs.Gather.{status-turn, status-end, rows-start}
 use Rattle.meter.proofs.unite_status.Statement.{statement}
 use Rattle.meter.proofs.unite_status.Tie as tie

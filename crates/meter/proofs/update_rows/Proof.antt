@@ -6,8 +6,8 @@ use borrow.Author.Needs.{needs}
 use borrow.Author.Tests.{ne-eqb}
 use lib.ListN.{length}
 use Rattle.group.specs.declared.Group.{Group}
-use Rattle.row.specs.Rows.{mapRows}
-use Rattle.row.proofs.Lists.{one-row, lent, rowsFrom, rows-start, rows-turn, rows-end}
+use Rattle.geometry.specs.Rows.{mapRows}
+use Rattle.geometry.proofs.Lists.{one-row, lent, rowsFrom, rows-start, rows-turn, rows-end}
 use Rattle.meter.proofs.Slots.{groupStored, stored-added}
 use Rattle.meter.proofs.update_rows.Statement.{statement}
 use Rattle.meter.proofs.update_rows.Tie as tie

@@ -1,6 +1,6 @@
 use mathlib.Core.Path.{sym, ap₂, _∙_}
-use Rattle.row.specs.Order.{answerOf}
-use Rattle.row.proofs.Widths.{shape-good}
+use Rattle.geometry.specs.Order.{answerOf}
+use Rattle.geometry.proofs.Widths.{shape-good}
 use Rattle.meter.proofs.Calls.{widest-bad, widest-good}
 use borrow.Author.Needs.{needs}
 use Rattle.meter.proofs.widest.Statement.{statement}

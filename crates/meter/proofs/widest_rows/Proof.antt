@@ -2,13 +2,13 @@ use mathlib.Core.Path.{_≡_, sym, ap, _∙_}
 use Prim.Native.Nat.{_-_, _*_, _≤_, max}
 use native.Mathlib.Omega.{arith}
 use borrow.Author.Needs.{needs}
-use Rattle.row.specs.Geometry.{stride}
+use Rattle.geometry.specs.Geometry.{stride}
 use Rattle.meter.specs.Meter.{rowOf, rowStatus, rowLevel}
 use lib.ListN.{drop}
-use Rattle.row.specs.Order.{earlier, earliest}
-use Rattle.row.specs.Rows.{ofRows, largest}
+use Rattle.geometry.specs.Order.{earlier, earliest}
+use Rattle.geometry.specs.Rows.{ofRows, largest}
 use Rattle.row.specs.Row.{widestStatus, widestRow}
-use Rattle.row.proofs.Lists.{one-row}
+use Rattle.geometry.proofs.Lists.{one-row}
 use Rattle.meter.proofs.Gather.{status-turn, status-end, level-turn, level-end, rows-start, levels-start}
 use Rattle.meter.proofs.widest_rows.Statement.{statement}
 use Rattle.meter.proofs.widest_rows.Tie as tie

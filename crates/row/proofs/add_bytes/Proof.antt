@@ -4,7 +4,7 @@ use native.Mathlib.Omega.{arith}
 use borrow.Author.Needs.{needs}
 use lib.ListN.{length, getD, take, drop, set, length-set}
 use lib.Seq.{take-set-le, drop-set-lt, drop-drop, getD-set-same, getD-set-other}
-use Rattle.row.proofs.Lists.{same-from, range-more}
+use Rattle.geometry.proofs.Lists.{same-from, range-more}
 use Rattle.row.proofs.add_bytes.Statement.{statement}
 use Rattle.row.proofs.add_bytes.Tie as tie
 

@@ -1,6 +1,6 @@
 use Prim.Native.Nat.{_/_}
 use native.Mathlib.Omega.{arith}
-use Rattle.row.proofs.Widths.{slot-in, group-in}
+use Rattle.geometry.proofs.Widths.{slot-in, group-in}
 use Rattle.row.specs.Row.{addedIn}
 use borrow.Author.Needs.{needs}
 use Rattle.row.proofs.added_in.Statement.{statement}

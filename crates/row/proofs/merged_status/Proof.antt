@@ -1,14 +1,14 @@
 use Rattle.group.specs.declared.Group.{Group}
 use Rattle.group.specs.Group.{united}
 use Rattle.row.specs.Row.{unitedAt, unitedStatus, uniteStatus}
-use Rattle.row.proofs.Lists.{status-start, status-turn, status-end}
+use Rattle.geometry.proofs.Lists.{status-start, status-turn, status-end}
 use mathlib.Core.Path.{_≡_, refl, sym, ap₂, _∙_}
 use Prim.Native.Nat.{_-_, _/_, _≤_}
 use native.Mathlib.Omega.{arith}
 use borrow.Author.Needs.{needs}
-use Rattle.row.proofs.Widths.{group-in}
-use Rattle.row.specs.Order.{earlier, earliest}
-use Rattle.row.specs.Rows.{ofGroups}
+use Rattle.geometry.proofs.Widths.{group-in}
+use Rattle.geometry.specs.Order.{earlier, earliest}
+use Rattle.geometry.specs.Rows.{ofGroups}
 use Rattle.row.proofs.merged_status.Statement.{statement}
 use Rattle.row.proofs.merged_status.Tie as tie
 

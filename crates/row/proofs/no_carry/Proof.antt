@@ -4,8 +4,8 @@ use native.Mathlib.Omega.{arith}
 use borrow.Author.Needs.{needs}
 use borrow.Author.Tests.{eqb-true}
 use lib.ListN.{getD}
-use Rattle.row.proofs.Lists.{range-more}
-use Rattle.row.proofs.Unmerged.{or-none}
+use Rattle.geometry.proofs.Lists.{range-more}
+use Rattle.geometry.proofs.Lists.{or-none}
 use Rattle.row.proofs.no_carry.Statement.{statement}
 use Rattle.row.proofs.no_carry.Tie as tie
 

@@ -5,8 +5,8 @@ use borrow.Author.Needs.{needs}
 use lib.ListN.{length}
 use Rattle.group.specs.declared.Outcome.{Outcome}
 use Rattle.row.specs.Row.{uniteGroups}
-use Rattle.row.specs.Rows.{withGroup}
-use Rattle.row.proofs.Lists.{unite-turn, unite-end}
+use Rattle.geometry.specs.Rows.{withGroup}
+use Rattle.row.proofs.Unions.{unite-turn, unite-end}
 use Rattle.row.proofs.unite_groups.Statement.{statement}
 use Rattle.row.proofs.unite_groups.Tie as tie
 

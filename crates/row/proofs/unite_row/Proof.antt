@@ -4,8 +4,8 @@ use native.Mathlib.Omega.{arith}
 use borrow.Author.Needs.{needs}
 use lib.ListN.{length}
 use Rattle.row.specs.Row.{uniteRow, uniteGroups}
-use Rattle.row.proofs.Lists.{unite-run}
-use Rattle.row.proofs.Widths.{stride-is}
+use Rattle.row.proofs.Unions.{unite-run}
+use Rattle.geometry.proofs.Widths.{stride-is}
 use Rattle.row.proofs.unite_row.Statement.{statement}
 use Rattle.row.proofs.unite_row.Tie as tie
 

@@ -2,7 +2,7 @@ use mathlib.Core.Path.{sym}
 use native.Mathlib.Omega.{arith}
 use Rattle.group.proofs.Bytes.{Bytes}
 use Rattle.row.proofs.Unmerged.{unmerged-status}
-use Rattle.row.proofs.Widths.{stride-is}
+use Rattle.geometry.proofs.Widths.{stride-is}
 use borrow.Author.Needs.{needs}
 use Rattle.row.proofs.unite_status.Statement.{statement}
 use Rattle.row.proofs.unite_status.Tie as tie

@@ -3,7 +3,7 @@ use Prim.Native.Nat.{_/_}
 use borrow.Author.Needs.{needs}
 use borrow.Author.Tests.{ne-eqb}
 use Rattle.group.specs.declared.Outcome.{Outcome}
-use Rattle.row.specs.Rows.{withGroup}
+use Rattle.geometry.specs.Rows.{withGroup}
 use Rattle.row.proofs.update_one.Statement.{statement}
 use Rattle.row.proofs.update_one.Tie as tie
 

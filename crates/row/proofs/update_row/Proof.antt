@@ -1,6 +1,6 @@
 use Prim.Native.Nat.{_/_}
 use native.Mathlib.Omega.{arith}
-use Rattle.row.proofs.Widths.{slot-in, group-in}
+use Rattle.geometry.proofs.Widths.{slot-in, group-in}
 use borrow.Author.Needs.{needs}
 use Rattle.row.proofs.update_row.Statement.{statement}
 use Rattle.row.proofs.update_row.Tie as tie

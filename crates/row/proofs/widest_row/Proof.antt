@@ -1,12 +1,12 @@
 use Rattle.row.specs.Row.{levelStatus, levelAt, widestStatus, widestRow}
-use Rattle.row.proofs.Lists.{status-start, level-start, status-turn, status-end, level-turn, level-end}
+use Rattle.geometry.proofs.Lists.{status-start, level-start, status-turn, status-end, level-turn, level-end}
 use mathlib.Core.Path.{_≡_, refl, sym, ap, _∙_}
 use Prim.Native.Nat.{_-_, _/_, _≤_, max}
 use native.Mathlib.Omega.{arith}
 use borrow.Author.Needs.{needs}
-use Rattle.row.proofs.Widths.{wide, group-in}
-use Rattle.row.specs.Order.{earlier, earliest}
-use Rattle.row.specs.Rows.{groupAt, ofGroups, largest}
+use Rattle.geometry.proofs.Widths.{wide, group-in}
+use Rattle.geometry.specs.Order.{earlier, earliest}
+use Rattle.geometry.specs.Rows.{groupAt, ofGroups, largest}
 use Rattle.group.specs.declared.Answer.{Answer}
 use Rattle.row.proofs.widest_row.Statement.{statement}
 use Rattle.row.proofs.widest_row.Tie as tie

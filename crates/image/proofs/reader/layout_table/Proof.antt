@@ -5,7 +5,7 @@ use borrow.Author.Needs.{needs}
 use lib.ListN.{length, getD, length-set}
 use Rattle.group.specs.declared.Unpacked.{Unpacked}
 use Rattle.group.specs.Pack.{codeMerge}
-use Rattle.row.proofs.Lists.{filled-more}
+use Rattle.geometry.proofs.Lists.{filled-more}
 use Rattle.image.proofs.Layouts.{last-merge}
 use Rattle.image.proofs.reader.layout_table.Statement.{statement}
 use Rattle.image.proofs.reader.layout_table.Tie as tie

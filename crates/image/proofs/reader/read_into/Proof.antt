@@ -3,7 +3,7 @@ use mathlib.Core.List.{List}
 use Prim.Native.Nat.{ℕ, _+_}
 use native.Mathlib.Omega.{arith}
 use lib.ListN.{set}
-use Rattle.row.specs.Rows.{withGroup}
+use Rattle.geometry.specs.Rows.{withGroup}
 use Rattle.image.specs.Write.{groupSize}
 use Rattle.image.specs.Read.{readGroup}
 use Rattle.image.proofs.Plain.{plain-read, plain-size}

@@ -4,10 +4,10 @@ use Prim.Native.Nat.{ℕ, _+_, _-_, _*_, _/_, _≤_}
 use native.Mathlib.Omega.{arith}
 use borrow.Author.Needs.{needs}
 use lib.ListN.{length, take, drop}
-use Rattle.row.specs.Geometry.{stride}
+use Rattle.geometry.specs.Geometry.{stride}
 use native.Mathlib.Nat.{sub-zero, zero-mul}
 use Rattle.image.specs.Read.{readRows}
-use Rattle.row.proofs.Lists.{row-in}
+use Rattle.geometry.proofs.Lists.{row-in}
 use Rattle.image.proofs.Laws.{rowsFrom, read-rows-turn, read-rows-end}
 use Rattle.image.proofs.reader.read_rows.Statement.{statement}
 use Rattle.image.proofs.reader.read_rows.Tie as tie

@@ -3,7 +3,7 @@ use Prim.Native.Nat.{ℕ, _-_, _≤_, _<_}
 use native.Mathlib.Omega.{arith}
 use borrow.Author.Needs.{needs}
 use lib.ListN.{length, getD, length-set}
-use Rattle.row.proofs.Lists.{filled-more}
+use Rattle.geometry.proofs.Lists.{filled-more}
 use Rattle.image.proofs.Sizes.{codeOf}
 use Rattle.image.proofs.tables.code_table.Statement.{statement}
 use Rattle.image.proofs.tables.code_table.Tie as tie

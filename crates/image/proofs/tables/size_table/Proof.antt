@@ -4,7 +4,7 @@ use native.Mathlib.Omega.{arith}
 use borrow.Author.Needs.{needs}
 use lib.ListN.{length, getD, length-set}
 use Rattle.image.specs.Write.{groupSize}
-use Rattle.row.proofs.Lists.{filled-more}
+use Rattle.geometry.proofs.Lists.{filled-more}
 use Rattle.image.proofs.tables.size_table.Statement.{statement}
 use Rattle.image.proofs.tables.size_table.Tie as tie
 

@@ -7,7 +7,7 @@ use lib.ListN.{length}
 use lib.Seq.{sets}
 use native.Mathlib.Nat.{add-zero}
 use Rattle.group.specs.declared.Group.{Group}
-use Rattle.row.specs.Rows.{groupAt}
+use Rattle.geometry.specs.Rows.{groupAt}
 use Rattle.image.specs.Image.{groupWords, groupsWords}
 use Rattle.image.specs.Write.{groupSize}
 use Rattle.image.proofs.Laws.{put-turn, group-length, groups-length-step, groups-step, groups-none}

@@ -5,11 +5,11 @@ use native.Mathlib.Omega.{arith}
 use borrow.Author.Needs.{needs}
 use lib.ListN.{length, take, drop}
 use lib.Seq.{sets}
-use Rattle.row.specs.Geometry.{stride}
+use Rattle.geometry.specs.Geometry.{stride}
 use native.Mathlib.Nat.{sub-zero, zero-mul}
 use Rattle.image.specs.Image.{rowWords, rowsWords}
-use Rattle.row.proofs.Lists.{one-row}
-use Rattle.row.proofs.Widths.{stride-is}
+use Rattle.geometry.proofs.Lists.{one-row}
+use Rattle.geometry.proofs.Widths.{stride-is}
 use Rattle.image.proofs.Laws.{width-is, put-turn, rows-step, rows-length-step, rows-none}
 use Rattle.image.proofs.writer.put_rows.Statement.{statement}
 use Rattle.image.proofs.writer.put_rows.Tie as tie

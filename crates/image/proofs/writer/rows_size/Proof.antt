@@ -4,11 +4,11 @@ use Prim.Native.Nat.{ℕ, _+_, _-_, _*_, _/_, _≤_}
 use native.Mathlib.Omega.{arith}
 use borrow.Author.Needs.{needs}
 use lib.ListN.{length, take, drop}
-use Rattle.row.specs.Geometry.{stride}
+use Rattle.geometry.specs.Geometry.{stride}
 use native.Mathlib.Nat.{zero-add, sub-zero, zero-mul}
 use Rattle.image.specs.Image.{rowWords, rowsWords}
-use Rattle.row.proofs.Lists.{one-row}
-use Rattle.row.proofs.Widths.{stride-is}
+use Rattle.geometry.proofs.Lists.{one-row}
+use Rattle.geometry.proofs.Widths.{stride-is}
 use Rattle.image.proofs.Laws.{width-is, rows-length-step, rows-none}
 use Rattle.image.proofs.writer.rows_size.Statement.{statement}
 use Rattle.image.proofs.writer.rows_size.Tie as tie

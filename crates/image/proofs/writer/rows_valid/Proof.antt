@@ -6,9 +6,9 @@ use native.Mathlib.Omega.{arith}
 use borrow.Author.Needs.{needs}
 use borrow.Author.Tests.{not-true, not-false}
 use lib.ListN.{drop}
-use Rattle.row.specs.Geometry.{stride}
+use Rattle.geometry.specs.Geometry.{stride}
 use Rattle.image.specs.Write.{allValid, validRows}
-use Rattle.row.proofs.Lists.{one-row}
+use Rattle.geometry.proofs.Lists.{one-row}
 use Rattle.image.proofs.Laws.{valid-rows-step, valid-rows-none}
 use Rattle.image.proofs.writer.rows_valid.Statement.{statement}
 use Rattle.image.proofs.writer.rows_valid.Tie as tie

@@ -1,0 +1,183 @@
+-- Laws of copies and of rows lent out.
+use mathlib.Core.Path.{_≡_, sym, ap, _∙_}
+use mathlib.Core.List.{List, [], _∷_, _++_, append-nil, append-assoc}
+use Prim.Native.Nat.{ℕ, zero, suc, _+_, _-_, _*_, _≤_, _<_, max}
+use native.Mathlib.Nat.{max-zero, zero-add, zero-mul, suc-mul, add-mul, one-mul, sub-zero, mul-le-mul-right}
+use native.Mathlib.Numerals.{add-one, sub-one}
+use native.Mathlib.Decide.{decLt}
+use native.Mathlib.Omega.{arith}
+use borrow.Rule.Slice.PartMut.{putMid, post-is}
+use lib.Bits.{bitOr, or-add-and, and-le-l, and-le-r}
+use lib.ListN.{length, getD, take, drop, set, length-append, length-take, length-drop, take-append-drop, drop-of-length-le, List·getD-eq-default}
+use lib.Seq.{paste-suc, length-take-le, take-at, drop-at, drop-drop, getD-drop, getD-take, getD-set-same, getD-set-other}
+use Rattle.group.proofs.Bytes.{Bytes}
+use Rattle.geometry.specs.Geometry.{size, RowIn, RowsIn}
+use Rattle.geometry.specs.Geometry as geometry
+use Rattle.geometry.specs.Rows.{mapRows, ofRows, ofGroups, largest}
+use Rattle.geometry.specs.Order.{earlier, earliest}
+use Rattle.geometry.proofs.Widths.{earlier-none, earlier-assoc}
+
+-- a copy from the front: one element more, and all
+pub copy-more : (s d : List ℕ) (i : ℕ) → i < length s → i < length d → set (take i s ++ drop i d) i (getD s i 0) ≡ take (i + 1) s ++ drop (i + 1) d
+copy-more s d i h k =
+    let k0 : 0 + i < length d = omega arith in
+    simp (zero-add, add-one) (simp zero-add at (paste-suc d 0 s i 0 k0 h))
+
+pub copy-all : (s d : List ℕ) (i : ℕ) → length d ≤ i → take i s ++ drop i d ≡ take i s
+copy-all s d i h = rw (drop-of-length-le d h, append-nil)
+
+-- lists that are the same from place k on
+pub same-from : (k : ℕ) (xs ys : List ℕ) → drop k xs ≡ drop k ys → getD xs k 0 ≡ getD ys k 0
+same-from k xs ys e =
+    let z : k + 0 ≡ k = omega arith in
+    rw z at (sym (getD-drop k xs 0 0) ∙ ap (λ (l : List ℕ). getD l 0 0) e ∙ getD-drop k ys 0 0)
+
+-- what holds from place a on, held at one place more
+pub range-more : (P : ℕ → Type 0) (a k : ℕ) → ((i : ℕ) → a ≤ i → i < k → P i) → P k → (i : ℕ) → a ≤ i → i < k + 1 → P i
+range-more P a k h p i l m = elim (decLt i k) [
+  | yes n ↦ h i l n
+  | no n ↦ let z : i ≡ k = omega arith in rw z p
+]
+
+-- bytes taken out of bytes
+pub bytes-drop : (n : ℕ) (xs : List ℕ) → Bytes xs → Bytes (drop n xs)
+bytes-drop n xs b i = rw (getD-drop n xs i 0) (b (n + i))
+
+pub bytes-take : (n : ℕ) (xs : List ℕ) → Bytes xs → Bytes (take n xs)
+bytes-take n xs b = λ i. elim (decLt i n) [
+  | yes l ↦ rw (getD-take n xs i 0 l) (b i)
+  | no l ↦ rw (List·getD-eq-default (take n xs) 0 {n = i} (omega (arith, length-take n xs))) (omega arith)
+]
+
+-- bytes taken together that are 0
+pub or-none : (a b : ℕ) → bitOr a b ≡ 0 → (a ≡ 0) × (b ≡ 0)
+or-none a b e = (omega (arith, or-add-and a b, and-le-r a b), omega (arith, or-add-and a b, and-le-l a b))
+
+-- row r of d rows lies in the memory
+pub row-in : (r d stride : ℕ) {n : ℕ} → r < d → d * stride ≤ n → r * stride + stride ≤ n
+row-in r d stride h k = omega (arith, mul-le-mul-right {m = suc r} {n = d} stride h, suc-mul r stride)
+
+pub one-row : (d w r : ℕ) {bytes : ℕ} → RowsIn d w bytes → r < d → RowIn w r bytes
+unfolding size
+one-row d w r p h = (p .0, omega (arith, p .1), row-in r d (geometry.stride w) h (omega (arith, p .2)))
+
+pub row-length : (r stride : ℕ) (memory : List ℕ) → r * stride + stride ≤ length memory → length (take stride (drop (r * stride) memory)) ≡ stride
+row-length r stride memory h = length-take-le stride (drop (r * stride) memory) (rw (length-drop (r * stride) memory) (omega arith))
+
+-- the row after it starts where it ends
+next-row : (r stride : ℕ) → (r + 1) * stride ≡ r * stride + stride
+next-row r stride = add-mul r 1 stride ∙ ap (λ (m : ℕ). r * stride + m) (one-mul stride)
+
+-- the bytes of a row that is lent
+pub lent : (a s : ℕ) (memory : List ℕ) → take (a + s - a) (drop a memory) ≡ take s (drop a memory)
+lent a s memory =
+    let e : a + s - a ≡ s = omega arith in
+    rw e
+
+-- rows read one by one
+module _ (f : ℕ → List ℕ → ℕ) (stride : ℕ) where
+  pub rows-read : (d r : ℕ) (memory : List ℕ) → r < d
+      → ofRows f stride (d - r) r (drop (r * stride) memory)
+      ≡ f r (take stride (drop (r * stride) memory)) ∷ ofRows f stride (d - (r + 1)) (r + 1) (drop ((r + 1) * stride) memory)
+  unfolding ofRows
+  rows-read d r memory h =
+      let e : d - r ≡ suc (d - (r + 1)) = omega arith in
+      rw (e, drop-drop stride (r * stride) memory, next-row r stride)
+
+  pub rows-read-none : (d r : ℕ) (memory : List ℕ) → d ≤ r → ofRows f stride (d - r) r memory ≡ []
+  unfolding ofRows
+  rows-read-none d r memory h =
+      let e : d - r ≡ 0 = omega arith in
+      rw e
+
+  pub rows-read-all : (d : ℕ) (memory : List ℕ) → ofRows f stride (d - 0) 0 (drop (0 * stride) memory) ≡ ofRows f stride d 0 memory
+  rows-read-all d memory = rw (zero-mul, sub-zero)
+
+-- rows written one by one
+module _ (f : ℕ → List ℕ → List ℕ) (stride : ℕ) where
+  rows-more : (n r : ℕ) (memory : List ℕ) → 0 < n → mapRows f stride n r memory ≡ f r (take stride memory) ++ mapRows f stride (n - 1) (r + 1) (drop stride memory)
+  unfolding mapRows
+  rows-more zero r memory h = absurd (omega arith)
+  rows-more (suc n) r memory h = rw (sub-one (suc n))
+
+  -- a memory whose rows before row r are done
+  abbrev pub rowsFrom : ℕ → ℕ → List ℕ → List ℕ
+  rowsFrom d r memory = take (r * stride) memory ++ mapRows f stride (d - r) r (drop (r * stride) memory)
+
+  pub rows-start : (d : ℕ) (memory : List ℕ) → rowsFrom d 0 memory ≡ mapRows f stride d 0 memory
+  rows-start d memory = rw (zero-mul, sub-zero)
+
+  -- a turn: row r was lent, and is back as f gives it
+  pub rows-turn : (d r : ℕ) (memory ys : List ℕ) → r < d → r * stride + stride ≤ length memory → length ys ≡ stride
+      → ys ≡ f r (take stride (drop (r * stride) memory))
+      → rowsFrom d (r + 1) (putMid (r * stride) (r * stride + stride - r * stride) memory ys) ≡ rowsFrom d r memory
+  rows-turn d r memory ys h k l e =
+      let a = r * stride in
+      let front : length (take a memory ++ ys) ≡ a + stride = simp (length-append, length-take-le a memory (omega arith), l) in
+      let whole : putMid a (a + stride - a) memory ys ≡ (take a memory ++ ys) ++ drop (a + stride) memory =
+      ap (λ (z : List ℕ). take a memory ++ (ys ++ z)) (post-is a (a + stride) memory (omega arith)) ∙ sym (append-assoc (take a memory) ys (drop (a + stride) memory)) in
+      let n : d - r - 1 ≡ d - (r + 1) = omega arith in
+      rw (
+        whole,
+        next-row r stride,
+        take-at (take a memory ++ ys) (drop (a + stride) memory) (a + stride) front,
+        drop-at (take a memory ++ ys) (drop (a + stride) memory) (a + stride) front,
+        rows-more (d - r) r (drop a memory) (omega arith),
+        n,
+        drop-drop stride a memory,
+        ← e,
+      )
+      (append-assoc (take a memory) ys (mapRows f stride (d - (r + 1)) (r + 1) (drop (a + stride) memory)))
+
+  pub rows-end : (d r : ℕ) (memory : List ℕ) → d ≤ r → rowsFrom d r memory ≡ memory
+  unfolding mapRows
+  rows-end d r memory h =
+      let e : d - r ≡ 0 = omega arith in
+      rw (e, take-append-drop)
+
+-- groups read one by one
+pub groups-read : (f : ℕ → ℕ) (n g : ℕ) → g < n → ofGroups f (n - g) g ≡ f g ∷ ofGroups f (n - (g + 1)) (g + 1)
+unfolding ofGroups
+groups-read f n g h =
+    let e : n - g ≡ suc (n - (g + 1)) = omega arith in
+    rw e
+
+pub groups-read-none : (f : ℕ → ℕ) (n g : ℕ) → n ≤ g → ofGroups f (n - g) g ≡ []
+unfolding ofGroups
+groups-read-none f n g h =
+    let e : n - g ≡ 0 = omega arith in
+    rw e
+
+-- the answers and levels of groups, gathered one by one
+pub status-start : (f : ℕ → ℕ) (n : ℕ) → earlier 0 (earliest (ofGroups f (n - 0) 0)) ≡ earliest (ofGroups f n 0)
+unfolding earlier
+status-start f n = rw (sub-zero n)
+
+pub level-start : (f : ℕ → ℕ) (n : ℕ) → max 0 (largest (ofGroups f (n - 0) 0)) ≡ largest (ofGroups f n 0)
+level-start f n = rw (sub-zero n) (omega arith)
+
+module _ (f : ℕ → ℕ) (n g : ℕ) where
+  pub status-turn : (s x : ℕ) → g < n → x ≡ f g → earlier (earlier s x) (earliest (ofGroups f (n - (g + 1)) (g + 1))) ≡ earlier s (earliest (ofGroups f (n - g) g))
+  unfolding earliest
+  status-turn s x h e = rw (groups-read f n g h, e) (earlier-assoc s (f g) (earliest (ofGroups f (n - (g + 1)) (g + 1))))
+
+  pub status-end : (s : ℕ) → n ≤ g → earlier s (earliest (ofGroups f (n - g) g)) ≡ s
+  unfolding earliest
+  status-end s h = rw (groups-read-none f n g h) (earlier-none s)
+
+  pub level-turn : (v x : ℕ) → g < n → x ≡ f g → max (max v x) (largest (ofGroups f (n - (g + 1)) (g + 1))) ≡ max v (largest (ofGroups f (n - g) g))
+  unfolding largest
+  level-turn v x h e = rw (groups-read f n g h, e) (omega arith)
+
+  pub level-end : (v : ℕ) → n ≤ g → max v (largest (ofGroups f (n - g) g)) ≡ v
+  unfolding largest
+  level-end v h = rw (groups-read-none f n g h) (max-zero v)
+
+-- an array filled from the front: one element more
+pub filled-more : {A : Type 0} (f : ℕ → A) (l : List A) (i : ℕ) (x z : A) → i < length l → x ≡ f i
+    → ((k : ℕ) → k < i → getD l k z ≡ f k) → (k : ℕ) → k < i + 1 → getD (set l i x) k z ≡ f k
+filled-more f l i x z h e p k m =
+    elim (decLt k i) [
+      | yes b ↦ getD-set-other l i k x z (λ q. omega arith) ∙ p k b
+      | no b ↦ let q : k ≡ i = omega arith in rw q (getD-set-same l i x z h ∙ e)
+    ]

@@ -1,0 +1,193 @@
+-- Laws of widths and of the order of rejections.
+use mathlib.Core.Path.{_≡_, refl, sym, ap, _∙_}
+use mathlib.Core.Bool.{Bool, true, false, true≢false, or-true, and-eq-true-iff}
+use mathlib.Core.Logic.{⊎-elim}
+use mathlib.Core.List.{List, [], _∷_, _++_}
+use Prim.Native.Nat.{ℕ, zero, suc, _+_, _-_, _*_, _/_, _%_, _^_, _≤_, _<_, min}
+use native.Mathlib.Nat.{mul-assoc, mul-comm, mul-one, pow-suc, mul-mod-left, mod-self, mul-le-mul}
+use native.Mathlib.Decide.{decLt}
+use native.Mathlib.Omega.{arith}
+use borrow.Author.Tests.{eqb-true, eq-eqb, leb-true}
+use lib.Arith.{bin-ind}
+use lib.Bits.{bitAnd, and-step, and-self, and-mask}
+use lib.Dec.{eqb, leb}
+use lib.Pow.{pow-add, pow-mono, pow-lt}
+use Rattle.layout.proofs.Laws.{or-cases}
+use Rattle.block.proofs.Every.{both-ways}
+use Rattle.geometry.specs.Geometry.{oneOfPowers, validDepth, validWidth, stride, size, RowsIn}
+use Rattle.geometry.specs.Order.{firstOf, unless, badShape, earlier, answerOf}
+use Rattle.group.specs.Status.{rejected}
+
+shift : (p i : ℕ) → p * 2 * 2 ^ i ≡ p * 2 ^ suc i
+shift p i = mul-assoc p 2 (2 ^ i) ∙ ap (λ (x : ℕ). p * x) (mul-comm 2 (2 ^ i) ∙ sym (pow-suc 2 i))
+
+-- one of the powers from p on is p times a power
+powers-are : (n p w : ℕ) → oneOfPowers n p w ≡ true → (i : ℕ) × (i < n) × (w ≡ p * 2 ^ i)
+unfolding oneOfPowers
+powers-are zero p w e = absurd (true≢false (sym e))
+powers-are (suc n) p w e =
+    ⊎-elim (λ h. (0, omega arith, eqb-true w p h ∙ sym (mul-one p)))
+    (λ h.
+    let r = powers-are n (p * 2) w h in
+    (suc (r .0), omega (arith, r .1), r .2 ∙ shift p (r .0)))
+    (or-cases (eqb w p) (oneOfPowers n (p * 2) w) e)
+
+are-powers : (n p i : ℕ) → i < n → oneOfPowers n p (p * 2 ^ i) ≡ true
+unfolding oneOfPowers
+are-powers zero p i h = absurd (omega arith)
+are-powers (suc n) p zero h = rw (eq-eqb (p * 2 ^ 0) p (mul-one p))
+are-powers (suc n) p (suc i) h = rw (← shift p i, are-powers n (p * 2) i (omega arith)) (or-true (eqb (p * 2 * 2 ^ i) p))
+
+-- a valid width is a power of two from 32 to the largest
+pub width-is : (w : ℕ) → validWidth w ≡ true → (k : ℕ) × (5 ≤ k) × (k ≤ 16) × (w ≡ 2 ^ k)
+unfolding validWidth
+width-is w e =
+    let r = powers-are 12 32 w e in
+    (5 + r .0, omega arith, omega (arith, r .1), r .2 ∙ sym (pow-add 2 5 (r .0)))
+
+pub is-width : (k : ℕ) → 5 ≤ k → k ≤ 16 → validWidth (2 ^ k) ≡ true
+unfolding validWidth
+is-width k h l =
+    let e : 2 ^ k ≡ 32 * 2 ^ (k - 5) = ap (λ (n : ℕ). 2 ^ n) (omega arith) ∙ pow-add 2 5 (k - 5) in
+    rw e (are-powers 12 32 (k - 5) (omega arith))
+
+-- what follows from it
+pub record Wide (w : ℕ) : Type 0 where
+  pub low : 32 ≤ w
+  pub high : w ≤ 65536
+  pub eights : w % 8 ≡ 0
+  pub shares : 2 ^ 32 % w ≡ 0
+
+pub wide : (w : ℕ) → validWidth w ≡ true → Wide w
+wide w e =
+    let r = width-is w e in
+    let k = r .0 in
+    let three : k ≡ k - 3 + 3 = omega (arith, r .1) in
+    let rest : 32 ≡ 32 - k + k = omega (arith, r .2) in
+    let by-eight : 2 ^ k ≡ 2 ^ (k - 3) * 8 = ap (λ (n : ℕ). 2 ^ n) three ∙ pow-add 2 (k - 3) 3 in
+    let shared : 2 ^ 32 ≡ 2 ^ (32 - k) * 2 ^ k = ap (λ (n : ℕ). 2 ^ n) rest ∙ pow-add 2 (32 - k) k in
+    rw (r .3)
+    (record {
+      low = pow-mono {i = 5} {j = k} (r .1);
+      high = pow-mono {i = k} {j = 16} (r .2);
+      eights = rw by-eight (mul-mod-left (2 ^ (k - 3)) 8);
+      shares = rw shared (mul-mod-left (2 ^ (32 - k)) (2 ^ k));
+    })
+
+-- a number that shares no bit with its predecessor is a power of two
+one-bit : (w : ℕ) → 0 < w → bitAnd w (w - 1) ≡ 0 → (k : ℕ) × (w ≡ 2 ^ k)
+one-bit = bin-ind (λ (w : ℕ). 0 < w → bitAnd w (w - 1) ≡ 0 → (k : ℕ) × (w ≡ 2 ^ k)) (λ h e. absurd (omega arith)) step
+  where
+    step : (n : ℕ) → (0 < n / 2 → bitAnd (n / 2) (n / 2 - 1) ≡ 0 → (k : ℕ) × (n / 2 ≡ 2 ^ k)) → 0 < n → bitAnd n (n - 1) ≡ 0 → (k : ℕ) × (n ≡ 2 ^ k)
+    step n ih h e =
+        elim (decLt 0 (n % 2)) [
+          | yes odd ↦ (
+            0,
+            let same : (n - 1) / 2 ≡ n / 2 = omega arith in
+                omega (arith, and-step n (n - 1), ap (bitAnd (n / 2)) same, and-self (n / 2)),
+          )
+          | no even ↦
+              let less : (n - 1) / 2 ≡ n / 2 - 1 = omega arith in
+              let r = ih (omega arith) (omega (arith, and-step n (n - 1), ap (bitAnd (n / 2)) less)) in
+              (suc (r .0), omega (arith, r .1))
+        ]
+
+-- powers in order have exponents in order
+log-le : (j k : ℕ) → 2 ^ j ≤ 2 ^ k → j ≤ k
+log-le j k h = elim (decLt k j) [ yes l ↦ absurd (omega (arith, pow-lt {i = k} {j = j} l)) | no n ↦ omega arith ]
+
+-- the code's test of a width
+pub width-out : (w : ℕ) → (32 ≤ w → w ≤ 65536 → ⊥) → false ≡ validWidth w
+width-out w h = both-ways false (validWidth w) (λ e. absurd (true≢false (sym e))) (λ v. absurd (h (wide w v .low) (wide w v .high)))
+
+pub width-test : (w : ℕ) → 32 ≤ w → w ≤ 65536 → eqb (bitAnd w (w - 1)) 0 ≡ validWidth w
+width-test w l h =
+    both-ways (eqb (bitAnd w (w - 1)) 0) (validWidth w)
+    (λ e.
+    let r = one-bit w (omega arith) (eqb-true (bitAnd w (w - 1)) 0 e) in
+    rw (r .1) (is-width (r .0) (log-le 5 (r .0) (rw (r .1) at l)) (log-le (r .0) 16 (rw (r .1) at h))))
+    (λ v.
+    let r = width-is w v in
+    eq-eqb (bitAnd w (w - 1)) 0 (rw (r .3, and-mask (2 ^ r .0) (r .0)) (mod-self (2 ^ r .0))))
+
+pub stride-is : (w : ℕ) → stride w ≡ w + w / 8
+unfolding stride
+stride-is w = omega arith
+
+-- tests in checking order, taken in two parts
+pub first-rest : (xs ys : List ℕ) → firstOf xs ≡ 0 → firstOf (xs ++ ys) ≡ firstOf ys
+unfolding firstOf
+first-rest [] ys e = refl
+first-rest (zero ∷ xs) ys e = first-rest xs ys e
+first-rest (suc s ∷ xs) ys e = absurd (omega arith)
+
+pub first-part : (xs ys : List ℕ) → 0 < firstOf xs → firstOf (xs ++ ys) ≡ firstOf xs
+unfolding firstOf
+first-part [] ys e = absurd (omega arith)
+first-part (zero ∷ xs) ys e = first-part xs ys e
+first-part (suc s ∷ xs) ys e = refl
+
+pub first-one : (s : ℕ) → firstOf (s ∷ []) ≡ s
+unfolding firstOf
+first-one zero = refl
+first-one (suc s) = refl
+
+pub earlier-none : (a : ℕ) → earlier a 0 ≡ a
+unfolding earlier
+earlier-none zero = refl
+earlier-none (suc a) = refl
+
+pub earlier-least : (a b : ℕ) → 0 < a → 0 < b → earlier a b ≡ min a b
+unfolding earlier
+earlier-least zero b h k = absurd (omega arith)
+earlier-least (suc a) zero h k = absurd (omega arith)
+earlier-least (suc a) (suc b) h k = refl
+
+-- which of several groups' answers comes first does not depend on how they are taken together
+pub earlier-assoc : (a b c : ℕ) → earlier (earlier a b) c ≡ earlier a (earlier b c)
+unfolding earlier
+earlier-assoc zero b c = refl
+earlier-assoc (suc a) zero c = refl
+earlier-assoc (suc a) (suc b) zero = earlier-none (min (suc a) (suc b))
+earlier-assoc (suc a) (suc b) (suc c) =
+    rw (earlier-least (min (suc a) (suc b)) (suc c) (omega arith) (omega arith), earlier-least (suc a) (min (suc b) (suc c)) (omega arith) (omega arith)) (omega arith)
+
+pub answer-rejected : (s v : ℕ) → (s ≡ 0 → ⊥) → rejected s ≡ answerOf s v
+unfolding answerOf
+answer-rejected zero v h = absurd (h refl)
+answer-rejected (suc s) v h = refl
+
+pub depth-in : (d : ℕ) → validDepth d ≡ true → (1 ≤ d) × (d ≤ 8)
+unfolding validDepth
+depth-in d v =
+    let p = and-eq-true-iff (leb 1 d) (leb d 8) .0 v in
+    (leb-true 1 d (p .0), leb-true d 8 (p .1))
+
+-- a shape with nothing wrong
+pub shape-good : (d w bytes : ℕ) → badShape d w bytes ≡ 0 → (1 ≤ d) × RowsIn d w bytes
+unfolding firstOf
+shape-good d w bytes = go (validDepth d) (validWidth w) (eqb bytes (size d w)) refl refl refl
+  where
+    go : (a b c : Bool) → validDepth d ≡ a → validWidth w ≡ b → eqb bytes (size d w) ≡ c
+        → firstOf (unless a 1 ∷ unless b 2 ∷ unless c 3 ∷ []) ≡ 0 → (1 ≤ d) × RowsIn d w bytes
+    go true true true p q s e = (depth-in d p .0, (q, depth-in d p .1, eqb-true bytes (size d w) s))
+    go true true false p q s e = absurd (omega arith)
+    go true false c p q s e = absurd (omega arith)
+    go false b c p q s e = absurd (omega arith)
+
+-- the shape of a memory
+pub size-in : (d w : ℕ) → validDepth d ≡ true → validWidth w ≡ true → d * stride w ≤ 589824
+size-in d w v e =
+    let f = wide w e in
+    mul-le-mul {n₁ = d} {m₁ = stride w} {n₂ = 8} {m₂ = 73728} (depth-in d v .1) (omega (arith, stride-is w))
+
+-- where a group lies in a row
+pub slot-in : (w slot : ℕ) → validWidth w ≡ true → slot < w → slot / 8 < w / 8
+slot-in w slot v h =
+    let f = wide w v in
+    omega arith
+
+pub group-in : (w g : ℕ) → validWidth w ≡ true → g < w / 8 → (8 * g + 8 ≤ w) × (w + g < stride w)
+group-in w g v h =
+    let f = wide w v in
+    omega (arith, stride-is w)
