@@ -20,15 +20,17 @@ use Rattle.group.specs.Status.{badPayload}
 use Rattle.group.specs.Group.{decode, read, changed}
 use Rattle.word.specs.declared.Step.{Step}
 use Rattle.word.specs.Word.{go, next, payload, isDue, tested, below}
-use Rattle.image.specs.Image.{word, countKind, parts, wordsOf, levelAt, isFirst, slotWords, slotsWords, groupWords}
-use Rattle.image.specs.Write.{slotSize, slotsSize, groupSize}
-use Rattle.image.specs.Read.{firstBits, checkParts, checkSlot, checkSlots, valueFrom, readSlot, readSlots, readGroup}
+use Rattle.format.specs.Image.{word, countKind, parts, wordsOf, levelAt, isFirst, slotWords, slotsWords, groupWords}
+use Rattle.format.specs.Write.{slotSize, slotsSize, groupSize}
+use Rattle.format.specs.Read.{firstBits, checkParts, checkSlot, checkSlots, valueFrom, readSlot, readSlots, readGroup}
 use Rattle.word.proofs.Laws.{both}
-use Rattle.image.proofs.Laws.{slot-none, slot-some, size-first, size-other, read-slot-other, read-slot-first, read-slot-merge}
+use Rattle.format.proofs.Laws.{slot-none, slot-some, size-first, size-other, by-test}
+use Rattle.reader.proofs.Laws.{read-slot-other, read-slot-first, read-slot-merge}
 use Rattle.block.proofs.Slots.{level-le}
 use Rattle.group.proofs.Changing.{Good, good-changed, changed-at, changed-before, zero-good}
-use Rattle.image.proofs.Digits.{words-bits, power-step, value-digits}
-use Rattle.image.proofs.Restoring.{Agree, by-test, level-at, read-value, first-level}
+use Rattle.reader.proofs.Digits.{words-bits, power-step, value-digits}
+use Rattle.reader.proofs.Restoring.{Agree, read-value}
+use Rattle.format.proofs.Counters.{level-at, first-level}
 
 -- a test that was passed, and the tests after it
 pub record Passed (s : Step) (f : ℕ → Step) (q : ℕ) : Type 0 where

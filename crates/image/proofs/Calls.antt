@@ -1,24 +1,20 @@
 -- What the calls answer, by their tests.
-use mathlib.Core.Path.{_≡_, refl, sym, ap, _∙_}
+use mathlib.Core.Path.{_≡_, refl}
 use mathlib.Core.Bool.{true, false}
 use mathlib.Core.List.{List, [], _∷_, _++_}
 use Prim.Native.Nat.{ℕ, zero, suc, _+_, _*_, _≤_, _<_}
-use native.Mathlib.Nat.{zero-add}
-use native.Mathlib.Omega.{arith}
 use borrow.Author.Tests.{eq-eqb, ne-eqb, le-leb, lt-leb}
 use lib.Dec.{leb}
-use lib.ListN.{length, drop, set, length-append}
-use lib.Seq.{sets, sets-eq}
+use lib.ListN.{length, drop}
 use Rattle.group.specs.Status.{invalidMerge, accepted, rejected}
 use Rattle.geometry.specs.Geometry.{stride, size}
 use Rattle.geometry.specs.Order.{unless, firstOf, badShape}
-use Rattle.word.specs.declared.Step.{Step}
-use Rattle.word.specs.Word.{headKind}
-use Rattle.image.specs.Image.{word, headPayload, rowsWords, body, endWord, image}
-use Rattle.image.specs.Write.{tooFewWords, validRows, writeStatus, finishWrite, written}
-use Rattle.image.specs.Read.{checked, readRows, finishRead, readAfter, taken}
 use Rattle.geometry.proofs.Widths.{shape-good}
-use Rattle.image.proofs.Laws.{Width, width-is, sets-append}
+use Rattle.word.specs.declared.Step.{Step}
+use Rattle.format.specs.Image.{image}
+use Rattle.format.specs.Write.{tooFewWords, validRows, writeStatus, finishWrite, written}
+use Rattle.format.specs.Read.{checked, readRows, finishRead, readAfter, taken}
+use Rattle.format.proofs.Laws.{Width, width-is}
 
 -- a call whose depth, width and memory have passed
 pub record Sound (d w n : ℕ) : Type 0 where
@@ -32,25 +28,6 @@ unfolding size
 sound-call d w n e =
     let s = shape-good d w n e in
     record { deep = s .0; depth = s .1 .1; width = width-is w (s .1 .0); long = s .1 .2 }
-
--- an image's length, and an image as the code puts it
-pub image-length : (d w : ℕ) (memory : List ℕ) → length (image d w memory) ≡ length (rowsWords d w memory) + 2
-unfolding image body
-image-length d w memory = rw (length-append (rowsWords d w memory) (endWord (suc (length (rowsWords d w memory))) ∷ [])) (omega arith)
-
-pub image-put : (d w : ℕ) (memory words : List ℕ) (h e n : ℕ) → length (image d w memory) ≤ length words → h ≡ word headKind (headPayload d w)
-    → n ≡ 1 + length (rowsWords d w memory) → e ≡ endWord n
-    → set (sets (set words 0 h) 1 (rowsWords d w memory)) n e ≡ image d w memory ++ drop (length (image d w memory)) words
-unfolding image body
-image-put d w memory words h e n k eh en ee =
-    let r = rowsWords d w memory in
-    let q : n ≡ suc (length r) = en ∙ omega arith in
-    let x : e ≡ endWord (suc (length r)) = ee ∙ ap endWord q in
-    let v = word headKind (headPayload d w) ∷ (r ++ endWord (suc (length r)) ∷ []) in
-    rw (en, x, eh)
-    (sym (sets-append (set words 0 (word headKind (headPayload d w))) 1 r (endWord (suc (length r)) ∷ []))
-    ∙ sets-eq v words 0 (omega (arith, k))
-    ∙ ap (λ (i : ℕ). v ++ drop i words) (zero-add (length v)))
 
 module _ (d w : ℕ) (memory words : List ℕ) where
   pub write-call : (s : ℕ) → s ≡ badShape d w (length memory) → (s ≡ 0 → ⊥) → written d w memory words ≡ record { answer = rejected s; words = words }

@@ -20,9 +20,9 @@ use Rattle.geometry.specs.Geometry.{stride}
 use Rattle.geometry.specs.Rows.{groupAt, withGroup}
 use Rattle.word.specs.declared.Step.{Step}
 use Rattle.word.specs.Word.{go, next, payload, below}
-use Rattle.image.specs.Image.{word, layoutKind, layoutAt, groupWords, groupsWords, fourWords, rowWords, rowsWords}
-use Rattle.image.specs.Write.{allValid, validRows, groupSize}
-use Rattle.image.specs.Read.{mergesAt, checkSlots, checkGroups, checkFour, checkFours, readGroup, readGroups, afterGroups, readFours, afterFours, readRows}
+use Rattle.format.specs.Image.{word, layoutKind, layoutAt, groupWords, groupsWords, fourWords, rowWords, rowsWords}
+use Rattle.format.specs.Write.{allValid, validRows, groupSize}
+use Rattle.format.specs.Read.{mergesAt, checkSlots, checkGroups, checkFour, checkFours, readGroup, readGroups, afterGroups, readFours, afterFours, readRows}
 use Rattle.word.proofs.Laws.{both}
 use Rattle.image.proofs.Rows.{with-length, with-before, with-counts, with-merge, with-after, merges-from}
 use Rattle.image.proofs.Accepting.{passed, below-is, group-is}

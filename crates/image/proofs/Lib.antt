@@ -1,14 +1,6 @@
-pub mod Laws
-pub mod Sizes
 pub mod Calls
-pub mod Digits
-pub mod Restoring
-pub mod Counters
-pub mod Steps
-pub mod Layouts
 pub mod Rows
 pub mod Accepting
 pub mod Exact
 pub mod Sharp
 pub mod Theorems
-pub mod Plain

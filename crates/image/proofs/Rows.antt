@@ -22,13 +22,14 @@ use Rattle.geometry.specs.Rows.{groupAt, withGroup}
 use Rattle.geometry.proofs.Lists.{bytes-drop, bytes-take}
 use Rattle.word.specs.declared.Step.{Step}
 use Rattle.word.specs.Word.{go, next, payload}
-use Rattle.image.specs.Image.{word, layoutKind, layoutAt, groupWords, groupsWords, fourWords, rowWords, rowsWords}
-use Rattle.image.specs.Write.{allValid, validRows, groupSize}
-use Rattle.image.specs.Read.{mergesAt, checkGroups, checkFour, checkFours, readGroups, afterGroups, readFours, afterFours, readRows}
+use Rattle.format.specs.Image.{word, layoutKind, layoutAt, groupWords, groupsWords, fourWords, rowWords, rowsWords}
+use Rattle.format.specs.Write.{allValid, validRows, groupSize}
+use Rattle.format.specs.Read.{mergesAt, checkGroups, checkFour, checkFours, readGroups, afterGroups, readFours, afterFours, readRows}
 use Rattle.word.proofs.Laws.{both}
-use Rattle.image.proofs.Laws.{layout-lt}
-use Rattle.image.proofs.Digits.{here, payload-here, below-here}
-use Rattle.image.proofs.Restoring.{by-test, group-restored}
+use Rattle.writer.proofs.Laws.{layout-lt}
+use Rattle.reader.proofs.Digits.{here, payload-here, below-here}
+use Rattle.format.proofs.Laws.{by-test}
+use Rattle.reader.proofs.Restoring.{group-restored}
 
 -- a row that is another up to group g
 pub record Same (w g : ℕ) (row source : List ℕ) : Type 0 where

@@ -13,10 +13,10 @@ use Rattle.group.specs.Status.{badPayload}
 use Rattle.group.specs.Pack.{unpacked}
 use Rattle.word.specs.declared.Step.{Step}
 use Rattle.word.specs.Word.{headKind, endKind, go, stop, badWord, next, payload, isDue, tested, below}
-use Rattle.image.specs.Image.{headPayload, layoutKind, countKind, wordsOf, levelAt, isFirst}
-use Rattle.image.specs.Read.{otherMeter, checkHead, checkEnd, checked, firstBits, checkParts, checkSlot, checkSlots, checkGroups, mergesAt, checkFour, checkFours}
+use Rattle.format.specs.Image.{headPayload, layoutKind, countKind, wordsOf, levelAt, isFirst}
+use Rattle.format.specs.Read.{otherMeter, checkHead, checkEnd, checked, firstBits, checkParts, checkSlot, checkSlots, checkGroups, mergesAt, checkFour, checkFours}
 use Rattle.word.proofs.Laws.{both, due-in}
-use Rattle.image.proofs.Restoring.{by-test}
+use Rattle.format.proofs.Laws.{by-test}
 use Rattle.image.proofs.Accepting.{below-is}
 
 -- a test of all words, from position p on, and the same of the words before position q

@@ -18,13 +18,12 @@ use Rattle.geometry.specs.Geometry.{validWidth}
 use Rattle.geometry.specs.Order.{badShape, Done}
 use Rattle.word.specs.declared.Step.{Step}
 use Rattle.word.specs.Word.{headKind, endKind, go, stop, badWord, next, payload, tested, below}
-use Rattle.image.specs.Image.{word, logFrom, logWidth, headPayload, rowsWords, body, endWord, image}
-use Rattle.image.specs.Write.{validRows, written}
-use Rattle.image.specs.Read.{otherMeter, checkHead, checkFours, checkEnd, checked, readRows, taken}
+use Rattle.format.specs.Image.{word, logFrom, logWidth, headPayload, rowsWords, body, endWord, image}
+use Rattle.format.specs.Write.{validRows, written}
+use Rattle.format.specs.Read.{otherMeter, checkHead, checkFours, checkEnd, checked, readRows, taken}
 use Rattle.image.proofs.Calls.{Sound, sound-call, write-done, read-call, read-faulty, read-done}
-use Rattle.image.proofs.Digits.{payload-here, due-here, below-here}
-use Rattle.image.proofs.Laws.{powers-are}
-use Rattle.image.proofs.Restoring.{by-test}
+use Rattle.reader.proofs.Digits.{payload-here, due-here, below-here}
+use Rattle.format.proofs.Laws.{powers-are, by-test}
 use Rattle.image.proofs.Accepting.{passed, tested-is}
 use Rattle.image.proofs.Exact.{rows-are}
 use Rattle.image.proofs.Sharp.{sharp-at}

@@ -1,14 +1,8 @@
 // The image of a meter: 32-bit words that hold its depth, its width, and every counter at its layout.
-mod format;
-mod reader;
-mod tables;
-mod width;
-mod writer;
-
 use group::Answer;
 ghost use mathlib.Core.Path.{_≡_};
-ghost use Rattle.image.specs.Write.{written};
-ghost use Rattle.image.specs.Read.{taken};
+ghost use Rattle.format.specs.Write.{written};
+ghost use Rattle.format.specs.Read.{taken};
 
 // Fills `words` with the image of a meter.
 pub fn write(d: usize, w: usize, memory: &[u8], words: &mut [u32]) -> Answer
@@ -23,12 +17,12 @@ pub fn write(d: usize, w: usize, memory: &[u8], words: &mut [u32]) -> Answer
         return rejected(group::INVALID_MERGE, 0);
     }
     let n = writer::table_size(memory, w);
-    let sizes = tables::size_table(n);
+    let sizes = format::size_table(n);
     let count = writer::rows_size(memory, d, w, &sizes[0..n]) + 2;
     if words.len() < count {
         return rejected(format::TOO_FEW_WORDS, 0);
     }
-    let codes = tables::code_table(n);
+    let codes = format::code_table(n);
     writer::put_image(words, memory, d, w, &codes[0..n]);
     accepted(count)
 }

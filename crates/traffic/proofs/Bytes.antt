@@ -21,7 +21,7 @@ use Rattle.geometry.specs.Geometry.{validWidth, stride, size}
 use Rattle.geometry.specs.Rows.{ofGroups, groupAt}
 use Rattle.geometry.proofs.Widths.{wide, stride-is}
 use Rattle.meter.specs.Meter.{rowOf}
-use Rattle.image.specs.Write.{allValid, validRows}
+use Rattle.format.specs.Write.{allValid, validRows}
 use Rattle.traffic.specs.Traffic.{Pair, blockTotal}
 use Rattle.traffic.specs.Canon.{canon, Holds, byteIn, byteAt, memoryOf}
 

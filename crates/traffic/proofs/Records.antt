@@ -15,7 +15,7 @@ use Rattle.feed.specs.declared.Recorded.the-variants as case
 use Rattle.feed.specs.Answers.{recordAnswer}
 use Rattle.feed.specs.Words.{updateKind, queryKind, opensKey, opened, keyOf, amountOf, updateStep, queryStep, bodyOf, updateBody, queryBody}
 use Rattle.feed.specs.Record.{Carried, outcomeOf, carriedUpdate, queried, carried, carriedAfter, recorded}
-use Rattle.image.proofs.Restoring.{by-test}
+use Rattle.format.proofs.Laws.{by-test}
 
 module _ (d w : ℕ) (memory : List ℕ) (before : ℕ) (words : List ℕ) where
   abbrev key : List ℕ

@@ -10,7 +10,7 @@ use lib.ListN.{length}
 use Rattle.geometry.specs.Order.{badShape, Done, finish}
 use Rattle.meter.specs.Meter.{cleared, updated, united}
 use Rattle.meter.proofs.Memory.{status-is}
-use Rattle.image.specs.Read.{checked, taken}
+use Rattle.format.specs.Read.{checked, taken}
 use Rattle.image.proofs.Calls.{read-call, read-faulty, read-done}
 use Rattle.word.specs.Word.{payload}
 use Rattle.feed.specs.declared.Recorded.the-variants as case

@@ -13,9 +13,9 @@ use Rattle.geometry.specs.Geometry.{validDepth, validWidth, size}
 use Rattle.geometry.specs.Order.{badKey}
 use Rattle.meter.specs.Meter.{cleared, updated, estimated}
 use Rattle.meter.proofs.Calls.{cleared-good, call-key, estimated-bad}
-use Rattle.image.specs.Image.{image}
-use Rattle.image.specs.Write.{written}
-use Rattle.image.specs.Read.{taken}
+use Rattle.format.specs.Image.{image}
+use Rattle.format.specs.Write.{written}
+use Rattle.format.specs.Read.{taken}
 use Rattle.image.proofs.Calls.{write-done}
 use Rattle.image.proofs.Theorems.{restored}
 use Rattle.word.specs.Word.{payload, isDue}

@@ -9,9 +9,9 @@ use Rattle.geometry.specs.Geometry.{size}
 use Rattle.geometry.specs.Order.{Done}
 use Rattle.meter.specs.Meter.{cleared, updated, estimated, united}
 use Rattle.meter.specs.Meter as meter
-use Rattle.image.specs.Image.{image}
-use Rattle.image.specs.Write.{written}
-use Rattle.image.specs.Read.{taken}
+use Rattle.format.specs.Image.{image}
+use Rattle.format.specs.Write.{written}
+use Rattle.format.specs.Read.{taken}
 use Rattle.word.specs.Word.{payload, isDue}
 use Rattle.feed.specs.Answers.{recordAnswer}
 use Rattle.feed.specs.Words.{updateKind, keyOf, amountOf}

@@ -3,14 +3,15 @@ use Prim.Native.Nat.{_+_, _≤_}
 use native.Mathlib.Omega.{arith}
 use borrow.Author.Tests.{not-true, not-false}
 use lib.ListN.{length}
-use Rattle.image.proofs.Calls.{image-length, write-call, write-invalid, write-short, write-done}
+use Rattle.writer.proofs.Laws.{image-length}
+use Rattle.image.proofs.Calls.{write-call, write-invalid, write-short, write-done}
 use Rattle.group.specs.Status.{accepted}
-use Rattle.image.specs.Image.{image}
-use Rattle.image.specs.Write.{groupSize, Written}
+use Rattle.format.specs.Image.{image}
+use Rattle.format.specs.Write.{groupSize, Written}
 use Rattle.geometry.specs.Geometry.{RowsIn}
 use Rattle.geometry.proofs.Widths.{shape-good, stride-is}
 use Rattle.geometry.proofs.Lists.{one-row}
-use Rattle.image.proofs.Sizes.{table-part, codeOf}
+use Rattle.format.proofs.Sizes.{table-part, codeOf}
 use borrow.Author.Needs.{needs}
 use Rattle.image.proofs.write.Statement.{statement}
 use Rattle.image.proofs.write.Tie as tie

@@ -1,0 +1,6 @@
+pub mod Laws
+pub mod Digits
+pub mod Restoring
+pub mod Steps
+pub mod Layouts
+pub mod Plain
