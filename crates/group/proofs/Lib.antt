@@ -1,4 +1,3 @@
-pub mod Bytes
 pub mod Laws
 pub mod Tables
 pub mod Places

@@ -11,7 +11,7 @@ ghost use Rattle.block.specs.Block as block_spec;
 ghost use Rattle.block.specs.Change as change_spec;
 ghost use Rattle.block.specs.Sum.{summed};
 ghost use Rattle.block.specs.Sum as sum_spec;
-ghost use Rattle.group.specs.Group.{number, bytes, read, stored, added, united, widestOf, changed};
+ghost use Rattle.group.specs.Group.{read, stored, added, united, widestOf, changed};
 ghost use Rattle.group.specs.Group as spec;
 ghost use Rattle.group.specs.Status as status_spec;
 ghost use Rattle.group.specs.Pack.{groupCode, packed, unpacked};
@@ -73,47 +73,6 @@ fn rejected(status: u8) -> Answer
         position: 0,
         value: 0,
     }
-}
-
-// Eight bytes as one number, the first least significant.
-fn eight(a: u8, b: u8, c: u8, d: u8, e: u8, f: u8, g: u8, h: u8) -> u64
-    ensures { λ r. ⌜ r ≡ a + 256 * (b + 256 * (c + 256 * (d + 256 * (e + 256 * (f + 256 * (g + 256 * h)))))) ⌝ }
-{
-    let low = a as u64 + b as u64 * 256 + c as u64 * 65536 + d as u64 * 16777216;
-    let middle = e as u64 * 4294967296 + f as u64 * 1099511627776;
-    low + middle + g as u64 * 281474976710656 + h as u64 * 72057594037927936
-}
-
-// The count bytes as one number, the lowest slot least significant.
-pub fn number_of(counts: [u8; 8]) -> u64
-    ensures { λ r. ⌜ r ≡ number counts ⌝ }
-{
-    eight(
-        counts[0],
-        counts[1],
-        counts[2],
-        counts[3],
-        counts[4],
-        counts[5],
-        counts[6],
-        counts[7],
-    )
-}
-
-// The eight bytes of a number, the lowest first.
-pub fn bytes_of(number: u64) -> [u8; 8]
-    ensures { λ r. ⌜ r ≡ bytes 8 number ⌝ }
-{
-    [
-        (number % 256) as u8,
-        (number / 256 % 256) as u8,
-        (number / 65536 % 256) as u8,
-        (number / 16777216 % 256) as u8,
-        (number / 4294967296 % 256) as u8,
-        (number / 1099511627776 % 256) as u8,
-        (number / 281474976710656 % 256) as u8,
-        (number / 72057594037927936 % 256) as u8,
-    ]
 }
 
 // Whether a merge byte is one of the 26 valid ones: its bits 0 to 4 and its bits 3 to 7 are each such as a valid one has. The masks
@@ -183,7 +142,7 @@ pub fn counter(g: Group, slot: usize) -> Reading
     let at = place(level, slot % 8);
     Reading {
         status: 0,
-        value: value_at(number_of(counts), level, at),
+        value: value_at(bytes::number_of(counts), level, at),
         level,
     }
 }
@@ -195,7 +154,7 @@ fn settled(s: Summed) -> Outcome
     Outcome {
         status: 0,
         group: Group {
-            counts: bytes_of(s.word),
+            counts: bytes::bytes_of(s.word),
             merge: s.merge,
         },
     }
@@ -284,7 +243,7 @@ pub fn add(g: Group, slot: usize, amount: u32) -> Outcome
     if !is_valid(g.merge) {
         return unchanged(INVALID_MERGE, g);
     }
-    let word = number_of(counts);
+    let word = bytes::number_of(counts);
     let k = slot % 8;
     let level = level_at(g.merge, k);
     let at = place(level, k);
@@ -329,8 +288,8 @@ pub fn unite_status(target: Group, source: Group) -> u8
     if !is_valid(source.merge) {
         return INVALID_MERGE;
     }
-    let target_word = number_of(target_counts);
-    let source_word = number_of(source_counts);
+    let target_word = bytes::number_of(target_counts);
+    let source_word = bytes::number_of(source_counts);
     if !sum_fits(target_word, target.merge, source_word, source.merge) {
         return COUNTER_FULL;
     }
@@ -347,8 +306,8 @@ pub fn unite(target: Group, source: Group) -> Outcome
     if status != 0 {
         return unchanged(status, target);
     }
-    let word = number_of(target_counts);
-    let source_word = number_of(source_counts);
+    let word = bytes::number_of(target_counts);
+    let source_word = bytes::number_of(source_counts);
     settled(block::unite(3, word, target.merge, source_word, source.merge))
 }
 
@@ -445,11 +404,11 @@ pub fn change(g: Group, slot: usize, value: u64) -> Outcome
     if !is_valid(g.merge) {
         return unchanged(INVALID_MERGE, g);
     }
-    let word = with_value(number_of(counts), g.merge, slot % 8, value);
+    let word = with_value(bytes::number_of(counts), g.merge, slot % 8, value);
     Outcome {
         status: 0,
         group: Group {
-            counts: bytes_of(word),
+            counts: bytes::bytes_of(word),
             merge: g.merge,
         },
     }

@@ -13,6 +13,7 @@ use lib.Dec.{eqb, ltb}
 use lib.ListN.{length, getD, take, drop, set, length-append, drop-of-length-le, take-append-drop}
 use lib.Pow.{pow-mono, pow-pos}
 use lib.Seq.{sets, drop-cons, drop-drop, length-take-le, take-at, drop-at}
+use Rattle.bytes.specs.Bytes.{bytes}
 use Rattle.layout.specs.Layout.{valid}
 use Rattle.layout.proofs.Laws.{or-cases}
 use Rattle.block.specs.Block.{word as block-word, counterAt}
@@ -20,7 +21,7 @@ use Rattle.block.specs.Change.{change}
 use Rattle.block.proofs.Slots.{level-le}
 use Rattle.group.specs.declared.Group.{Group}
 use Rattle.group.specs.declared.Reading.{Reading}
-use Rattle.group.specs.Group.{read, reading, bytes, decode, changed, unchanged}
+use Rattle.group.specs.Group.{read, reading, decode, changed, unchanged}
 use Rattle.geometry.specs.Geometry.{oneOfPowers, validWidth, stride}
 use Rattle.geometry.specs.Rows.{groupAt, withGroup}
 use Rattle.group.specs.Status.{invalidMerge, accepted, rejected}

@@ -9,12 +9,13 @@ use native.Mathlib.Omega.{arith}
 use lib.ListN.{length, getD, take, drop, set, replicate, length-append, length-drop, length-map}
 use lib.Bits.{bitOr, bitXor, or-add-and, xor-add-and, xor-shr, and-le-l, and-le-r}
 use lib.Seq.{sets, sets-eq, drop-cons, getD-drop, take-add, drop-drop, length-take-le}
+use Rattle.bytes.specs.Bytes.{number, bytes}
+use Rattle.bytes.proofs.Bytes.{Bytes, bytes-number}
 use Rattle.geometry.specs.Rows.{groupAt, withGroup}
 use Rattle.layout.specs.Layout.{layout, valid, bit, ones, marks}
 use Rattle.block.specs.Block.{cap, block, fill, counterAt}
-use Rattle.group.specs.Group.{number, bytes, decode, read, reading}
+use Rattle.group.specs.Group.{decode, read, reading}
 use Rattle.group.proofs.Laws.{Eight, number-in}
-use Rattle.group.proofs.Bytes.{Bytes, bytes-number}
 use Rattle.group.specs.Pack.{fourCode, packed, fourMerges, unpacked}
 use Rattle.layout.specs.Code.{layouts, mergedCode, code, uncode}
 use Rattle.image.specs.Image.{word, layoutKind, countKind, parts, wordsOf, levelAt, isFirst, slotWords, slotsWords, groupWords, groupsWords, layoutAt, fourWords}
