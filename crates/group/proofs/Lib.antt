@@ -3,6 +3,4 @@ pub mod Tables
 pub mod Places
 pub mod Widening
 pub mod Outcomes
-pub mod Packing
-pub mod Cases
 pub mod Changing

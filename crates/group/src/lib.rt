@@ -1,7 +1,7 @@
 // A group of eight slots: its counters, its merge byte and its layout code.
 use block::Summed;
 ghost use mathlib.Core.Path.{_≡_};
-ghost use mathlib.Core.Bool.{true, false, _&&_};
+ghost use mathlib.Core.Bool.{true, false};
 ghost use Prim.Native.Nat.{ℕ, _+_, _-_, _*_, _/_, _%_, _^_, _<_, _≤_};
 ghost use lib.Dec.{ltb};
 ghost use Rattle.layout.specs.Layout.{layout, valid};
@@ -14,7 +14,6 @@ ghost use Rattle.block.specs.Sum as sum_spec;
 ghost use Rattle.group.specs.Group.{read, stored, added, united, widestOf, changed};
 ghost use Rattle.group.specs.Group as spec;
 ghost use Rattle.group.specs.Status as status_spec;
-ghost use Rattle.group.specs.Pack.{groupCode, packed, unpacked};
 
 // Document 01's numbers of rejected calls.
 pub const INVALID_MERGE: u8 = 5;
@@ -49,13 +48,7 @@ pub struct Outcome {
     pub group: Group,
 }
 
-// The merge bytes of four groups; all 0 if rejected.
-pub struct Unpacked {
-    pub answer: Answer,
-    pub merges: [u8; 4],
-}
-
-fn accepted(value: u64) -> Answer
+pub fn accepted(value: u64) -> Answer
     ensures { λ r. ⌜ r ≡ status_spec.accepted value ⌝ }
 {
     Answer {
@@ -65,7 +58,7 @@ fn accepted(value: u64) -> Answer
     }
 }
 
-fn rejected(status: u8) -> Answer
+pub fn rejected(status: u8) -> Answer
     ensures { λ r. ⌜ r ≡ status_spec.rejected status ⌝ }
 {
     Answer {
@@ -330,60 +323,6 @@ pub fn widest(merge: u8) -> Answer
         return rejected(INVALID_MERGE);
     }
     accepted(widest_level(merge) as u64)
-}
-
-// The layout code of a group.
-pub fn code(merge: u8) -> Answer
-    ensures { λ r. ⌜ r ≡ groupCode merge ⌝ }
-{
-    if !is_valid(merge) {
-        return rejected(INVALID_MERGE);
-    }
-    accepted(layout::code(3, merge) as u64)
-}
-
-fn four_valid(a: u8, b: u8, c: u8, d: u8) -> bool
-    ensures { λ r. ⌜ r ≡ (valid 3 a && valid 3 b && valid 3 c && valid 3 d) ⌝ }
-{
-    if is_valid(a) {
-        if is_valid(b) {
-            if is_valid(c) {
-                return is_valid(d);
-            }
-        }
-    }
-    false
-}
-
-// The layout code of four groups in a row.
-pub fn pack(a: u8, b: u8, c: u8, d: u8) -> Answer
-    ensures { λ r. ⌜ r ≡ packed a b c d ⌝ }
-{
-    if !four_valid(a, b, c, d) {
-        return rejected(INVALID_MERGE);
-    }
-    let high = layout::code(3, a) * 17576 + layout::code(3, b) * 676;
-    accepted((high + layout::code(3, c) * 26 + layout::code(3, d)) as u64)
-}
-
-// The merge bytes of the four groups that a layout code stands for.
-pub fn unpack(code: u32) -> Unpacked
-    ensures { λ r. ⌜ r ≡ unpacked code ⌝ }
-{
-    if 456976 <= code {
-        return Unpacked {
-            answer: rejected(BAD_PAYLOAD),
-            merges: [0; 4],
-        };
-    }
-    let a = layout::unpack(3, code / 17576);
-    let b = layout::unpack(3, code / 676 % 26);
-    let c = layout::unpack(3, code / 26 % 26);
-    let d = layout::unpack(3, code % 26);
-    Unpacked {
-        answer: accepted(0),
-        merges: [a, b, c, d],
-    }
 }
 
 // The count bytes, taken as one number, with another value in the counter that a slot is in.

@@ -25,8 +25,8 @@ use Rattle.group.specs.Group.{read, reading, decode, changed, unchanged}
 use Rattle.geometry.specs.Geometry.{oneOfPowers, validWidth, stride}
 use Rattle.geometry.specs.Rows.{groupAt, withGroup}
 use Rattle.group.specs.Status.{invalidMerge, accepted, rejected}
-use Rattle.group.specs.Pack.{fourCode, packed}
-use Rattle.group.proofs.Packing.{four-below}
+use Rattle.codes.specs.Pack.{fourCode, packed}
+use Rattle.codes.proofs.Packing.{four-below}
 use Rattle.word.specs.Word.{next, below, payload}
 use Rattle.image.specs.Image.{word, countKind, logFrom, parts, wordsOf, levelAt, isFirst, slotWords, slotsWords, groupWords, groupsWords, fourWords, rowWords, rowsWords, layoutAt}
 use Rattle.image.specs.Write.{allValid, validRows, slotSize, slotsSize, groupSize}

@@ -16,7 +16,7 @@ use Rattle.layout.specs.Layout.{layout, valid, bit, ones, marks}
 use Rattle.block.specs.Block.{cap, block, fill, counterAt}
 use Rattle.group.specs.Group.{decode, read, reading}
 use Rattle.group.proofs.Laws.{Eight, number-in}
-use Rattle.group.specs.Pack.{fourCode, packed, fourMerges, unpacked}
+use Rattle.codes.specs.Pack.{fourCode, packed, fourMerges, unpacked}
 use Rattle.layout.specs.Code.{layouts, mergedCode, code, uncode}
 use Rattle.image.specs.Image.{word, layoutKind, countKind, parts, wordsOf, levelAt, isFirst, slotWords, slotsWords, groupWords, groupsWords, layoutAt, fourWords}
 use Rattle.image.specs.Write.{allValid, slotSize, slotsSize, groupSize}

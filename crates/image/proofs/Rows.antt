@@ -13,9 +13,9 @@ use lib.Seq.{getD-take, getD-drop, getD-append-add, getD-set-same, getD-set-othe
 use Rattle.bytes.proofs.Bytes.{Bytes}
 use Rattle.layout.specs.Layout.{valid}
 use Rattle.group.specs.declared.Group.{Group}
-use Rattle.group.specs.declared.Unpacked.{Unpacked}
-use Rattle.group.specs.Pack.{fourCode, packed, unpacked}
-use Rattle.group.proofs.Packing.{unpack-pack}
+use Rattle.codes.specs.declared.Unpacked.{Unpacked}
+use Rattle.codes.specs.Pack.{fourCode, packed, unpacked}
+use Rattle.codes.proofs.Packing.{unpack-pack}
 use Rattle.group.proofs.Changing.{Good}
 use Rattle.geometry.specs.Geometry.{stride}
 use Rattle.geometry.specs.Rows.{groupAt, withGroup}

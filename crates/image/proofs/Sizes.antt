@@ -16,9 +16,9 @@ use Rattle.block.proofs.Slots.{levelOf, level-is}
 use Rattle.group.specs.declared.Group.{Group}
 use Rattle.group.specs.Group.{decode, read, reading}
 use Rattle.group.specs.Status.{invalidMerge, accepted, rejected}
-use Rattle.group.specs.Pack.{mergeCode, fourCode, packed}
+use Rattle.codes.specs.Pack.{mergeCode, fourCode, packed}
 use Rattle.group.proofs.Changing.{shape-decode}
-use Rattle.group.proofs.Packing.{code-below}
+use Rattle.codes.proofs.Packing.{code-below}
 use Rattle.image.specs.Image.{wordsOf, levelAt, isFirst}
 use Rattle.image.specs.Write.{slotSize, slotsSize, groupSize}
 use Rattle.image.proofs.Laws.{one-shl, read-level-le}

@@ -6,7 +6,7 @@ ghost use mathlib.Core.Bool.{cond};
 ghost use Prim.Native.Nat.{ℕ, _<_, _≤_};
 ghost use lib.ListN.{length, getD};
 ghost use Rattle.layout.specs.Layout.{valid};
-ghost use Rattle.group.specs.Pack.{mergeCode};
+ghost use Rattle.codes.specs.Pack.{mergeCode};
 ghost use Rattle.image.specs.Write.{groupSize};
 
 // The number of words of a group's counters, by merge byte.
@@ -40,7 +40,7 @@ fn code_of(merge: u8) -> u8
     if !group::is_valid(merge) {
         return 26;
     }
-    let c = group::code(merge);
+    let c = codes::code(merge);
     c.value as u8
 }
 

@@ -10,7 +10,7 @@ use Rattle.block.specs.Change as changes
 use Rattle.block.specs.Sum as sums
 use Rattle.hash.specs.Hash as hashes
 use Rattle.group.specs.Group as groups
-use Rattle.group.specs.Pack as packs
+use Rattle.codes.specs.Pack as packs
 use Rattle.geometry.specs.Geometry as geometry
 use Rattle.geometry.specs.Order as order
 use Rattle.geometry.specs.Rows as rows
