@@ -14,6 +14,7 @@ use Rattle.codes.specs.Pack as packs
 use Rattle.geometry.specs.Geometry as geometry
 use Rattle.geometry.specs.Order as order
 use Rattle.geometry.specs.Rows as rows
+use Rattle.keys.specs.Keys as keys
 use Rattle.row.specs.Row as row
 use Rattle.meter.specs.Meter as meter
 use Rattle.word.specs.Word as words
@@ -44,7 +45,7 @@ unfolding calls.recordPair calls.traffic calls.after calls.behind calls.run call
     groups.read groups.settle groups.added groups.united groups.widestOf groups.changed packs.fourCode packs.packed packs.fourMerges
     packs.unpacked geometry.validDepth geometry.oneOfPowers geometry.validWidth geometry.stride geometry.size order.firstOf
     order.earlier order.earliest order.answerOf order.finish rows.mapRows rows.ofRows rows.groupAt rows.withGroup rows.ofGroups
-    rows.leastOr rows.least rows.largest row.keySlot row.addedIn row.updateStatus row.updateRow row.readRow row.levelStatus
+    rows.leastOr rows.least rows.largest keys.keySlot row.addedIn row.updateStatus row.updateRow row.readRow row.levelStatus
     row.levelAt row.widestStatus row.widestRow row.unitedAt row.unitedStatus row.uniteStatus row.uniteGroups row.uniteRow
     meter.cleared meter.badCall meter.updated meter.readStatus meter.readValue meter.estimated meter.widest meter.rowOf
     meter.sourceStatus meter.sourceAdded meter.united image.word words.next words.payload words.isDue words.tested words.below
