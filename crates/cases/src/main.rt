@@ -45,7 +45,7 @@ fn outcome(o: group::Outcome) {
     let g = o.group;
     let counts = g.counts;
     decimal(o.status as u64);
-    hex(group::number_of(counts), 16);
+    hex(bytes::number_of(counts), 16);
     byte(g.merge);
     text(b"\n");
 }
@@ -81,7 +81,7 @@ fn answer(a: group::Answer) {
 
 fn code(merge: u8) {
     text(b"code");
-    answer(group::code(merge));
+    answer(codes::code(merge));
 }
 
 fn widest(merge: u8) {
@@ -91,11 +91,11 @@ fn widest(merge: u8) {
 
 fn pack(a: u8, b: u8, c: u8, d: u8) {
     text(b"pack");
-    answer(group::pack(a, b, c, d));
+    answer(codes::pack(a, b, c, d));
 }
 
 fn unpack(code: u32) {
-    let u = group::unpack(code);
+    let u = codes::unpack(code);
     let a = u.answer;
     let m = u.merges;
     text(b"unpack");

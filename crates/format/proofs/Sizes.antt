@@ -15,7 +15,7 @@ use Rattle.block.proofs.Slots.{levelOf, level-is}
 use Rattle.group.specs.declared.Group.{Group}
 use Rattle.group.specs.Group.{decode, read, reading}
 use Rattle.group.specs.Status.{invalidMerge}
-use Rattle.group.specs.Pack.{mergeCode}
+use Rattle.codes.specs.Pack.{mergeCode}
 use Rattle.group.proofs.Changing.{shape-decode}
 use Rattle.format.specs.Image.{wordsOf, levelAt, isFirst}
 use Rattle.format.specs.Write.{slotSize, slotsSize, groupSize}

@@ -6,7 +6,7 @@ use lib.Dec.{eqb, ltb}
 use lib.ListN.{length, take, drop, replicate}
 use Rattle.group.specs.declared.Group.{Group}
 use Rattle.group.specs.Group.{read}
-use Rattle.group.specs.Pack.{packed}
+use Rattle.codes.specs.Pack.{packed}
 use Rattle.geometry.specs.Geometry.{largestLog, stride}
 use Rattle.geometry.specs.Rows.{groupAt}
 use Rattle.word.specs.Word.{headKind, endKind}

@@ -1,3 +1,4 @@
 pub mod Image
 pub mod Write
 pub mod Read
+pub mod Fields

@@ -7,7 +7,7 @@ use lib.ListN.{length, take, drop, replicate}
 use Rattle.group.specs.declared.Group.{Group}
 use Rattle.group.specs.Status.{badPayload, accepted, rejected}
 use Rattle.group.specs.Group.{changed}
-use Rattle.group.specs.Pack.{unpacked}
+use Rattle.codes.specs.Pack.{unpacked}
 use Rattle.geometry.specs.Geometry.{stride}
 use Rattle.geometry.specs.Order.{badShape, Done}
 use Rattle.geometry.specs.Rows.{withGroup}

@@ -5,7 +5,7 @@ ghost use mathlib.Core.Bool.{cond};
 ghost use Prim.Native.Nat.{ℕ, _+_, _*_, _^_, _<_, _≤_};
 ghost use lib.ListN.{length, getD};
 ghost use Rattle.layout.specs.Layout.{valid};
-ghost use Rattle.group.specs.Pack.{mergeCode};
+ghost use Rattle.codes.specs.Pack.{mergeCode};
 ghost use Rattle.format.specs.Image as spec;
 ghost use Rattle.format.specs.Image.{countKind, logWidth, wordsOf, levelAt};
 ghost use Rattle.format.specs.Write.{groupSize};
@@ -139,7 +139,7 @@ fn code_of(merge: u8) -> u8
     if !group::is_valid(merge) {
         return 26;
     }
-    let c = group::code(merge);
+    let c = codes::code(merge);
     c.value as u8
 }
 

@@ -5,6 +5,8 @@ use Prim.Native.Nat.{ℕ, zero, suc, _/_, _%_, _^_, _<_}
 use native.Mathlib.Nat.{mod-eq-of-lt, mod-lt}
 use native.Mathlib.Omega.{arith}
 use lib.ListN.{getD, replicate}
+use Rattle.bytes.specs.Bytes.{number, bytes}
+use Rattle.bytes.proofs.Bytes.{number-bytes, bytes-length}
 use Rattle.layout.specs.Layout.{layout, valid}
 use Rattle.block.specs.Block.{Block, cap, Fits, shape, word, block, counterAt}
 use Rattle.block.specs.Change.{change}
@@ -12,8 +14,7 @@ use Rattle.block.proofs.Laws.{word-lt, shape-fill, fill-word, block-fits}
 use Rattle.block.proofs.Changing.{change-fits, change-shape}
 use Rattle.block.proofs.Slots.{change-at, change-before, counters-ext}
 use Rattle.group.specs.declared.Group.{Group}
-use Rattle.group.specs.Group.{number, bytes, decode, encode, read, reading, changed}
-use Rattle.group.proofs.Bytes.{number-bytes, bytes-length}
+use Rattle.group.specs.Group.{decode, encode, read, reading, changed}
 use Rattle.group.proofs.Laws.{Eight, number-in, encode-decode}
 
 -- a valid group of eight bytes

@@ -6,6 +6,8 @@ use mathlib.Core.List.{List}
 use native.Mathlib.Decide.{decLt}
 use native.Mathlib.Omega.{arith}
 use lib.ListN.{length}
+use Rattle.bytes.specs.Bytes.{number}
+use Rattle.bytes.proofs.Bytes.{Bytes, number-lt, number-bytes, bytes-number}
 use Rattle.layout.specs.Layout.{valid}
 use Rattle.layout.proofs.Laws.{valid-marks}
 use Rattle.block.specs.Block.{Block, cap, Fits, shape, word, block, total}
@@ -14,9 +16,8 @@ use Rattle.block.proofs.Laws.{word-lt, word-block, marks-block, block-is, block
 use Rattle.block.proofs.Adding.{add-total, add-sound, unite-total, unite-sound}
 use Rattle.group.specs.declared.Group.{Group}
 use Rattle.group.specs.declared.Outcome.{Outcome}
-use Rattle.group.specs.Group.{number, decode, encode, stored, settle, unchanged, added, united}
+use Rattle.group.specs.Group.{decode, encode, stored, settle, unchanged, added, united}
 use Rattle.group.specs.Status.{invalidMerge, counterFull}
-use Rattle.group.proofs.Bytes.{Bytes, number-lt, number-bytes, bytes-number}
 
 -- a counter of level 3 holds 64 bits
 pub cap-three : cap 3 ≡ 2 ^ 64

@@ -1,9 +1,6 @@
-pub mod Bytes
 pub mod Laws
 pub mod Tables
 pub mod Places
 pub mod Widening
 pub mod Outcomes
-pub mod Packing
-pub mod Cases
 pub mod Changing

@@ -4,13 +4,13 @@ use mathlib.Core.Bool.{Bool, true, false, cond, _&&_}
 use Prim.Native.Nat.{ℕ, _%_}
 use native.Mathlib.Omega.{arith}
 use lib.ListN.{length}
+use Rattle.bytes.proofs.Bytes.{bytes-length}
 use Rattle.layout.specs.Layout.{valid}
 use Rattle.block.specs.Block.{word}
 use Rattle.block.specs.Sum.{Sum, fits, over, add, unite}
 use Rattle.group.specs.declared.Group.{Group}
 use Rattle.group.specs.Status.{invalidMerge}
 use Rattle.group.specs.Group.{decode, encode, settle, unchanged, added, united}
-use Rattle.group.proofs.Bytes.{bytes-length}
 use Rattle.group.proofs.Laws.{encode-valid}
 
 settle-eight : (g : Group) (x : Sum 3) → length (g .counts) ≡ 8 → length (settle g x .group .counts) ≡ 8

@@ -9,6 +9,7 @@ use borrow.Author.Tests.{ne-eqb, lt-ltb, le-ltb, le-leb, lt-leb}
 use lib.Dec.{leb, ltb}
 use lib.Bits.{bitAnd, bitOr, and-mask, or-shr, or-step}
 use lib.Pow.{pow-pos, pow-mono, ones-lt, ones-split, high}
+use Rattle.bytes.specs.Bytes.{number}
 use Rattle.layout.specs.Layout.{bit, isMerged, layout, valid}
 use Rattle.layout.proofs.Laws.{own-bit}
 use Rattle.block.specs.Block.{cap, word, block, counterAt, total}
@@ -20,7 +21,7 @@ use Rattle.block.proofs.Changing.{change-fits}
 use Rattle.block.proofs.Slots.{whole-total, halves-total, halves-sum}
 use Rattle.block.proofs.Places.{first, first-is, value-is, InPlace, add-in-place, change-word}
 use Rattle.group.specs.declared.Group.{Group}
-use Rattle.group.specs.Group.{number, decode, encode, stored, settle, added}
+use Rattle.group.specs.Group.{decode, encode, stored, settle, added}
 
 -- the bits of a counter of a level, and the largest value in them
 pub width-le : (n : ℕ) → n ≤ 3 → (1 ≤ 8 * 2 ^ n) × (8 * 2 ^ n ≤ 64)

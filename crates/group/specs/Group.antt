@@ -1,7 +1,7 @@
 -- A group's calls. Document 01, 'Rows, groups and blocks' and 'Updating, asking, uniting'.
-use Prim.Native.Nat.{ℕ, zero, suc, _+_, _*_, _/_, _%_}
+use Prim.Native.Nat.{ℕ, _%_}
 use mathlib.Core.Bool.{cond, _&&_}
-use mathlib.Core.List.{List, [], _∷_}
+use Rattle.bytes.specs.Bytes.{number, bytes}
 use Rattle.layout.specs.Layout.{marks, layout, valid}
 use Rattle.layout.specs.Layout as layout-spec
 use Rattle.block.specs.declared.Counter.{Counter}
@@ -15,16 +15,6 @@ use Rattle.group.specs.declared.Group.{Group}
 use Rattle.group.specs.declared.Reading.{Reading}
 use Rattle.group.specs.declared.Outcome.{Outcome}
 use Rattle.group.specs.Status.{invalidMerge, counterFull, accepted, rejected}
-
--- count bytes as one number, the lowest slot least significant
-unfoldable pub number : List ℕ → ℕ
-number [] = 0
-number (b ∷ bs) = b + 256 * number bs
-
--- the n bytes of a number, the lowest first
-unfoldable pub bytes : ℕ → ℕ → List ℕ
-bytes zero v = []
-bytes (suc n) v = v % 256 ∷ bytes n (v / 256)
 
 -- the block of level 3 that a group stands for, and the group of such a block
 unfoldable pub decode : Group → Block 3

@@ -1,4 +1,2 @@
 pub mod Status
 pub mod Group
-pub mod Pack
-pub mod Cases

@@ -1,7 +1,7 @@
 // A group of eight slots: its counters, its merge byte and its layout code.
 use block::Summed;
 ghost use mathlib.Core.Path.{_≡_};
-ghost use mathlib.Core.Bool.{true, false, _&&_};
+ghost use mathlib.Core.Bool.{true, false};
 ghost use Prim.Native.Nat.{ℕ, _+_, _-_, _*_, _/_, _%_, _^_, _<_, _≤_};
 ghost use lib.Dec.{ltb};
 ghost use Rattle.layout.specs.Layout.{layout, valid};
@@ -11,10 +11,9 @@ ghost use Rattle.block.specs.Block as block_spec;
 ghost use Rattle.block.specs.Change as change_spec;
 ghost use Rattle.block.specs.Sum.{summed};
 ghost use Rattle.block.specs.Sum as sum_spec;
-ghost use Rattle.group.specs.Group.{number, bytes, read, stored, added, united, widestOf, changed};
+ghost use Rattle.group.specs.Group.{read, stored, added, united, widestOf, changed};
 ghost use Rattle.group.specs.Group as spec;
 ghost use Rattle.group.specs.Status as status_spec;
-ghost use Rattle.group.specs.Pack.{groupCode, packed, unpacked};
 
 // Document 01's numbers of rejected calls.
 pub const INVALID_MERGE: u8 = 5;
@@ -49,13 +48,7 @@ pub struct Outcome {
     pub group: Group,
 }
 
-// The merge bytes of four groups; all 0 if rejected.
-pub struct Unpacked {
-    pub answer: Answer,
-    pub merges: [u8; 4],
-}
-
-fn accepted(value: u64) -> Answer
+pub fn accepted(value: u64) -> Answer
     ensures { λ r. ⌜ r ≡ status_spec.accepted value ⌝ }
 {
     Answer {
@@ -65,7 +58,7 @@ fn accepted(value: u64) -> Answer
     }
 }
 
-fn rejected(status: u8) -> Answer
+pub fn rejected(status: u8) -> Answer
     ensures { λ r. ⌜ r ≡ status_spec.rejected status ⌝ }
 {
     Answer {
@@ -73,47 +66,6 @@ fn rejected(status: u8) -> Answer
         position: 0,
         value: 0,
     }
-}
-
-// Eight bytes as one number, the first least significant.
-fn eight(a: u8, b: u8, c: u8, d: u8, e: u8, f: u8, g: u8, h: u8) -> u64
-    ensures { λ r. ⌜ r ≡ a + 256 * (b + 256 * (c + 256 * (d + 256 * (e + 256 * (f + 256 * (g + 256 * h)))))) ⌝ }
-{
-    let low = a as u64 + b as u64 * 256 + c as u64 * 65536 + d as u64 * 16777216;
-    let middle = e as u64 * 4294967296 + f as u64 * 1099511627776;
-    low + middle + g as u64 * 281474976710656 + h as u64 * 72057594037927936
-}
-
-// The count bytes as one number, the lowest slot least significant.
-pub fn number_of(counts: [u8; 8]) -> u64
-    ensures { λ r. ⌜ r ≡ number counts ⌝ }
-{
-    eight(
-        counts[0],
-        counts[1],
-        counts[2],
-        counts[3],
-        counts[4],
-        counts[5],
-        counts[6],
-        counts[7],
-    )
-}
-
-// The eight bytes of a number, the lowest first.
-pub fn bytes_of(number: u64) -> [u8; 8]
-    ensures { λ r. ⌜ r ≡ bytes 8 number ⌝ }
-{
-    [
-        (number % 256) as u8,
-        (number / 256 % 256) as u8,
-        (number / 65536 % 256) as u8,
-        (number / 16777216 % 256) as u8,
-        (number / 4294967296 % 256) as u8,
-        (number / 1099511627776 % 256) as u8,
-        (number / 281474976710656 % 256) as u8,
-        (number / 72057594037927936 % 256) as u8,
-    ]
 }
 
 // Whether a merge byte is one of the 26 valid ones: its bits 0 to 4 and its bits 3 to 7 are each such as a valid one has. The masks
@@ -183,7 +135,7 @@ pub fn counter(g: Group, slot: usize) -> Reading
     let at = place(level, slot % 8);
     Reading {
         status: 0,
-        value: value_at(number_of(counts), level, at),
+        value: value_at(bytes::number_of(counts), level, at),
         level,
     }
 }
@@ -195,7 +147,7 @@ fn settled(s: Summed) -> Outcome
     Outcome {
         status: 0,
         group: Group {
-            counts: bytes_of(s.word),
+            counts: bytes::bytes_of(s.word),
             merge: s.merge,
         },
     }
@@ -284,7 +236,7 @@ pub fn add(g: Group, slot: usize, amount: u32) -> Outcome
     if !is_valid(g.merge) {
         return unchanged(INVALID_MERGE, g);
     }
-    let word = number_of(counts);
+    let word = bytes::number_of(counts);
     let k = slot % 8;
     let level = level_at(g.merge, k);
     let at = place(level, k);
@@ -329,8 +281,8 @@ pub fn unite_status(target: Group, source: Group) -> u8
     if !is_valid(source.merge) {
         return INVALID_MERGE;
     }
-    let target_word = number_of(target_counts);
-    let source_word = number_of(source_counts);
+    let target_word = bytes::number_of(target_counts);
+    let source_word = bytes::number_of(source_counts);
     if !sum_fits(target_word, target.merge, source_word, source.merge) {
         return COUNTER_FULL;
     }
@@ -347,8 +299,8 @@ pub fn unite(target: Group, source: Group) -> Outcome
     if status != 0 {
         return unchanged(status, target);
     }
-    let word = number_of(target_counts);
-    let source_word = number_of(source_counts);
+    let word = bytes::number_of(target_counts);
+    let source_word = bytes::number_of(source_counts);
     settled(block::unite(3, word, target.merge, source_word, source.merge))
 }
 
@@ -373,60 +325,6 @@ pub fn widest(merge: u8) -> Answer
     accepted(widest_level(merge) as u64)
 }
 
-// The layout code of a group.
-pub fn code(merge: u8) -> Answer
-    ensures { λ r. ⌜ r ≡ groupCode merge ⌝ }
-{
-    if !is_valid(merge) {
-        return rejected(INVALID_MERGE);
-    }
-    accepted(layout::code(3, merge) as u64)
-}
-
-fn four_valid(a: u8, b: u8, c: u8, d: u8) -> bool
-    ensures { λ r. ⌜ r ≡ (valid 3 a && valid 3 b && valid 3 c && valid 3 d) ⌝ }
-{
-    if is_valid(a) {
-        if is_valid(b) {
-            if is_valid(c) {
-                return is_valid(d);
-            }
-        }
-    }
-    false
-}
-
-// The layout code of four groups in a row.
-pub fn pack(a: u8, b: u8, c: u8, d: u8) -> Answer
-    ensures { λ r. ⌜ r ≡ packed a b c d ⌝ }
-{
-    if !four_valid(a, b, c, d) {
-        return rejected(INVALID_MERGE);
-    }
-    let high = layout::code(3, a) * 17576 + layout::code(3, b) * 676;
-    accepted((high + layout::code(3, c) * 26 + layout::code(3, d)) as u64)
-}
-
-// The merge bytes of the four groups that a layout code stands for.
-pub fn unpack(code: u32) -> Unpacked
-    ensures { λ r. ⌜ r ≡ unpacked code ⌝ }
-{
-    if 456976 <= code {
-        return Unpacked {
-            answer: rejected(BAD_PAYLOAD),
-            merges: [0; 4],
-        };
-    }
-    let a = layout::unpack(3, code / 17576);
-    let b = layout::unpack(3, code / 676 % 26);
-    let c = layout::unpack(3, code / 26 % 26);
-    let d = layout::unpack(3, code % 26);
-    Unpacked {
-        answer: accepted(0),
-        merges: [a, b, c, d],
-    }
-}
-
 // The count bytes, taken as one number, with another value in the counter that a slot is in.
 fn with_value(word: u64, merge: u8, slot: usize, value: u64) -> u64
     requires { ⌜ valid 3 merge ≡ true ⌝ ∗ ⌜ slot < 8 ⌝ }
@@ -445,11 +343,11 @@ pub fn change(g: Group, slot: usize, value: u64) -> Outcome
     if !is_valid(g.merge) {
         return unchanged(INVALID_MERGE, g);
     }
-    let word = with_value(number_of(counts), g.merge, slot % 8, value);
+    let word = with_value(bytes::number_of(counts), g.merge, slot % 8, value);
     Outcome {
         status: 0,
         group: Group {
-            counts: bytes_of(word),
+            counts: bytes::bytes_of(word),
             merge: g.merge,
         },
     }

@@ -12,9 +12,9 @@ use lib.Seq.{getD-take, getD-drop, ext-getD, length-take-le, take-at, drop-at}
 use Rattle.layout.specs.Layout.{valid}
 use Rattle.group.specs.declared.Answer.{Answer}
 use Rattle.group.specs.declared.Group.{Group}
-use Rattle.group.specs.Pack.{packed, fourMerges, unpacked}
+use Rattle.codes.specs.Pack.{packed, fourMerges, unpacked}
 use Rattle.group.proofs.Laws.{Eight}
-use Rattle.group.proofs.Packing.{code-merge, pack-unpack}
+use Rattle.codes.proofs.Packing.{code-merge, pack-unpack}
 use Rattle.group.proofs.Changing.{Good}
 use Rattle.geometry.specs.Geometry.{stride}
 use Rattle.geometry.specs.Rows.{groupAt, withGroup}

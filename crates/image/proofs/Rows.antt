@@ -10,12 +10,12 @@ use lib.Dec.{eqb}
 use borrow.Author.Tests.{eqb-false}
 use lib.ListN.{length, getD, take, drop, set, length-append, length-drop, length-set, List·getD-append, take-append-drop}
 use lib.Seq.{getD-take, getD-drop, getD-append-add, getD-set-same, getD-set-other, ext-getD, length-take-le}
+use Rattle.bytes.proofs.Bytes.{Bytes}
 use Rattle.layout.specs.Layout.{valid}
 use Rattle.group.specs.declared.Group.{Group}
-use Rattle.group.specs.declared.Unpacked.{Unpacked}
-use Rattle.group.specs.Pack.{fourCode, packed, unpacked}
-use Rattle.group.proofs.Bytes.{Bytes}
-use Rattle.group.proofs.Packing.{unpack-pack}
+use Rattle.codes.specs.declared.Unpacked.{Unpacked}
+use Rattle.codes.specs.Pack.{fourCode, packed, unpacked}
+use Rattle.codes.proofs.Packing.{unpack-pack}
 use Rattle.group.proofs.Changing.{Good}
 use Rattle.geometry.specs.Geometry.{stride}
 use Rattle.geometry.specs.Rows.{groupAt, withGroup}

@@ -10,7 +10,7 @@ use lib.Dec.{eqb, ltb}
 use lib.ListN.{length, getD, take, length-take}
 use lib.Seq.{getD-take}
 use Rattle.group.specs.Status.{badPayload}
-use Rattle.group.specs.Pack.{unpacked}
+use Rattle.codes.specs.Pack.{unpacked}
 use Rattle.word.specs.declared.Step.{Step}
 use Rattle.word.specs.Word.{headKind, endKind, go, stop, badWord, next, payload, isDue, tested, below}
 use Rattle.format.specs.Image.{headPayload, layoutKind, countKind, wordsOf, levelAt, isFirst}

@@ -13,7 +13,8 @@ use Rattle.layout.specs.Layout.{valid}
 use Rattle.block.specs.Block.{word as block-word}
 use Rattle.block.specs.Change.{change}
 use Rattle.group.specs.declared.Group.{Group}
-use Rattle.group.specs.Group.{bytes, decode, changed, unchanged}
+use Rattle.bytes.specs.Bytes.{bytes}
+use Rattle.group.specs.Group.{decode, changed, unchanged}
 use Rattle.group.specs.Status.{invalidMerge}
 use Rattle.geometry.specs.Geometry.{stride}
 use Rattle.geometry.specs.Rows.{withGroup}

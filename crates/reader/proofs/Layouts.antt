@@ -6,7 +6,7 @@ use native.Mathlib.Nat.{mod-eq-of-lt}
 use native.Mathlib.Omega.{arith}
 use borrow.Author.Tests.{lt-ltb, le-ltb}
 use lib.ListN.{length, getD}
-use Rattle.group.specs.Pack.{codeMerge, fourMerges, unpacked}
+use Rattle.codes.specs.Pack.{codeMerge, fourMerges, unpacked}
 
 -- the last merge byte of a code below 26
 pub last-merge : (c : ℕ) → c < 26 → getD (unpacked c .merges) 3 0 ≡ codeMerge c

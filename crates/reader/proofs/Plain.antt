@@ -10,9 +10,9 @@ use lib.Bits.{bitOr, bitXor, or-add-and, xor-add-and, xor-shr, and-le-l, and-le-
 use lib.Seq.{sets, sets-eq, drop-cons, length-take-le}
 use Rattle.layout.specs.Layout.{valid, ones, marks}
 use Rattle.layout.specs.Code.{layouts, mergedCode, uncode}
-use Rattle.group.specs.Pack.{fourMerges, unpacked}
+use Rattle.codes.specs.Pack.{fourMerges, unpacked}
 use Rattle.group.proofs.Laws.{Eight}
-use Rattle.group.proofs.Bytes.{Bytes}
+use Rattle.bytes.proofs.Bytes.{Bytes}
 use Rattle.geometry.specs.Rows.{withGroup}
 use Rattle.word.specs.Word.{go, next, payload}
 use Rattle.format.specs.Image.{word, layoutKind, countKind}

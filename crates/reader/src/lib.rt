@@ -14,7 +14,7 @@ ghost use mathlib.Core.List.{map};
 ghost use Prim.Native.Nat.{ℕ, _+_, _*_, _/_, _%_, _^_, _<_, _≤_};
 ghost use lib.ListN.{length, getD, take, drop};
 ghost use lib.Seq.{sets};
-ghost use Rattle.group.specs.Pack.{codeMerge};
+ghost use Rattle.codes.specs.Pack.{codeMerge};
 ghost use Rattle.geometry.specs.Geometry.{stride};
 ghost use Rattle.geometry.specs.Rows.{withGroup};
 ghost use Rattle.format.specs.Write.{groupSize};
@@ -143,7 +143,7 @@ pub fn layout_table(n: usize) -> [u8; 26]
 {
     let mut t = [0u8; 26];
     for c in 0..n {
-        let u = group::unpack(c as u32);
+        let u = codes::unpack(c as u32);
         t[c] = u.merges[3];
     }
     t
@@ -162,7 +162,7 @@ fn merges_at(words: &[u32], p: usize, layouts: &[u8]) -> [u8; 4]
         return [0; 4];
     }
     if layouts.len() < 26 {
-        let u = group::unpack(code);
+        let u = codes::unpack(code);
         return u.merges;
     }
     let at = code as usize;

@@ -9,13 +9,14 @@ use lib.Arith.{digits-div, digits-mod}
 use lib.ListN.{length, getD, take, drop, length-append, length-drop, take-append-drop}
 use lib.Pow.{pow-add}
 use lib.Seq.{drop-cons, length-take-le, take-at, drop-at, drop-drop, take-add}
+use Rattle.bytes.specs.Bytes.{number, bytes}
+use Rattle.bytes.proofs.Bytes.{Bytes, number-lt, bytes-number}
 use Rattle.layout.specs.Layout.{Layout, merged, halves, layout}
 use Rattle.block.specs.Block.{cap, fill, block, total}
 use Rattle.block.specs.Sum.{fits, held, join, unite}
 use Rattle.group.specs.declared.Group.{Group}
 use Rattle.group.specs.declared.Outcome.{Outcome}
-use Rattle.group.specs.Group.{number, bytes, decode, stored, united}
-use Rattle.group.proofs.Bytes.{Bytes, number-lt, bytes-number}
+use Rattle.group.specs.Group.{decode, stored, united}
 use Rattle.group.proofs.Laws.{united-fits}
 use Rattle.geometry.specs.Rows.{groupAt, withGroup}
 use Rattle.row.specs.Row.{unitedAt, uniteGroups}

@@ -5,13 +5,14 @@ use mathlib.Core.List.{List}
 use Prim.Native.Nat.{ℕ, zero, suc, _+_, _*_, _/_, _%_, _^_, _≤_, _<_}
 use native.Mathlib.Omega.{arith}
 use lib.ListN.{length, getD, take, drop}
+use Rattle.bytes.specs.Bytes.{number}
+use Rattle.bytes.proofs.Bytes.{Bytes, number-lt}
 use Rattle.layout.specs.Layout.{Layout, halves, bit, ones, layout, valid}
 use Rattle.block.specs.Block.{cap, Fits, fill, block, total}
 use Rattle.block.proofs.Laws.{fill-fits, total-lt}
 use Rattle.group.specs.declared.Group.{Group}
 use Rattle.group.specs.declared.Outcome.{Outcome}
-use Rattle.group.specs.Group.{number, decode, united, stored}
-use Rattle.group.proofs.Bytes.{Bytes, number-lt}
+use Rattle.group.specs.Group.{decode, united, stored}
 use Rattle.group.proofs.Laws.{united-stored}
 use Rattle.geometry.specs.Geometry.{validWidth, stride}
 use Rattle.geometry.specs.Order.{earlier, earliest}

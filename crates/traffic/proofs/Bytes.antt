@@ -10,13 +10,14 @@ use borrow.Author.Tests.{lt-ltb, le-ltb}
 use lib.Dec.{ltb}
 use lib.ListN.{length, getD, take, drop, length-drop, List·getD-eq-default}
 use lib.Seq.{getD-take, getD-drop, drop-drop, ext-getD, length-take-le}
+use Rattle.bytes.specs.Bytes.{bytes}
+use Rattle.bytes.proofs.Bytes.{Bytes}
 use Rattle.layout.specs.Layout.{valid, marks}
 use Rattle.layout.proofs.Laws.{marks-in}
 use Rattle.block.specs.Block.{Block, shape, word}
 use Rattle.group.specs.declared.Group.{Group}
-use Rattle.group.specs.Group.{bytes, encode}
+use Rattle.group.specs.Group.{encode}
 use Rattle.group.proofs.Laws.{encode-valid}
-use Rattle.group.proofs.Bytes.{Bytes}
 use Rattle.geometry.specs.Geometry.{validWidth, stride, size}
 use Rattle.geometry.specs.Rows.{ofGroups, groupAt}
 use Rattle.geometry.proofs.Widths.{wide, stride-is}

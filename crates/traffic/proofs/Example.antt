@@ -2,6 +2,7 @@
 use mathlib.Core.Path.{_≡_, refl, sym}
 use mathlib.Core.Bool.{true, false, true≢false}
 use Prim.Native.Nat.{ℕ}
+use Rattle.bytes.specs.Bytes as bytes
 use Rattle.layout.specs.Layout as layouts
 use Rattle.layout.specs.Code as codes
 use Rattle.block.specs.Block as blocks
@@ -9,7 +10,7 @@ use Rattle.block.specs.Change as changes
 use Rattle.block.specs.Sum as sums
 use Rattle.hash.specs.Hash as hashes
 use Rattle.group.specs.Group as groups
-use Rattle.group.specs.Pack as packs
+use Rattle.codes.specs.Pack as packs
 use Rattle.geometry.specs.Geometry as geometry
 use Rattle.geometry.specs.Order as order
 use Rattle.geometry.specs.Rows as rows
@@ -40,7 +41,7 @@ unfolding calls.recordPair calls.traffic calls.after calls.behind calls.run call
     totals.overflows totals.levelUpTo totals.level totals.lower totals.landingTotal totals.upper layouts.bit layouts.ones
     layouts.marks layouts.layout layouts.valid layouts.widest codes.layouts codes.mergedCode codes.code codes.uncode blocks.cap
     blocks.shape blocks.word blocks.fill blocks.block blocks.counterAt blocks.total changes.change sums.sumTotal sums.held sums.join
-    sums.add sums.unite hashes.fnvStep hashes.fnv hashes.slotOf groups.number groups.bytes groups.decode groups.encode groups.reading
+    sums.add sums.unite hashes.fnvStep hashes.fnv hashes.slotOf bytes.number bytes.bytes groups.decode groups.encode groups.reading
     groups.read groups.settle groups.added groups.united groups.widestOf groups.changed packs.fourCode packs.packed packs.fourMerges
     packs.unpacked geometry.validDepth geometry.oneOfPowers geometry.validWidth geometry.stride geometry.size order.firstOf
     order.earlier order.earliest order.answerOf order.finish rows.mapRows rows.ofRows rows.groupAt rows.withGroup rows.ofGroups
@@ -83,7 +84,7 @@ cases-meet =
 pub by-hand : ByHand handMade
 unfolding totals.sumOf totals.blockTotal totals.anyBelow totals.overflows totals.levelUpTo totals.level layouts.bit layouts.ones
     layouts.marks layouts.layout layouts.valid layouts.widest codes.layouts codes.mergedCode codes.uncode blocks.cap blocks.word
-    blocks.fill blocks.block blocks.counterAt changes.change groups.number groups.bytes groups.decode groups.reading groups.read
+    blocks.fill blocks.block blocks.counterAt changes.change bytes.number bytes.bytes groups.decode groups.reading groups.read
     groups.widestOf groups.changed packs.fourMerges packs.unpacked geometry.validDepth geometry.oneOfPowers geometry.validWidth
     geometry.stride geometry.size order.firstOf order.earlier order.earliest order.answerOf rows.ofRows rows.groupAt rows.withGroup
     rows.ofGroups rows.largest row.levelStatus row.levelAt row.widestStatus row.widestRow meter.widest words.next words.payload

@@ -7,11 +7,12 @@ use native.Mathlib.Nat.{zero-sub, sub-zero, suc-sub-suc}
 use native.Mathlib.Decide.{ℕ-discrete}
 use native.Mathlib.Omega.{arith}
 use lib.ListN.{length, take, drop, replicate, length-replicate, getD-replicate}
+use Rattle.bytes.specs.Bytes.{bytes}
 use Rattle.layout.specs.Layout.{marks, ones}
 use Rattle.block.specs.Block.{cap, shape, word}
 use Rattle.group.specs.declared.Group.{Group}
 use Rattle.hash.specs.Hash.{basis}
-use Rattle.group.specs.Group.{bytes, encode, settle, added}
+use Rattle.group.specs.Group.{encode, settle, added}
 use Rattle.group.specs.Group as group
 use Rattle.group.proofs.Laws.{decode-encode, encode-valid}
 use Rattle.geometry.specs.Geometry.{validDepth, validWidth, stride, size, RowsIn}

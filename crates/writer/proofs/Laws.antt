@@ -14,8 +14,8 @@ use Rattle.layout.specs.Layout.{valid}
 use Rattle.group.specs.declared.Group.{Group}
 use Rattle.group.specs.Group.{read}
 use Rattle.group.specs.Status.{invalidMerge, accepted, rejected}
-use Rattle.group.specs.Pack.{fourCode, packed, mergeCode}
-use Rattle.group.proofs.Packing.{four-below, code-below}
+use Rattle.codes.specs.Pack.{fourCode, packed, mergeCode}
+use Rattle.codes.proofs.Packing.{four-below, code-below}
 use Rattle.geometry.specs.Geometry.{stride}
 use Rattle.geometry.specs.Rows.{groupAt}
 use Rattle.word.specs.Word.{headKind}

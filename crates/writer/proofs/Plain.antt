@@ -10,9 +10,9 @@ use lib.ListN.{length, getD, take, drop, length-append, length-drop}
 use lib.Seq.{getD-drop, take-add, drop-drop, length-take-le}
 use Rattle.layout.specs.Layout.{layout, valid, bit, ones}
 use Rattle.layout.specs.Code.{layouts, mergedCode, code}
-use Rattle.group.specs.Pack.{fourCode, packed}
+use Rattle.codes.specs.Pack.{fourCode, packed}
 use Rattle.group.proofs.Laws.{Eight}
-use Rattle.group.proofs.Bytes.{Bytes}
+use Rattle.bytes.proofs.Bytes.{Bytes}
 use Rattle.geometry.specs.Rows.{groupAt}
 use Rattle.format.specs.Image.{word, layoutKind, countKind, groupWords, groupsWords, layoutAt, fourWords}
 use Rattle.format.specs.Write.{allValid, groupSize}

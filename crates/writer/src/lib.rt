@@ -14,7 +14,7 @@ ghost use lib.Dec.{ltb};
 ghost use lib.ListN.{length, getD, take, drop};
 ghost use lib.Seq.{sets};
 ghost use Rattle.layout.specs.Layout.{valid};
-ghost use Rattle.group.specs.Pack.{mergeCode};
+ghost use Rattle.codes.specs.Pack.{mergeCode};
 ghost use Rattle.geometry.specs.Geometry.{RowsIn};
 ghost use Rattle.format.specs.Image as spec;
 ghost use Rattle.format.specs.Image.{layoutKind, countKind, parts, groupWords, groupsWords, layoutAt, fourWords, rowWords, rowsWords, image};

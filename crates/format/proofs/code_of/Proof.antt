@@ -5,8 +5,8 @@ use borrow.Author.Needs.{needs}
 use borrow.Author.Tests.{not-true, not-false}
 use Rattle.layout.specs.Layout.{valid}
 use Rattle.group.specs.declared.Answer.{Answer}
-use Rattle.group.specs.Pack.{mergeCode, groupCode}
-use Rattle.group.proofs.Packing.{code-below}
+use Rattle.codes.specs.Pack.{mergeCode, groupCode}
+use Rattle.codes.proofs.Packing.{code-below}
 use Rattle.format.proofs.code_of.Statement.{statement}
 use Rattle.format.proofs.code_of.Tie as tie
 

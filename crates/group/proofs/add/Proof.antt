@@ -4,10 +4,11 @@ use Prim.Native.Nat.{_+_, _-_, _*_, _/_, _%_, _^_, _≤_, _<_}
 use native.Mathlib.Nat.{mod-eq-of-lt, mod-lt}
 use native.Mathlib.Omega.{arith}
 use borrow.Author.Tests.{not-true, not-false}
+use Rattle.bytes.specs.Bytes.{number}
 use Rattle.layout.specs.Layout.{valid}
 use Rattle.block.specs.Block.{cap, total, block, counterAt}
 use Rattle.block.proofs.Laws.{cap-pos}
-use Rattle.group.specs.Group.{number, decode, stored, added}
+use Rattle.group.specs.Group.{decode, stored, added}
 use Rattle.group.proofs.Laws.{cap-three, added-invalid, added-full, added-stored}
 use Rattle.group.proofs.Places.{counter-at, whole-is, halves-lt, sum-in, settle-is, added-is}
 use borrow.Author.Needs.{needs}

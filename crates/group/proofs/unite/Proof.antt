@@ -2,9 +2,10 @@ use mathlib.Core.Path.{_≡_, sym, ap, _∙_}
 use mathlib.Core.Bool.{true}
 use Prim.Native.Nat.{ℕ, _+_, _^_, _<_}
 use native.Mathlib.Omega.{arith}
+use Rattle.bytes.specs.Bytes.{number}
 use Rattle.layout.specs.Layout.{valid}
 use Rattle.block.specs.Block.{cap, total}
-use Rattle.group.specs.Group.{number, decode, unchanged}
+use Rattle.group.specs.Group.{decode, unchanged}
 use Rattle.group.proofs.Laws.{united-refused, united-taken, united-stored}
 use borrow.Author.Needs.{needs}
 use Rattle.group.proofs.unite.Statement.{statement}

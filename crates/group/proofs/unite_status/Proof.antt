@@ -3,10 +3,11 @@ use mathlib.Core.Bool.{true}
 use Prim.Native.Nat.{ℕ, _<_}
 use native.Mathlib.Omega.{arith}
 use borrow.Author.Tests.{ltb-true, ltb-false, not-true, not-false}
+use Rattle.bytes.specs.Bytes.{number}
 use Rattle.layout.specs.Layout.{valid}
 use Rattle.block.specs.Block.{cap}
 use Rattle.group.specs.declared.Outcome.{Outcome}
-use Rattle.group.specs.Group.{number, decode, stored}
+use Rattle.group.specs.Group.{decode, stored}
 use Rattle.group.proofs.Laws.{united-invalid, united-source-invalid, united-full, united-stored}
 use borrow.Author.Needs.{needs}
 use Rattle.group.proofs.unite_status.Statement.{statement}

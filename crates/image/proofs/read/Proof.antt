@@ -3,7 +3,7 @@ use mathlib.Core.Path.{sym, ap, _∙_}
 use native.Mathlib.Omega.{arith}
 use lib.ListN.{length}
 use Rattle.image.proofs.Calls.{Sound, sound-call, read-call, read-faulty, read-done}
-use Rattle.group.specs.Pack.{codeMerge}
+use Rattle.codes.specs.Pack.{codeMerge}
 use Rattle.format.proofs.Sizes.{table-part}
 use Rattle.geometry.specs.Order.{Done}
 use borrow.Author.Needs.{needs}

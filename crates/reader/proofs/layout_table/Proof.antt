@@ -3,8 +3,8 @@ use Prim.Native.Nat.{ℕ, _-_, _≤_, _<_}
 use native.Mathlib.Omega.{arith}
 use borrow.Author.Needs.{needs}
 use lib.ListN.{length, getD, length-set}
-use Rattle.group.specs.declared.Unpacked.{Unpacked}
-use Rattle.group.specs.Pack.{codeMerge}
+use Rattle.codes.specs.declared.Unpacked.{Unpacked}
+use Rattle.codes.specs.Pack.{codeMerge}
 use Rattle.geometry.proofs.Lists.{filled-more}
 use Rattle.reader.proofs.Layouts.{last-merge}
 use Rattle.reader.proofs.layout_table.Statement.{statement}

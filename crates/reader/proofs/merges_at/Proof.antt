@@ -2,8 +2,8 @@ use mathlib.Core.Path.{sym, ap, _∙_}
 use Prim.Native.Nat.{ℕ}
 use native.Mathlib.Omega.{arith}
 use borrow.Author.Needs.{needs}
-use Rattle.group.specs.declared.Unpacked.{Unpacked}
-use Rattle.group.specs.Pack.{unpacked}
+use Rattle.codes.specs.declared.Unpacked.{Unpacked}
+use Rattle.codes.specs.Pack.{unpacked}
 use Rattle.format.specs.Read.{mergesAt}
 use Rattle.reader.proofs.Plain.{merges-none}
 use Rattle.reader.proofs.Layouts.{merges-by, merges-over}

@@ -9,8 +9,8 @@ use Rattle.layout.specs.Layout.{layout, valid, ones}
 use Rattle.layout.specs.Code.{layouts, uncode}
 use Rattle.layout.proofs.Laws.{layout-marks, marks-layout, valid-marks}
 use Rattle.layout.proofs.Codes.{code-lt, uncode-code, code-uncode}
 use Rattle.group.specs.Status.{accepted}
-use Rattle.group.specs.Pack.{mergeCode, codeMerge, fourCode, packed, fourMerges, unpacked}
+use Rattle.codes.specs.Pack.{mergeCode, codeMerge, fourCode, packed, fourMerges, unpacked}
 
 -- how many numbers below n pass a test
 pub count : (ℕ → Bool) → ℕ → ℕ

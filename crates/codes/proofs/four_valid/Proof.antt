@@ -1,6 +1,6 @@
 use borrow.Author.Needs.{needs}
-use Rattle.group.proofs.four_valid.Statement.{statement}
-use Rattle.group.proofs.four_valid.Tie as tie
+use Rattle.codes.proofs.four_valid.Statement.{statement}
+use Rattle.codes.proofs.four_valid.Tie as tie
 
 is-valid-requires : tie.Need-is-valid-requires
 is-valid-requires c κs = search needs

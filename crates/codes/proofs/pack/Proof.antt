@@ -1,10 +1,10 @@
 use mathlib.Core.Path.{_∙_}
 use borrow.Author.Tests.{not-true, not-false}
 use Rattle.group.specs.Status.{accepted}
-use Rattle.group.specs.Pack.{packed, fourCode}
+use Rattle.codes.specs.Pack.{packed, fourCode}
 use borrow.Author.Needs.{needs}
-use Rattle.group.proofs.pack.Statement.{statement}
-use Rattle.group.proofs.pack.Tie as tie
+use Rattle.codes.proofs.pack.Statement.{statement}
+use Rattle.codes.proofs.pack.Tie as tie
 
 four-valid-requires : tie.Need-four-valid-requires
 four-valid-requires c κs = search needs

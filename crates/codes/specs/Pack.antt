@@ -5,9 +5,9 @@ use mathlib.Core.List.{List, [], _∷_}
 use lib.Dec.{ltb}
 use Rattle.layout.specs.Layout.{marks, layout, valid}
 use Rattle.layout.specs.Code.{code, uncode}
 use Rattle.group.specs.declared.Answer.{Answer}
-use Rattle.group.specs.declared.Unpacked.{Unpacked}
 use Rattle.group.specs.Status.{invalidMerge, badPayload, accepted, rejected}
+use Rattle.codes.specs.declared.Unpacked.{Unpacked}
 
 -- the code of a merge byte, and the merge byte of a code below 26
 abbrev pub mergeCode : ℕ → ℕ

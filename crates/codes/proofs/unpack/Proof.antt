@@ -3,11 +3,11 @@ use native.Mathlib.Omega.{arith}
 use mathlib.Core.List.{_∷_, []}
 use borrow.Author.Tests.{lt-ltb, le-ltb}
 use Rattle.layout.specs.Code.{layouts}
 use Rattle.group.specs.declared.Answer.{Answer}
-use Rattle.group.specs.Pack.{unpacked, fourMerges}
+use Rattle.codes.specs.Pack.{unpacked, fourMerges}
 use borrow.Author.Needs.{needs}
-use Rattle.group.proofs.unpack.Statement.{statement}
-use Rattle.group.proofs.unpack.Tie as tie
+use Rattle.codes.proofs.unpack.Statement.{statement}
+use Rattle.codes.proofs.unpack.Tie as tie
 
 rejected-requires : tie.Need-rejected-requires
 rejected-requires c κs = search needs

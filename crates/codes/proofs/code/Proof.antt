@@ -2,11 +2,11 @@ use mathlib.Core.Path.{_≡_, sym, ap, _∙_}
 use mathlib.Core.Bool.{true, false}
 use borrow.Author.Tests.{not-true, not-false}
 use Rattle.layout.specs.Layout.{valid}
 use Rattle.group.specs.Status.{accepted}
-use Rattle.group.specs.Pack.{groupCode}
+use Rattle.codes.specs.Pack.{groupCode}
 use borrow.Author.Needs.{needs}
-use Rattle.group.proofs.code.Statement.{statement}
-use Rattle.group.proofs.code.Tie as tie
+use Rattle.codes.proofs.code.Statement.{statement}
+use Rattle.codes.proofs.code.Tie as tie
 
 is-valid-requires : tie.Need-is-valid-requires
 is-valid-requires c κs = search needs

@@ -2,12 +2,12 @@
 use Prim.Native.Nat.{ℕ}
 use mathlib.Core.Path.{_≡_}
 use mathlib.Core.List.{List, [], _∷_}
 use Rattle.group.specs.declared.Answer.{Answer}
 use Rattle.group.specs.declared.Group.{Group}
 use Rattle.group.specs.declared.Outcome.{Outcome}
 use Rattle.group.specs.Status.{invalidMerge, counterFull, accepted, rejected}
 use Rattle.group.specs.Group.{unchanged, added, united}
-use Rattle.group.specs.Pack.{groupCode, packed}
+use Rattle.codes.specs.Pack.{groupCode, packed}
 
 -- a call and its answer
 pub data Case : Type 0 where

@@ -1,12 +1,13 @@
 -- P1 to P12 hold of the definitions, by computation.
 use mathlib.Core.Path.{refl}
+use Rattle.bytes.specs.Bytes.{number, bytes}
 use Rattle.layout.specs.Layout.{bit, ones, marks, layout, valid}
 use Rattle.layout.specs.Code.{layouts, mergedCode, code}
 use Rattle.block.specs.Block.{cap, shape, word, fill, block, total}
 use Rattle.block.specs.Sum.{sumTotal, held, join, add, unite}
-use Rattle.group.specs.Group.{number, bytes, decode, encode, settle, added, united}
-use Rattle.group.specs.Pack.{groupCode, fourCode, packed}
-use Rattle.group.specs.Cases.{cases, AllHold}
+use Rattle.group.specs.Group.{decode, encode, settle, added, united}
+use Rattle.codes.specs.Pack.{groupCode, fourCode, packed}
+use Rattle.codes.specs.Cases.{cases, AllHold}
 
 pub cases-hold : AllHold cases
 unfolding bit ones marks layout valid layouts mergedCode code cap shape word fill block total sumTotal held join add unite
