@@ -20,7 +20,7 @@ held-cases n s P f g = go (ltb s (cap n)) refl
     go true e = f (ltb-true s (cap n) e)
     go false e = g (ltb-false s (cap n) e)
 
-held-total : (n s : ℕ) → sumTotal (held n s) ≡ s
+pub held-total : (n s : ℕ) → sumTotal (held n s) ≡ s
 unfolding sumTotal total
 held-total n s = held-cases n s (λ x. sumTotal x ≡ s) (λ h. refl) (λ h. refl)
 

@@ -37,6 +37,10 @@ cap-mono m n h = pow-mono {i = 8 * 2 ^ m} {j = 8 * 2 ^ n} (omega (arith, pow-mon
 pub high-lt : (n w : ℕ) → w < cap (suc n) → w / cap n < cap n
 high-lt n w h = div-lt-iff-lt-mul {k = cap n} {x = w} {y = cap n} (cap-pos n) .1 (omega (arith, cap-square n))
 
+-- and make no larger a sum than the number
+pub halves-le : (n w : ℕ) → w % cap n + w / cap n ≤ w
+halves-le n w = omega (arith, div-add-mod' w (cap n), mul-le-mul-left {m = 1} {n = cap n} (w / cap n) (cap-pos n))
+
 pub fill-fits : {n : ℕ} (L : Layout n) (w : ℕ) → w < cap n → Fits (fill L w)
 unfolding fill Fits
 fill-fits merged w h = h

@@ -10,3 +10,4 @@ pub mod Carries
 pub mod Every
 pub mod Starts
 pub mod Twins
+pub mod Pairs

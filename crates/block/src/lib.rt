@@ -10,6 +10,7 @@ ghost use mathlib.Core.Path.{_≡_};
 ghost use mathlib.Core.Bool.{not, _&&_};
 ghost use Prim.Native.Nat.{ℕ, _+_, _-_, _*_, _/_, _%_, _^_, _<_, _≤_};
 ghost use lib.Dec.{ltb, eqb};
+ghost use Rattle.layout.specs.Layout.{merged, halves, marks};
 ghost use Rattle.block.specs.Block.{cap, block};
 ghost use Rattle.block.specs.Block as spec;
 ghost use Rattle.block.specs.Sum as sum_spec;
@@ -196,7 +197,25 @@ fn may_add(word: u64, merge: u8, other_word: u64, other_merge: u8) -> bool
     (word ^ other_word ^ (word + other_word)) & starts == 0
 }
 
-// Two blocks united. Where both have the same layout and each counter holds its sum, the layout stays.
+// The merge bits of a block that is two counters, of this level.
+fn pair_bits(half: u32) -> u8
+    requires { ⌜ half ≤ 2 ⌝ }
+    ensures { λ r. ⌜ r ≡ marks (halves {n = half} merged merged) ⌝ }
+{
+    let bits = ones(half);
+    beside(half, bits, bits)
+}
+
+// The sum of the counters of such a block.
+fn pair_sum(half: u32, word: u64) -> u64
+    requires { ⌜ half ≤ 2 ⌝ }
+    ensures { λ r. ⌜ r ≡ word % cap half + word / cap half ⌝ }
+{
+    low_word(half, word) + high_word(half, word)
+}
+
+// Two blocks united. Where both have the same layout and each counter holds its sum, the layout stays. Where both are two counters
+// and one does not hold its sum, they become one counter.
 pub fn unite(level: u32, word: u64, merge: u8, other_word: u64, other_merge: u8) -> Summed
     requires { ⌜ level ≤ 3 ⌝ ∗ ⌜ Sane level word merge ⌝ ∗ ⌜ Sane level «other_word» «other_merge» ⌝ ∗ ⌜ spec.total (block level word merge) + spec.total (block level «other_word» «other_merge») < 2 ^ 64 ⌝ }
     ensures { λ r. ⌜ r ≡ summed (sum_spec.unite (block level word merge) (block level «other_word» «other_merge»)) ⌝ }
@@ -215,6 +234,13 @@ pub fn unite(level: u32, word: u64, merge: u8, other_word: u64, other_merge: u8)
         return held(level, total(level, word, merge) + other_word);
     }
     let half = level - 1;
+    let pair = pair_bits(half);
+    if merge == pair {
+        if other_merge == pair {
+            // the bytes may not be added, so one of the counters does not hold its sum
+            return held(level, pair_sum(half, word) + pair_sum(half, other_word));
+        }
+    }
     let left = left_half(half, word, merge);
     let right = right_half(half, word, merge);
     let other_left = left_half(half, other_word, other_merge);
