@@ -3,6 +3,7 @@ use Prim.Native.Nat.{ℕ, zero, suc, _+_, _-_, _*_, _/_, _%_, _^_}
 use mathlib.Core.Bool.{Bool, cond, _&&_}
 use mathlib.Core.List.{List, [], _∷_}
 use lib.Dec.{eqb, ltb}
+use lib.ListN.{set}
 use Rattle.group.specs.Status.{badPayload}
 use Rattle.geometry.specs.Order.{badKey}
 use Rattle.word.specs.declared.Step.{Step}
@@ -68,6 +69,10 @@ keyFrom (suc n) words i = keyByte words i ∷ keyFrom n words (i + 1)
 -- the key of n bytes of a record
 abbrev pub keyOf : ℕ → List ℕ → List ℕ
 keyOf n words = keyFrom n words 0
+
+-- key word j stored behind those before it
+abbrev pub stored : List ℕ → ℕ → ℕ → List ℕ
+stored key j v = set (set (set key (3 * j) (v / 65536 % 256)) (3 * j + 1) (v / 256 % 256)) (3 * j + 2) (v % 256)
 
 -- the amount of an update with a key of n bytes, high part first
 unfoldable pub amountOf : ℕ → List ℕ → ℕ

@@ -7,10 +7,12 @@ use word::payload;
 use word::stop;
 use word::tested;
 ghost use mathlib.Core.Path.{_≡_};
+ghost use mathlib.Core.Bool.{true};
 ghost use Prim.Native.Nat.{_+_, _-_, _*_, _^_, _<_, _≤_};
 ghost use lib.ListN.{length, take};
+ghost use Rattle.word.specs.Word as spec;
 ghost use Rattle.feed.specs.Answers.{bodyAnswer};
-ghost use Rattle.feed.specs.Words.{opensKey, opened, keyWords, keyPayload, keyWord, checkKey, checkAmount, keyOf, amountOf, updateStep, bodyOf, updateBody, queryBody};
+ghost use Rattle.feed.specs.Words.{opensKey, opened, keyWords, keyPayload, keyWord, checkKey, checkAmount, keyOf, stored, amountOf, updateStep, bodyOf, updateBody, queryBody};
 
 // The kinds of a record's words.
 pub const UPDATE: u32 = 5;
@@ -107,8 +109,18 @@ fn key_word(words: &[u32], p: usize, n: usize) -> Step
     tested(words, p, KEY, holds, group::BAD_PAYLOAD)
 }
 
-// The key words of a record, in one pass: their bytes are taken into `key`, three a word, the earliest the highest. The position of a key
-// word is given by its index, and does not depend on the step before.
+// Puts the three bytes of key word i into `key`, the earliest the highest.
+fn put_three(key: &mut [u8], i: usize, v: u32)
+    requires { ⌜ 3 * i + 3 ≤ length (now key) ⌝ }
+    ensures { λ r. ⌜ now (key .exit) ≡ stored (now (key .entry)) i v ⌝ }
+{
+    key[3 * i] = (v / 65536 % 256) as u8;
+    key[3 * i + 1] = (v / 256 % 256) as u8;
+    key[3 * i + 2] = (v % 256) as u8;
+}
+
+// The key words of a record, in one pass: their bytes are taken into `key`, three a word. The position of a key word is given by its
+// index, and does not depend on the step before.
 pub fn take_key(words: &[u32], n: usize, key: &mut [u8]) -> Step
     requires { ⌜ n ≤ 64 ⌝ ∗ ⌜ length (now key) ≡ 66 ⌝ }
     ensures { λ r. ⌜ r ≡ checkKey (keyWords n) n (now (words .entry)) 1 ⌝ }
@@ -121,9 +133,7 @@ pub fn take_key(words: &[u32], n: usize, key: &mut [u8]) -> Step
             return s;
         }
         let v = payload(words, 1 + i);
-        key[3 * i] = (v / 65536 % 256) as u8;
-        key[3 * i + 1] = (v / 256 % 256) as u8;
-        key[3 * i + 2] = (v % 256) as u8;
+        put_three(key, i, v);
     }
     go(1 + key_words(n))
 }
@@ -139,15 +149,42 @@ pub fn check_amount(words: &[u32], p: usize) -> Step
     below(words, p + 1, AMOUNT, 65536)
 }
 
-// The words after an update's first.
+// The key words of a record tested together, with no test on the way: whether all are sound. If so, the key's bytes are taken into `key`.
+fn take_sound_key(words: &[u32], n: usize, key: &mut [u8]) -> bool
+    requires { ⌜ n ≤ 64 ⌝ ∗ ⌜ length (now key) ≡ 66 ⌝ }
+    ensures { λ r. ⌜ (r ≡ true → checkKey (keyWords n) n (now (words .entry)) 1 ≡ spec.go (1 + keyWords n)) ⌝ }
+    ensures { λ r. ⌜ (r ≡ true → take n (now (key .exit)) ≡ keyOf n (now (words .entry))) ⌝ }
+{
+    let m = key_words(n);
+    if words.len() <= m {
+        return false;
+    }
+    let mut bad = 0u32;
+    for i in 0..m {
+        let v = words[1 + i];
+        // kind 7, and bits 24 to 27 are 0
+        bad = bad | ((v >> 24) ^ 0x70);
+        put_three(key, i, v);
+    }
+    if bad != 0 {
+        return false;
+    }
+    // 0, 1 or 2 bytes of the last word
+    let unused = 3 * m - n;
+    words[m] % (1 << (8 * unused as u32)) == 0
+}
+
+// The words after an update's first. A key that is not sound is read again for its first fault.
 pub fn check_update(words: &[u32], n: usize, key: &mut [u8]) -> Step
     requires { ⌜ n ≤ 64 ⌝ ∗ ⌜ length (now key) ≡ 66 ⌝ }
     ensures { λ r. ⌜ r ≡ updateStep n (now (words .entry)) ⌝ }
     ensures { λ r. ⌜ (r .status ≡ 0 → take n (now (key .exit)) ≡ keyOf n (now (words .entry))) ⌝ }
 {
-    let s = take_key(words, n, key);
-    if s.status != 0 {
-        return s;
+    if !take_sound_key(words, n, key) {
+        let s = take_key(words, n, key);
+        if s.status != 0 {
+            return s;
+        }
     }
     check_amount(words, 1 + key_words(n))
 }
@@ -187,5 +224,8 @@ pub fn query_body(words: &[u32], n: usize, key: &mut [u8]) -> Body
     ensures { λ r. ⌜ r ≡ queryBody n (now (words .entry)) ⌝ }
     ensures { λ r. ⌜ (bodyAnswer r .status ≡ 0 → take n (now (key .exit)) ≡ keyOf n (now (words .entry))) ⌝ }
 {
+    if take_sound_key(words, n, key) {
+        return Body::Sound { amount: 0 };
+    }
     body_of(take_key(words, n, key), 0)
 }

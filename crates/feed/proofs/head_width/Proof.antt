@@ -11,7 +11,7 @@ shl-result c = search needs
 
 returns : tie.Need-returns
 unfolding headWidth
-returns c = one-shl (c .args .payload / 16 % 32) (omega arith)
+returns c = one-shl 64 (c .args .payload / 16 % 32) (omega arith)
 
 pub head-width-spec : {M : Type 1} → statement M
 head-width-spec = tie.close (tie.spec shl-result returns)

@@ -1,15 +1,14 @@
 use mathlib.Core.Path.{_≡_, refl, sym, ap, ap₂, _∙_}
-use Prim.Native.Nat.{ℕ, _+_, _-_, _*_, _/_, _%_, _≤_}
-use native.Mathlib.Nat.{sub-zero}
+use Prim.Native.Nat.{ℕ, _+_, _-_, _*_, _≤_}
+use native.Mathlib.Nat.{sub-zero, mod-eq-of-lt}
 use native.Mathlib.Omega.{arith}
 use borrow.Author.Needs.{needs}
-use lib.ListN.{length, take, set, length-set}
-use lib.Seq.{take-take}
+use lib.ListN.{length, take}
 use Rattle.word.specs.declared.Step.{Step}
 use Rattle.word.specs.Word.{go}
 use Rattle.word.proofs.Laws.{turn, halt, one-on}
 use Rattle.feed.specs.Words.{keyKind, keyWords, keyWord, checkKey, keyFrom, keyOf}
-use Rattle.feed.proofs.Laws.{key-step, key-none, key-front, word-more, stored-length}
+use Rattle.feed.proofs.Laws.{key-step, key-none, key-taken, word-more, stored-length}
 use Rattle.feed.proofs.words.take_key.Statement.{statement}
 use Rattle.feed.proofs.words.take_key.Tie as tie
 
@@ -64,41 +63,8 @@ add-payload c = search needs
 payload-requires : tie.Need-payload-requires Inv-loop μ-loop
 payload-requires c κs = search needs
 
-cast-key : tie.Need-cast-key Inv-loop μ-loop
-cast-key c = search needs
-
-mul-key : tie.Need-mul-key Inv-loop μ-loop
-mul-key c = search needs
-
-slice-write-key : tie.Need-slice-write-key Inv-loop μ-loop
-slice-write-key c = search needs
-
-cast-key-2 : tie.Need-cast-key-2 Inv-loop μ-loop
-cast-key-2 c = search needs
-
-mul-key-2 : tie.Need-mul-key-2 Inv-loop μ-loop
-mul-key-2 c = search needs
-
-add-key : tie.Need-add-key Inv-loop μ-loop
-add-key c = search needs
-
-slice-write-key-2 : tie.Need-slice-write-key-2 Inv-loop μ-loop
-slice-write-key-2 c = let l = c .before .before .before .before .before .loop in
-    omega (arith, length-set (l .key) (3 * l .i) (c .payload .result / 65536 % 256))
-
-cast-key-3 : tie.Need-cast-key-3 Inv-loop μ-loop
-cast-key-3 c = search needs
-
-mul-key-3 : tie.Need-mul-key-3 Inv-loop μ-loop
-mul-key-3 c = search needs
-
-add-key-2 : tie.Need-add-key-2 Inv-loop μ-loop
-add-key-2 c = search needs
-
-slice-write-key-3 : tie.Need-slice-write-key-3 Inv-loop μ-loop
-slice-write-key-3 c = let l = c .before .before .before .before .before .loop in
-    let k = set (l .key) (3 * l .i) (c .payload .result / 65536 % 256) in
-    omega (arith, length-set (l .key) (3 * l .i) (c .payload .result / 65536 % 256), length-set k (3 * l .i + 1) (c .payload .result / 256 % 256))
+put-three-requires : tie.Need-put-three-requires Inv-loop μ-loop
+put-three-requires c κs = search needs
 
 add-i : tie.Need-add-i Inv-loop μ-loop
 add-i c = search needs
@@ -108,22 +74,24 @@ loop-less c = search needs
 
 loop-again : tie.Need-loop-again Inv-loop μ-loop
 unfolding keyWord
-loop-again c = let l = c .before .before .before .before .before .loop in
-    let a = c .before .before .before .before .before .before .before .before .before .args in
-    let k = c .before .before .before .before .before .before .key-words .result in
-    let s = c .before .before .before .key-word in
-    let v = c .payload .result in
+loop-again c = let e = c .before .before .before .before .before in
+    let l = e .before .before .before .before .loop in
+    let a = e .before .before .before .before .before .before .before .before .args in
+    let k = e .before .before .before .before .before .key-words .result in
+    let s = e .before .before .key-word in
+    let v = c .before .before .before .before .payload in
+    let b = c .before .before .put-three .ensures in
     let f : k - (l .i + 1) ≡ k - l .i - 1 = omega arith in
     let g : a .n - 3 * (l .i + 1) ≡ a .n - 3 * l .i - 3 = omega arith in
-    let p : s .result .position ≡ 1 + l .i + 1 = one-on (s .result) (a .words .now) (1 + l .i) keyKind _ _ (λ e. omega arith) (s .ensures) (c .before .if1 .left) in
+    let p : s .result .position ≡ 1 + l .i + 1 = one-on (s .result) (a .words .now) (1 + l .i) keyKind _ _ (λ e. omega arith) (s .ensures) (e .if1 .left) in
     let q : 1 + (l .i + 1) ≡ s .result .position = omega arith in (
       omega arith,
       l .inv .1,
       l .inv .2,
-      stored-length (l .key) (l .i) v ∙ l .inv .3,
+      ap length b ∙ stored-length (l .key) (l .i) (v .result) ∙ l .inv .3,
       ap₂ (λ (x y : ℕ). checkKey x y (a .words .now) (1 + (l .i + 1))) f g ∙ ap (checkKey (k - l .i - 1) (a .n - 3 * l .i - 3) (a .words .now)) q
-          ∙ sym (turn (s .result) _ _ (s .ensures) (c .before .if1 .left)) ∙ sym (key-step (k - l .i) (a .n - 3 * l .i) (a .words .now) (1 + l .i) (omega arith)) ∙ l .inv .4,
-      word-more (l .key) (a .words .now) (l .i) v (omega arith) (c .payload .ensures .0) (l .inv .5),
+          ∙ sym (turn (s .result) _ _ (s .ensures) (e .if1 .left)) ∙ sym (key-step (k - l .i) (a .n - 3 * l .i) (a .words .now) (1 + l .i) (omega arith)) ∙ l .inv .4,
+      ap (take (3 * (l .i + 1))) b ∙ word-more (l .key) (a .words .now) (l .i) (v .result) (omega arith) (mod-eq-of-lt (v .ensures .1) ∙ v .ensures .0) (l .inv .5),
     )
 
 key-words-requires-2 : tie.Need-key-words-requires-2 Inv-loop μ-loop
@@ -144,12 +112,11 @@ returns-2 c = let l = c .before .before .before .loop in
     let k = c .before .before .before .before .key-words .result in
     let w = c .before .key-words2 in
     let i : 1 + w .result ≡ 1 + l .i = omega arith in
-    let h : a .n ≤ 3 * l .i = omega arith in
     let e = c .go .ensures ∙ ap (λ (p : ℕ). go p) i ∙ sym (key-none (k - l .i) (a .n - 3 * l .i) (a .words .now) (1 + l .i) (omega arith)) ∙ l .inv .4 in (
       e,
       (
         λ z. ap (λ (s : Step). s .position) (c .go .ensures) ∙ ap (λ (x : ℕ). 1 + x) (w .ensures),
-        λ z. sym (take-take (a .n) (3 * l .i) (l .key) h) ∙ ap (take (a .n)) (l .inv .5) ∙ key-front (a .n) (3 * l .i) (a .words .now) 0 h,
+        λ z. key-taken (a .n) (3 * l .i) (l .key) (a .words .now) (omega arith) (l .inv .5),
       ),
     )
 
@@ -169,17 +136,7 @@ take-key-spec =
     returns
     add-payload
     payload-requires
-    cast-key
-    mul-key
-    slice-write-key
-    cast-key-2
-    mul-key-2
-    add-key
-    slice-write-key-2
-    cast-key-3
-    mul-key-3
-    add-key-2
-    slice-write-key-3
+    put-three-requires
     add-i
     loop-less
     loop-again
