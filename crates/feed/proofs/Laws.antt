@@ -10,11 +10,12 @@ use native.Mathlib.Omega.{arith}
 use lib.ListN.{length, take, set, getD, length-set}
 use lib.Seq.{take-suc-set, take-take}
 use lib.Dec.{eqb, leb}
-use borrow.Author.Tests.{leb-true, lt-ltb, eq-eqb, ne-eqb}
-use lib.Pow.{pow-pos, pow-lt, mod-mod-pow}
+use borrow.Author.Tests.{leb-true, eqb-true, lt-ltb, eq-eqb, ne-eqb}
+use lib.Pow.{pow-pos, pow-lt, pow-mono, mod-mod-pow}
 use lib.Bits.{bitXor, xor-add-and, and-le-l, and-le-r}
-use Rattle.geometry.specs.Order.{badShape}
-use Rattle.meter.specs.Meter.{estimated}
+use Rattle.geometry.specs.Order.{unless, badShape, badKey}
+use Rattle.meter.specs.Meter.{badCall, estimated}
+use Rattle.meter.proofs.Calls.{call-key}
 use Rattle.word.specs.declared.Step.{Step}
 use Rattle.word.specs.Word.{endKind, go, next, payload, isDue, tested}
 use Rattle.word.proofs.Laws.{both, turn}
@@ -202,32 +203,51 @@ is-end (opening.Query n) h = absurd (omega arith)
 is-end opening.End h = refl
 is-end (opening.Refused s) h = absurd (omega arith)
 
--- the key length of an opened record
-abbrev pub lengthIn : Opening → ℕ
-lengthIn (opening.Update n) = n
-lengthIn (opening.Query n) = n
-lengthIn opening.End = 0
-lengthIn (opening.Refused s) = 0
+-- what is wrong with an opened record's key length; the length has passed, so nothing is
+abbrev pub badKeyIn : Opening → ℕ
+badKeyIn (opening.Update n) = badKey n
+badKeyIn (opening.Query n) = badKey n
+badKeyIn opening.End = 0
+badKeyIn (opening.Refused s) = 0
 
-either-short : (t : Bool) (a b : Opening) → lengthIn a ≤ 64 → lengthIn b ≤ 64 → lengthIn (cond t a b) ≤ 64
-either-short true a b h k = h
-either-short false a b h k = k
+either-good : (t : Bool) (a b : Opening) → badKeyIn a ≡ 0 → badKeyIn b ≡ 0 → badKeyIn (cond t a b) ≡ 0
+either-good true a b h k = h
+either-good false a b h k = k
 
-key-short : (n : ℕ) (o : Opening) → lengthIn o ≡ n → lengthIn (opensKey n o) ≤ 64
+opens-good : (n : ℕ) (o : Opening) → badKeyIn o ≡ badKey n → badKeyIn (opensKey n o) ≡ 0
 unfolding opensKey
-key-short n o e = test (leb 1 n && leb n 64) refl
+opens-good n o e = test (eqb (badKey n) 0) refl
   where
-    test : (t : Bool) → (leb 1 n && leb n 64) ≡ t → lengthIn (cond (eqb (cond t 0 4) 0) o (opening.Refused (cond t 0 4))) ≤ 64
-    test true h = rw e (leb-true n 64 (both (leb 1 n) (leb n 64) h .1))
-    test false h = omega arith
+    test : (t : Bool) → eqb (badKey n) 0 ≡ t → badKeyIn (cond t o (opening.Refused (badKey n))) ≡ 0
+    test true h = e ∙ eqb-true (badKey n) 0 h
+    test false h = refl
 
-pub opened-short : (before : ℕ) (words : List ℕ) → lengthIn (opened before words) ≤ 64
+pub opened-good : (before : ℕ) (words : List ℕ) → badKeyIn (opened before words) ≡ 0
 unfolding opened
-opened-short before words =
-    either-short (isDue words 0 updateKind) _ _ (key-short (payload words 0) (opening.Update (payload words 0)) refl)
-    (either-short (isDue words 0 queryKind) _ _ (key-short (payload words 0) (opening.Query (payload words 0)) refl)
-    (either-short (isDue words 0 endKind) _ _
-    (either-short (eqb (payload words 0) (before % 2 ^ 28)) opening.End (opening.Refused 9) (omega arith) (omega arith)) (omega arith)))
+opened-good before words =
+    either-good (isDue words 0 updateKind) _ _ (opens-good (payload words 0) (opening.Update (payload words 0)) refl)
+    (either-good (isDue words 0 queryKind) _ _ (opens-good (payload words 0) (opening.Query (payload words 0)) refl)
+    (either-good (isDue words 0 endKind) _ _
+    (either-good (eqb (payload words 0) (before % 2 ^ 28)) opening.End (opening.Refused 9) refl refl) refl))
+
+-- such a key fits the buffer that it is taken into
+pub key-short : (n : ℕ) → badKey n ≡ 0 → n ≤ 64
+key-short n e = test (leb 1 n && leb n 64) refl e
+  where
+    test : (t : Bool) → (leb 1 n && leb n 64) ≡ t → unless t 4 ≡ 0 → n ≤ 64
+    test true h k = leb-true n 64 (both (leb 1 n) (leb n 64) h .1)
+    test false h k = absurd (omega arith)
+
+key-length : (n : ℕ) (words : List ℕ) (i : ℕ) → length (keyFrom n words i) ≡ n
+unfolding keyFrom
+key-length zero words i = refl
+key-length (suc n) words i = ap suc (key-length n words (i + 1))
+
+-- a call with a record's key passes the tests that the record has passed
+pub call-passes : (d w : ℕ) (memory : List ℕ) (n : ℕ) (words key : List ℕ) → badShape d w (length memory) ≡ 0 → badKey n ≡ 0 → key ≡ keyOf n words
+    → badCall d w memory key ≡ 0
+call-passes d w memory n words key s k e =
+    sym (call-key d w memory key s) ∙ ap badKey (ap length e ∙ key-length n words 0) ∙ k
 
 -- the outcome by an answer, as the code finds it
 pub outcome-rejected : (a : Answer) (r : Recorded) → (a .status ≡ 0 → ⊥) → outcomeOf a r ≡ rejection a

@@ -7,6 +7,7 @@ use words::Opening;
 ghost use mathlib.Core.Path.{_≡_};
 ghost use Prim.Native.Nat.{_<_, _≤_};
 ghost use lib.ListN.{length};
+ghost use Rattle.geometry.specs.Order.{badShape, badKey};
 ghost use Rattle.feed.specs.Answers as answers;
 ghost use Rattle.feed.specs.Answers.{bodyAnswer, recordAnswer};
 ghost use Rattle.feed.specs.Head.{headDepth, headWidth, badGeometry, headed};
@@ -122,9 +123,9 @@ fn refused(b: Body) -> Recorded
     }
 }
 
-// An update by record, with a key of n bytes.
+// An update by record, with a key of n bytes. The geometry and the key's length were tested before any of its words.
 fn update(d: usize, w: usize, memory: &mut [u8], n: usize, words: &[u32]) -> Recorded
-    requires { ⌜ n ≤ 64 ⌝ }
+    requires { ⌜ badShape d w (length (now memory)) ≡ 0 ⌝ ∗ ⌜ badKey n ≡ 0 ⌝ }
     ensures { λ r. ⌜ r ≡ carriedUpdate d w (now (memory .entry)) n (now (words .entry)) (updateBody n (now (words .entry))) .outcome ⌝ }
     ensures { λ r. ⌜ now (memory .exit) ≡ carriedUpdate d w (now (memory .entry)) n (now (words .entry)) (updateBody n (now (words .entry))) .memory ⌝ }
 {
@@ -133,16 +134,16 @@ fn update(d: usize, w: usize, memory: &mut [u8], n: usize, words: &[u32]) -> Rec
     let Body::Sound { amount } = b else {
         return refused(b);
     };
-    let a = meter::update(d, w, memory, &key[0..n], amount);
+    let a = meter::update_checked(d, w, memory, &key[0..n], amount);
     if a.status != 0 {
         return rejection(a);
     }
     Recorded::Updated
 }
 
-// A query, with a key of n bytes.
+// A query, with a key of n bytes, after the same tests.
 fn query(d: usize, w: usize, memory: &[u8], n: usize, words: &[u32]) -> Recorded
-    requires { ⌜ n ≤ 64 ⌝ }
+    requires { ⌜ badShape d w (length (now memory)) ≡ 0 ⌝ ∗ ⌜ badKey n ≡ 0 ⌝ }
     ensures { λ r. ⌜ r ≡ queried d w (now (memory .entry)) n (now (words .entry)) (queryBody n (now (words .entry))) ⌝ }
 {
     let mut key = [0u8; 66];
@@ -150,7 +151,7 @@ fn query(d: usize, w: usize, memory: &[u8], n: usize, words: &[u32]) -> Recorded
     let Body::Sound { amount: _ } = b else {
         return refused(b);
     };
-    let a = meter::estimate(d, w, memory, &key[0..n]);
+    let a = meter::estimate_checked(d, w, memory, &key[0..n]);
     if a.status != 0 {
         return rejection(a);
     }

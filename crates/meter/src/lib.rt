@@ -1,5 +1,6 @@
 // A meter in lent memory: clearing, updates, estimates, the widest level and unions. Every call takes any depth, width, memory and
-// key, and answers by document 01's number, place and figure. A rejected call leaves the memory as it was.
+// key, and answers by document 01's number, place and figure. A rejected call leaves the memory as it was. The two named `checked` are for
+// callers that have made the tests before them.
 use geometry::answer;
 use geometry::bad_key;
 use geometry::bad_shape;
@@ -117,6 +118,21 @@ fn update_rows(d: usize, w: usize, memory: &mut [u8], slots: &[usize; 8], amount
     0
 }
 
+// An update whose geometry and key length have passed.
+pub fn update_checked(d: usize, w: usize, memory: &mut [u8], key: &[u8], amount: u32) -> Answer
+    requires { ⌜ badCall d w (now memory) (now key) ≡ 0 ⌝ }
+    ensures { λ r. ⌜ r ≡ updated d w (now (memory .entry)) (now (key .entry)) amount .answer ⌝ }
+    ensures { λ r. ⌜ now (memory .exit) ≡ updated d w (now (memory .entry)) (now (key .entry)) amount .memory ⌝ }
+{
+    let bytes = whole(key);
+    if d == 1 {
+        let slot = row_slot(Hash::start(), w, bytes, 0);
+        return answer(row::update_one(memory, w, slot, amount), 0);
+    }
+    let slots = key_slots(Hash::start(), w, bytes, d);
+    answer(update_rows(d, w, memory, &slots, amount), 0)
+}
+
 // Adds an amount to the key's counter in each row. Stores in no row before every row is known to take it.
 pub fn update(d: usize, w: usize, memory: &mut [u8], key: &[u8], amount: u32) -> Answer
     ensures { λ r. ⌜ r ≡ updated d w (now (memory .entry)) (now (key .entry)) amount .answer ⌝ }
@@ -126,13 +142,7 @@ pub fn update(d: usize, w: usize, memory: &mut [u8], key: &[u8], amount: u32) ->
     if bad != 0 {
         return answer(bad, 0);
     }
-    let bytes = whole(key);
-    if d == 1 {
-        let slot = row_slot(Hash::start(), w, bytes, 0);
-        return answer(row::update_one(memory, w, slot, amount), 0);
-    }
-    let slots = key_slots(Hash::start(), w, bytes, d);
-    answer(update_rows(d, w, memory, &slots, amount), 0)
+    update_checked(d, w, memory, key, amount)
 }
 
 fn smaller(a: u64, b: u64) -> u64
@@ -162,14 +172,11 @@ fn read_rows(d: usize, w: usize, memory: &[u8], slots: &[usize; 8]) -> Answer
     }
 }
 
-// The least value of the key's counters.
-pub fn estimate(d: usize, w: usize, memory: &[u8], key: &[u8]) -> Answer
+// An estimate whose geometry and key length have passed.
+pub fn estimate_checked(d: usize, w: usize, memory: &[u8], key: &[u8]) -> Answer
+    requires { ⌜ badCall d w (now memory) (now key) ≡ 0 ⌝ }
     ensures { λ r. ⌜ r ≡ estimated d w (now (memory .entry)) (now (key .entry)) ⌝ }
 {
-    let bad = bad_call(d, w, memory, key);
-    if bad != 0 {
-        return answer(bad, 0);
-    }
     let bytes = whole(key);
     if d == 1 {
         let c = row::read_row(memory, w, row_slot(Hash::start(), w, bytes, 0));
@@ -178,6 +185,17 @@ pub fn estimate(d: usize, w: usize, memory: &[u8], key: &[u8]) -> Answer
     let slots = key_slots(Hash::start(), w, bytes, d);
     let found = read_rows(d, w, memory, &slots);
     answer(found.status, found.value)
+}
+
+// The least value of the key's counters.
+pub fn estimate(d: usize, w: usize, memory: &[u8], key: &[u8]) -> Answer
+    ensures { λ r. ⌜ r ≡ estimated d w (now (memory .entry)) (now (key .entry)) ⌝ }
+{
+    let bad = bad_call(d, w, memory, key);
+    if bad != 0 {
+        return answer(bad, 0);
+    }
+    estimate_checked(d, w, memory, key)
 }
 
 fn larger(a: u64, b: u64) -> u64

@@ -1,4 +1,6 @@
 use mathlib.Core.Path.{_≡_, sym, ap, _∙_}
+use Prim.Native.Nat.{_-_}
+use lib.ListN.{take}
 use borrow.Author.Needs.{needs}
 use Rattle.group.specs.declared.Answer.{Answer}
 use Rattle.meter.specs.Meter.{estimated}
@@ -6,30 +8,38 @@ use Rattle.feed.specs.declared.Recorded.{Recorded}
 use Rattle.feed.specs.declared.Recorded.the-variants as case
 use Rattle.feed.specs.Words.{queryBody, keyOf}
 use Rattle.feed.specs.Record.{rejection, outcomeOf, queried}
-use Rattle.feed.proofs.Laws.{lent, sound-answer, outcome-rejected, outcome-accepted, query-refused, query-sound}
+use Rattle.feed.proofs.Laws.{lent, key-short, call-passes, sound-answer, outcome-rejected, outcome-accepted, query-refused, query-sound}
 use Rattle.feed.proofs.query.Statement.{statement}
 use Rattle.feed.proofs.query.Tie as tie
 
 -- the estimate that was called, and what the record makes of it
-abbrev called : tie.After-estimate → Answer
+abbrev called : tie.After-estimate-checked → Answer
 called k =
     let a = k .before .before .before .before .before .before .before .before .before .before .args in
     estimated (a .d) (a .w) (a .memory .now) (keyOf (a .n) (a .words .now))
 
-abbrev meant : tie.After-estimate → Recorded
+abbrev meant : tie.After-estimate-checked → Recorded
 meant k =
     let a = k .before .before .before .before .before .before .before .before .before .before .args in
     queried (a .d) (a .w) (a .memory .now) (a .n) (a .words .now) (queryBody (a .n) (a .words .now))
 
-called-is : (k : tie.After-estimate) → k .estimate .result ≡ called k
-called-is k =
-    let m = k .before .before .before .before in
+-- the key that is lent is the record's
+key-is : (m : tie.At-match-keys1) →
     let q = m .before .before in
     let a = q .before .before .before .before .args in
-    let s = ap (λ (x : Answer). x .status) (sound-answer (q .query-body .result) (m .match .keys1)) in
-    k .estimate .ensures ∙ ap (estimated (a .d) (a .w) (a .memory .now)) (lent (a .n) _ (keyOf (a .n) (a .words .now)) (q .query-body .ensures .1 s))
+    take (a .n - 0) (q .query-body .last .1 .1 .0) ≡ keyOf (a .n) (a .words .now)
+key-is m =
+    let q = m .before .before in
+    let a = q .before .before .before .before .args in
+    lent (a .n) _ (keyOf (a .n) (a .words .now)) (q .query-body .ensures .1 (ap (λ (x : Answer). x .status) (sound-answer (q .query-body .result) (m .match .keys1))))
 
-meant-is : (k : tie.After-estimate) → meant k ≡ outcomeOf (called k) (case.Estimate (called k .value))
+called-is : (k : tie.After-estimate-checked) → k .estimate-checked .result ≡ called k
+called-is k =
+    let m = k .before .before .before .before in
+    let a = m .before .before .before .before .before .before .args in
+    k .estimate-checked .ensures ∙ ap (estimated (a .d) (a .w) (a .memory .now)) (key-is m)
+
+meant-is : (k : tie.After-estimate-checked) → meant k ≡ outcomeOf (called k) (case.Estimate (called k .value))
 meant-is k =
     let m = k .before .before .before .before in
     let q = m .before .before in
@@ -40,7 +50,7 @@ slice-aggregate-query-body : tie.Need-slice-aggregate-query-body
 slice-aggregate-query-body c = search needs
 
 query-body-requires : tie.Need-query-body-requires
-query-body-requires c κs = search needs
+query-body-requires c κs = (key-short _ (c .before .before .before .pre .1), search needs)
 
 enum-told : tie.Need-enum-told
 enum-told c = search needs
@@ -57,17 +67,21 @@ returns c = let u = c .before .before .before .before .query-body in
     let e = query-refused (a .d) (a .w) (a .memory .now) (a .n) (a .words .now) (u .result) (c .before .before .match .keys2) in
     rw (← u .ensures .0, e) (c .refused .ensures)
 
-sub-estimate : tie.Need-sub-estimate
-sub-estimate c = search needs
+sub-estimate-checked : tie.Need-sub-estimate-checked
+sub-estimate-checked c = search needs
 
-part-estimate-start : tie.Need-part-estimate-start
-part-estimate-start c = search needs
+part-estimate-checked-start : tie.Need-part-estimate-checked-start
+part-estimate-checked-start c = search needs
 
-part-estimate-end : tie.Need-part-estimate-end
-part-estimate-end c = search needs
+part-estimate-checked-end : tie.Need-part-estimate-checked-end
+part-estimate-checked-end c = let s = c .before .before .before .before .before .before .before .before in
+    search (needs, key-short (s .args .n) (s .pre .1))
 
-estimate-requires : tie.Need-estimate-requires
-estimate-requires c κs = search needs
+estimate-checked-requires : tie.Need-estimate-checked-requires
+estimate-checked-requires c κs = let m = c .before .before .before in
+    let s = m .before .before .before .before .before .before in
+    let a = s .args in
+    call-passes (a .d) (a .w) (a .memory .now) (a .n) (a .words .now) _ (s .pre .0) (s .pre .1) (key-is m)
 
 rejection-requires : tie.Need-rejection-requires
 rejection-requires c κs = search needs
@@ -94,10 +108,10 @@ query-spec =
     enum-told-2
     refused-requires
     returns
-    sub-estimate
-    part-estimate-start
-    part-estimate-end
-    estimate-requires
+    sub-estimate-checked
+    part-estimate-checked-start
+    part-estimate-checked-end
+    estimate-checked-requires
     rejection-requires
     returns-2
     returns-3)

@@ -1,19 +1,30 @@
 use Rattle.feed.proofs.Places.{all-of}
-use Rattle.feed.proofs.Laws.{is-end, lengthIn, opened-short, record-good, record-bad}
+use Rattle.feed.proofs.Laws.{is-end, badKeyIn, opened-good, record-good, record-bad}
 use mathlib.Core.Path.{_≡_, refl, sym, ap, _∙_}
-use Prim.Native.Nat.{_≤_}
+use lib.ListN.{length}
+use Rattle.geometry.specs.Order.{badShape}
 use Rattle.feed.specs.Record.{carried, recorded}
 use borrow.Author.Needs.{needs}
 use Rattle.feed.proofs.record.Statement.{statement}
 use Rattle.feed.proofs.record.Tie as tie
+
+-- what was tested before a record is carried out
+shape-good : (f : tie.After-first-word) →
+    let a = f .before .before .before .before .before .args in
+    badShape (a .d) (a .w) (length (a .memory .now)) ≡ 0
+shape-good f = sym (f .before .before .bad-shape .ensures) ∙ f .before .if1 .left
+
+key-good : (f : tie.After-first-word) → badKeyIn (f .first-word .result) ≡ 0
+key-good f =
+    let a = f .before .before .before .before .before .args in
+    rw (f .first-word .ensures) (opened-good (a .before) (a .words .now))
 
 opened-is : (f : tie.After-first-word) →
     let a = f .before .before .before .before .before .args in
     recorded (a .d) (a .w) (a .memory .now) (a .before) (a .words .now) ≡ carried (a .d) (a .w) (a .memory .now) (a .words .now) (f .first-word .result)
 opened-is f =
     let a = f .before .before .before .before .before .args in
-    let e = sym (f .before .before .bad-shape .ensures) ∙ f .before .if1 .left in
-    record-good (a .d) (a .w) (a .memory .now) (a .before) (a .words .now) e ∙ ap (carried (a .d) (a .w) (a .memory .now) (a .words .now)) (sym (f .first-word .ensures))
+    record-good (a .d) (a .w) (a .memory .now) (a .before) (a .words .now) (shape-good f) ∙ ap (carried (a .d) (a .w) (a .memory .now) (a .words .now)) (sym (f .first-word .ensures))
 
 bad-shape-requires : tie.Need-bad-shape-requires
 bad-shape-requires c κs = search needs
@@ -31,19 +42,15 @@ enum-known-first : tie.Need-enum-known-first
 enum-known-first c = search needs
 
 update-requires : tie.Need-update-requires
-update-requires c κs = let f = c .before .before .before .before .first-word in
-    let a = c .before .before .before .before .before .before .before .before .before .args in
-    let h : lengthIn (f .result) ≤ 64 = rw (f .ensures) (opened-short (a .before) (a .words .now)) in
-    rw (c .before .before .first .given .1) at h
+update-requires c κs = let f = c .before .before .before .before in
+    (shape-good f, rw (c .before .before .first .given .1) at (key-good f))
 
 enum-known-first-2 : tie.Need-enum-known-first-2
 enum-known-first-2 c = search needs
 
 query-requires : tie.Need-query-requires
-query-requires c κs = let f = c .before .before .before .before .first-word in
-    let a = c .before .before .before .before .before .before .before .before .before .args in
-    let h : lengthIn (f .result) ≤ 64 = rw (f .ensures) (opened-short (a .before) (a .words .now)) in
-    rw (c .before .before .first2 .given .1) at h
+query-requires c κs = let f = c .before .before .before .before in
+    (shape-good f, rw (c .before .before .first2 .given .1) at (key-good f))
 
 enum-told : tie.Need-enum-told
 enum-told c = search needs

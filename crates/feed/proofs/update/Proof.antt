@@ -1,6 +1,7 @@
 use mathlib.Core.Path.{_≡_, refl, sym, ap, _∙_}
 use mathlib.Core.List.{List}
-use Prim.Native.Nat.{ℕ}
+use Prim.Native.Nat.{ℕ, _-_}
+use lib.ListN.{take}
 use borrow.Author.Needs.{needs}
 use Rattle.group.specs.declared.Answer.{Answer}
 use Rattle.geometry.specs.Order.{Done}
@@ -10,34 +11,43 @@ use Rattle.feed.specs.declared.Recorded.the-variants as case
 use Rattle.feed.specs.Answers.{bodyAnswer}
 use Rattle.feed.specs.Words.{updateBody, keyOf}
 use Rattle.feed.specs.Record.{Carried, rejection, outcomeOf, carriedUpdate}
-use Rattle.feed.proofs.Laws.{lent, outcome-rejected, outcome-accepted, update-refused}
+use Rattle.feed.proofs.Laws.{lent, key-short, call-passes, outcome-rejected, outcome-accepted, update-refused}
 use Rattle.feed.proofs.update.Statement.{statement}
 use Rattle.feed.proofs.update.Tie as tie
 
 -- the update that was called, and what the record makes of it
-abbrev called : tie.After-update → Done
+abbrev called : tie.After-update-checked → Done
 called k =
     let b = k .before .before .before .before .before in
     let a = b .before .before .before .before .before .before .before .args in
     updated (a .d) (a .w) (a .memory .now) (keyOf (a .n) (a .words .now)) (b .b .given .0 .0)
 
-abbrev meant : tie.After-update → Carried
+abbrev meant : tie.After-update-checked → Carried
 meant k =
     let a = k .before .before .before .before .before .before .before .before .before .before .before .before .args in
     carriedUpdate (a .d) (a .w) (a .memory .now) (a .n) (a .words .now) (updateBody (a .n) (a .words .now))
 
-called-is : (k : tie.After-update) → (k .update .result ≡ called k .answer) × (k .update .last .1 .1 .0 ≡ called k .memory)
-called-is k =
-    let b = k .before .before .before .before .before in
+-- the key that is lent is the record's
+key-is : (b : tie.After-b) →
     let u = b .before .before .before in
     let a = u .before .before .before .before .args in
+    take (a .n - 0) (u .update-body .last .1 .1 .0) ≡ keyOf (a .n) (a .words .now)
+key-is b =
+    let u = b .before .before .before in
+    let a = u .before .before .before .before .args in
+    lent (a .n) _ (keyOf (a .n) (a .words .now)) (u .update-body .ensures .1 (ap (λ (x : Body). bodyAnswer x .status) (b .b .given .1)))
+
+called-is : (k : tie.After-update-checked) → (k .update-checked .result ≡ called k .answer) × (k .update-checked .last .1 .1 .0 ≡ called k .memory)
+called-is k =
+    let b = k .before .before .before .before .before in
+    let a = b .before .before .before .before .before .before .before .args in
     let v = b .b .given .0 .0 in
-    let q = lent (a .n) _ (keyOf (a .n) (a .words .now)) (u .update-body .ensures .1 (ap (λ (x : Body). bodyAnswer x .status) (b .b .given .1))) in (
-      k .update .ensures .0 ∙ ap (λ (x : List ℕ). updated (a .d) (a .w) (a .memory .now) x v .answer) q,
-      k .update .ensures .1 ∙ ap (λ (x : List ℕ). updated (a .d) (a .w) (a .memory .now) x v .memory) q,
+    let q = key-is b in (
+      k .update-checked .ensures .0 ∙ ap (λ (x : List ℕ). updated (a .d) (a .w) (a .memory .now) x v .answer) q,
+      k .update-checked .ensures .1 ∙ ap (λ (x : List ℕ). updated (a .d) (a .w) (a .memory .now) x v .memory) q,
     )
 
-meant-is : (k : tie.After-update) → meant k ≡ record { outcome = outcomeOf (called k .answer) case.Updated; memory = called k .memory }
+meant-is : (k : tie.After-update-checked) → meant k ≡ record { outcome = outcomeOf (called k .answer) case.Updated; memory = called k .memory }
 unfolding carriedUpdate
 meant-is k =
     let b = k .before .before .before .before .before in
@@ -47,7 +57,7 @@ slice-aggregate-update-body : tie.Need-slice-aggregate-update-body
 slice-aggregate-update-body c = search needs
 
 update-body-requires : tie.Need-update-body-requires
-update-body-requires c κs = search needs
+update-body-requires c κs = (key-short _ (c .before .before .before .pre .1), search needs)
 
 enum-known-b : tie.Need-enum-known-b
 enum-known-b c = search needs
@@ -64,17 +74,21 @@ returns c = let u = c .before .before .before .before .update-body in
     let e = update-refused (a .d) (a .w) (a .memory .now) (a .n) (a .words .now) (u .result) (c .before .before .match .keys2) in
     rw (← u .ensures .0, e) (c .refused .ensures, refl)
 
-sub-update : tie.Need-sub-update
-sub-update c = search needs
+sub-update-checked : tie.Need-sub-update-checked
+sub-update-checked c = search needs
 
-part-update-start : tie.Need-part-update-start
-part-update-start c = search needs
+part-update-checked-start : tie.Need-part-update-checked-start
+part-update-checked-start c = search needs
 
-part-update-end : tie.Need-part-update-end
-part-update-end c = search needs
+part-update-checked-end : tie.Need-part-update-checked-end
+part-update-checked-end c = let s = c .before .before .before .before .before .before .before .before .before .before in
+    search (needs, key-short (s .args .n) (s .pre .1))
 
-update-requires : tie.Need-update-requires
-update-requires c κs = search needs
+update-checked-requires : tie.Need-update-checked-requires
+update-checked-requires c κs = let b = c .before .before .before .before in
+    let s = b .before .before .before .before .before .before .before in
+    let a = s .args in
+    call-passes (a .d) (a .w) (a .memory .now) (a .n) (a .words .now) _ (s .pre .0) (s .pre .1) (key-is b)
 
 rejection-requires : tie.Need-rejection-requires
 rejection-requires c κs = search needs
@@ -107,10 +121,10 @@ update-spec =
     enum-told
     refused-requires
     returns
-    sub-update
-    part-update-start
-    part-update-end
-    update-requires
+    sub-update-checked
+    part-update-checked-start
+    part-update-checked-end
+    update-checked-requires
     rejection-requires
     same-length
     returns-2

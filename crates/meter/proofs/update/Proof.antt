@@ -1,20 +1,8 @@
-use mathlib.Core.Path.{_≡_, sym, ap, _∙_}
-use mathlib.Core.Bool.{cond}
-use mathlib.Core.List.{List}
-use Prim.Native.Nat.{ℕ, _<_}
-use lib.Dec.{eqb}
-use lib.ListN.{getD}
-use Rattle.keys.specs.Keys.{keySlot}
-use Rattle.meter.specs.Meter.{badCall}
-use Rattle.meter.proofs.Calls.{call-rows, updated-bad, updated-rows}
-use Rattle.meter.proofs.Slots.{status-by-key, added-by-key, one-long, one-status, one-added}
+use mathlib.Core.Path.{sym, _∙_}
+use Rattle.meter.proofs.Calls.{updated-bad}
 use borrow.Author.Needs.{needs}
 use Rattle.meter.proofs.update.Statement.{statement}
 use Rattle.meter.proofs.update.Tie as tie
-
--- a call past its tests
-good : (c : tie.Else1) → let a = c .before .before .before .before .before .args in badCall (a .d) (a .w) (a .memory .now) (a .key .now) ≡ 0
-good c = sym (c .before .bad-call .ensures) ∙ c .if1 .left
 
 bad-call-requires : tie.Need-bad-call-requires
 bad-call-requires c κs = search needs
@@ -30,90 +18,14 @@ returns c = let a = c .before .before .before .before .before .before .args in
     let p = updated-bad (a .d) (a .w) (a .memory .now) (a .key .now) (a .amount) (c .before .before .bad-call .result) (c .before .before .bad-call .ensures) (c .before .if1 .taken) in
     (c .answer .ensures ∙ p .0, p .1)
 
-whole-requires : tie.Need-whole-requires
-whole-requires c κs = search needs
-
-start-requires : tie.Need-start-requires
-start-requires c κs = search needs
-
-row-slot-requires : tie.Need-row-slot-requires
-row-slot-requires c κs = call-rows _ _ _ _ (good (c .before .before .before)) .1 .0
-
-update-one-requires : tie.Need-update-one-requires
-update-one-requires c κs = let two = c .before .before .before in
-    let p = call-rows _ _ _ _ (good (two .before .before)) .1 in
-    (p .0, (one-long _ _ _ (two .if2 .taken) (p .2), c .before .row-slot .ensures .1))
-
-answer-requires-2 : tie.Need-answer-requires-2
-answer-requires-2 c κs = search needs
+update-checked-requires : tie.Need-update-checked-requires
+update-checked-requires c κs = sym (c .before .before .bad-call .ensures) ∙ c .before .if1 .left
 
 same-length-2 : tie.Need-same-length-2
 same-length-2 c = search needs
 
 returns-2 : tie.Need-returns-2
-returns-2 c = let u = c .before .before .before .update-one in
-    let k = c .before .before .before .before .before in
-    let two = k .before .before in
-    let a = two .before .before .before .before .before .before .before .args in
-    let long = one-long (a .d) (a .w) _ (two .if2 .taken) (call-rows _ _ _ _ (good (two .before .before)) .1 .2) in
-    let at = k .row-slot .ensures .0 ∙ ap (λ (b : List ℕ). keySlot (k .before .start .result .state) (a .w) b 0) (two .before .whole .ensures) in
-    let start = k .before .start .ensures in
-    let status = u .ensures .0 ∙ one-status (a .d) (a .w) (a .memory .now) (a .key .now) (two .if2 .taken) long start at (a .amount) in
-    let after = one-added (a .d) (a .w) (a .memory .now) (a .key .now) (two .if2 .taken) long start at (a .amount) in
-    let p = updated-rows (a .d) (a .w) (a .memory .now) (a .key .now) (a .amount) (good (two .before .before)) (u .result) (u .last .0) status
-    (u .ensures .1 ∙ ap (λ (m : List ℕ). cond (eqb (u .result) 0) m (a .memory .now)) after) in
-    (c .answer2 .ensures ∙ p .0, p .1)
-
-start-requires-2 : tie.Need-start-requires-2
-start-requires-2 c κs = search needs
-
-key-slots-requires : tie.Need-key-slots-requires
-key-slots-requires c κs = let p = call-rows _ _ _ _ (good (c .before .before .before)) .1 in
-    (p .0, p .1)
-
-update-rows-requires : tie.Need-update-rows-requires
-update-rows-requires c κs = (call-rows _ _ _ _ (good (c .before .before .before .before .before .before)) .1, c .before .before .key-slots .ensures .1)
-
-answer-requires-3 : tie.Need-answer-requires-3
-answer-requires-3 c κs = search needs
-
-same-length-3 : tie.Need-same-length-3
-same-length-3 c = search needs
-
-returns-3 : tie.Need-returns-3
-returns-3 c = let u = c .before .before .before .update-rows in
-    let k = c .before .before .before .before .before .before in
-    let w = k .before .before .before in
-    let e = w .before in
-    let a = e .before .before .before .before .before .args in
-    let slots = k .key-slots in
-    let start = k .before .start2 .ensures in
-    let at : (r : ℕ) → r < a .d → getD (slots .result) r 0 ≡ keySlot (k .before .start2 .result .state) (a .w) (a .key .now) r =
-    λ r h. slots .ensures .0 r h ∙ ap (λ (b : List ℕ). keySlot (k .before .start2 .result .state) (a .w) b r) (w .whole .ensures) in
-    let status = u .ensures .0 ∙ status-by-key (a .d) (a .w) (a .memory .now) (a .key .now) (slots .result) start at (a .amount) in
-    let after = added-by-key (a .d) (a .w) (a .memory .now) (a .key .now) (slots .result) start at (a .amount) in
-    let p = updated-rows (a .d) (a .w) (a .memory .now) (a .key .now) (a .amount) (good e) (u .result) (u .last .1 .1 .0) status
-    (u .ensures .1 ∙ ap (λ (m : List ℕ). cond (eqb (u .result) 0) m (a .memory .now)) after) in
-    (c .answer3 .ensures ∙ p .0, p .1)
+returns-2 c = c .before .before .update-checked .ensures
 
 pub update-spec : {M : Type 1} → statement M
-update-spec =
-    tie.close
-    (tie.spec
-    bad-call-requires
-    answer-requires
-    same-length
-    returns
-    whole-requires
-    start-requires
-    row-slot-requires
-    update-one-requires
-    answer-requires-2
-    same-length-2
-    returns-2
-    start-requires-2
-    key-slots-requires
-    update-rows-requires
-    answer-requires-3
-    same-length-3
-    returns-3)
+update-spec = tie.close (tie.spec bad-call-requires answer-requires same-length returns update-checked-requires same-length-2 returns-2)
