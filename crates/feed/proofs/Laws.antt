@@ -11,7 +11,7 @@ use lib.ListN.{length, take, set, getD, length-set}
 use lib.Seq.{take-suc-set, take-take}
 use lib.Dec.{eqb, leb}
 use borrow.Author.Tests.{leb-true, eqb-true, lt-ltb, eq-eqb, ne-eqb}
-use lib.Pow.{pow-pos, pow-lt, pow-mono, mod-mod-pow}
+use lib.Pow.{pow-pos, pow-lt, mod-mod-pow}
 use lib.Bits.{bitXor, xor-add-and, and-le-l, and-le-r}
 use Rattle.geometry.specs.Order.{unless, badShape, badKey}
 use Rattle.meter.specs.Meter.{badCall, estimated}

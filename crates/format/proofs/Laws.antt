@@ -1,25 +1,23 @@
 -- Laws of widths, levels and the words of counters.
-use mathlib.Core.Path.{_≡_, refl, sym, ap, _∙_}
-use mathlib.Core.Bool.{Bool, true, false, cond, true≢false}
+use mathlib.Core.Path.{_≡_, refl, ap, _∙_}
+use mathlib.Core.Bool.{Bool, true, false, cond}
 use mathlib.Core.List.{[]}
 use Prim.Native.Nat.{ℕ, zero, suc, _+_, _-_, _%_, _^_, _≤_, _<_, _*_}
-use native.Mathlib.Nat.{mod-eq-of-lt, one-mul, mul-le-mul-right, mul-one, mul-comm, mul-assoc, pow-suc}
+use native.Mathlib.Nat.{mod-eq-of-lt, one-mul, mul-le-mul-right}
 use native.Mathlib.Omega.{arith}
-use borrow.Author.Tests.{eqb-true}
 use lib.ListN.{length}
-use mathlib.Core.Logic.{⊎-elim}
 use native.Mathlib.Numerals.{sub-one}
-use lib.Dec.{eqb, ltb}
-use lib.Pow.{pow-mono, pow-pos}
+use lib.Dec.{ltb}
+use lib.Pow.{pow-add, pow-mono}
 use Rattle.layout.specs.Layout.{valid}
-use Rattle.layout.proofs.Laws.{or-cases}
 use Rattle.block.specs.Block.{counterAt}
 use Rattle.block.proofs.Slots.{level-le}
 use Rattle.group.specs.declared.Group.{Group}
 use Rattle.group.specs.declared.Reading.{Reading}
 use Rattle.group.specs.Group.{decode, read, reading}
 use Rattle.group.specs.Status.{invalidMerge}
-use Rattle.geometry.specs.Geometry.{oneOfPowers, validWidth}
+use Rattle.geometry.specs.Geometry.{validWidth}
+use Rattle.geometry.proofs.Widths.{width-is as power-is}
 use Rattle.format.specs.Image.{parts, wordsOf, levelAt, isFirst, slotWords, logFrom}
 use Rattle.format.specs.Write.{slotSize, slotsSize}
 
@@ -43,28 +41,19 @@ pub log-none : (n k p w : ℕ) → n ≡ 0 → logFrom n k p w ≡ k
 unfolding logFrom
 log-none n k p w e = rw e
 
--- a width is one of its powers of two
-pub powers-are : (n p w : ℕ) (P : ℕ → Type 0) → ((i : ℕ) → i < n → P (p * 2 ^ i)) → oneOfPowers n p w ≡ true → P w
-unfolding oneOfPowers
-powers-are zero p w P f e = absurd (true≢false (sym e))
-powers-are (suc n) p w P f e =
-    ⊎-elim (λ h. rw (eqb-true w p h) (rw (mul-one p) at (f 0 (omega arith))))
-    (λ h. powers-are n (p * 2) w P (λ i k. rw (mul-assoc p 2 (2 ^ i)) (ap-two i (f (suc i) (omega arith)))) h)
-    (or-cases (eqb w p) (oneOfPowers n (p * 2) w) e)
-  where
-    ap-two : (i : ℕ) → P (p * 2 ^ suc i) → P (p * (2 * 2 ^ i))
-    ap-two i x = rw (mul-comm 2 (2 ^ i), ← pow-suc 2 i) x
-
+-- what the code needs of a width
 pub record Width (w : ℕ) : Type 0 where
   pub least : 32 ≤ w
   pub most : w ≤ 65536
   pub whole : w % 32 ≡ 0
 
 pub width-is : (w : ℕ) → validWidth w ≡ true → Width w
-unfolding validWidth
 width-is w e =
-    powers-are 12 32 w Width
-    (λ i h. record { least = omega (arith, pow-pos i); most = omega (arith, pow-mono {i = i} {j = 11} (omega arith)); whole = omega arith }) e
+    let r = power-is w e in
+    let k = r .0 in
+    let five : k ≡ k - 5 + 5 = omega (arith, r .1) in
+    let shares : 2 ^ k ≡ 2 ^ (k - 5) * 32 = ap (λ (n : ℕ). 2 ^ n) five ∙ pow-add 2 (k - 5) 5 in
+    rw (r .3) (record { least = pow-mono {i = 5} {j = k} (r .1); most = pow-mono {i = k} {j = 16} (r .2); whole = omega (arith, shares) })
 
 -- a level is at most 3
 pub read-level-le : (g : Group) (k : ℕ) → read g k .level ≤ 3

@@ -4,7 +4,7 @@ use mathlib.Core.Logic.{_⊎_, inl, inr, ⊎-elim}
 use mathlib.Core.Path.{_≡_, refl, sym, ap, ap₂, subst, _∙_}
 use mathlib.Core.Bool.{true, cond}
 use mathlib.Core.List.{List, [], _∷_, _++_}
-use Prim.Native.Nat.{ℕ, zero, suc, _+_, _*_, _/_, _%_, _^_, _≤_, _<_}
+use Prim.Native.Nat.{ℕ, zero, suc, _+_, _-_, _*_, _/_, _%_, _^_, _≤_, _<_}
 use native.Mathlib.Nat.{add-zero, mul-one, mul-assoc, mul-le-mul-left}
 use native.Mathlib.Omega.{arith}
 use borrow.Author.Tests.{eq-eqb, eqb-true, eqb-false, lt-ltb, le-ltb}
@@ -16,6 +16,7 @@ use Rattle.bytes.proofs.Bytes.{Bytes}
 use Rattle.group.specs.Status.{badPayload, accepted}
 use Rattle.geometry.specs.Geometry.{validWidth}
 use Rattle.geometry.specs.Order.{badShape, Done}
+use Rattle.geometry.proofs.Widths.{width-is}
 use Rattle.word.specs.declared.Step.{Step}
 use Rattle.word.specs.Word.{headKind, endKind, go, stop, badWord, next, payload, tested, below}
 use Rattle.format.specs.Image.{word, logFrom, logWidth, headPayload, rowsWords, body, endWord, image}
@@ -23,7 +24,7 @@ use Rattle.format.specs.Write.{validRows, written}
 use Rattle.format.specs.Read.{otherMeter, checkHead, checkFours, checkEnd, checked, readRows, taken}
 use Rattle.image.proofs.Calls.{Sound, sound-call, write-done, read-call, read-faulty, read-done}
 use Rattle.reader.proofs.Digits.{payload-here, due-here, below-here}
-use Rattle.format.proofs.Laws.{powers-are, by-test}
+use Rattle.format.proofs.Laws.{by-test}
 use Rattle.image.proofs.Accepting.{passed, tested-is}
 use Rattle.image.proofs.Exact.{rows-are}
 use Rattle.image.proofs.Sharp.{sharp-at}
@@ -207,6 +208,10 @@ log-power (suc n) k p (suc i) h l =
     rw (e, lt-ltb p (p * 2 * 2 ^ i) (omega arith)) (log-power n (k + 1) (p * 2) i (omega arith) (omega arith) ∙ omega arith)
 
 pub log-width-is : (w : ℕ) → validWidth w ≡ true → 2 ^ logWidth w ≡ w
-unfolding validWidth logWidth
+unfolding logWidth
 log-width-is w v =
-    powers-are 12 32 w (λ x. 2 ^ logFrom 11 5 32 x ≡ x) (λ i h. ap (λ (k : ℕ). 2 ^ k) (log-power 11 5 32 i (omega arith) (omega arith)) ∙ pow-add 2 5 i) v
+    let r = width-is w v in
+    let i = r .0 - 5 in
+    let five : r .0 ≡ 5 + i = omega (arith, r .1) in
+    let e : w ≡ 32 * 2 ^ i = r .3 ∙ ap (λ (k : ℕ). 2 ^ k) five ∙ pow-add 2 5 i in
+    rw e (ap (λ (k : ℕ). 2 ^ k) (log-power 11 5 32 i (omega arith) (omega (arith, r .2))) ∙ pow-add 2 5 i)

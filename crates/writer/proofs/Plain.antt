@@ -2,28 +2,23 @@
 use mathlib.Core.Path.{_≡_, refl, sym, ap, ap₂, _∙_}
 use mathlib.Core.Bool.{true}
 use mathlib.Core.List.{List, [], _∷_, _++_, map}
-use Prim.Native.Nat.{ℕ, zero, suc, _+_, _-_, _*_, _≤_, _<_}
+use Prim.Native.Nat.{ℕ, zero, suc, _+_, _*_, _≤_, _<_}
 use native.Mathlib.Nat.{add-zero, add-assoc, add-comm}
 use native.Mathlib.Numerals.{add-one}
 use native.Mathlib.Omega.{arith}
 use lib.ListN.{length, getD, take, drop, length-append, length-drop}
-use lib.Seq.{getD-drop, take-add, drop-drop, length-take-le}
+use lib.Seq.{take-add, drop-drop, length-take-le}
 use Rattle.layout.specs.Layout.{layout, valid, bit, ones}
 use Rattle.layout.specs.Code.{layouts, mergedCode, code}
 use Rattle.codes.specs.Pack.{fourCode, packed}
 use Rattle.group.proofs.Laws.{Eight}
 use Rattle.bytes.proofs.Bytes.{Bytes}
 use Rattle.geometry.specs.Rows.{groupAt}
+use Rattle.geometry.proofs.Lists.{bytes-drop, bytes-take}
 use Rattle.format.specs.Image.{word, layoutKind, countKind, groupWords, groupsWords, layoutAt, fourWords}
 use Rattle.format.specs.Write.{allValid, groupSize}
 use Rattle.format.proofs.Plain.{plain-words, size-none}
 use Rattle.writer.proofs.Laws.{layout-is, group-length, valid-step}
-
-take-bytes : (n : ℕ) (xs : List ℕ) → Bytes xs → Bytes (take n xs)
-take-bytes zero xs b i = omega arith
-take-bytes (suc n) [] b i = omega arith
-take-bytes (suc n) (x ∷ xs) b zero = b 0
-take-bytes (suc n) (x ∷ xs) b (suc i) = take-bytes n xs (λ j. b (suc j)) i
 
 map-append : (f : ℕ → ℕ) (xs ys : List ℕ) → map f (xs ++ ys) ≡ map f xs ++ map f ys
 map-append f [] ys = refl
@@ -37,7 +32,7 @@ plain-groups (suc n) g w row b h z =
     let xs = take 8 (drop (8 * g) row) in
     let o : Eight xs = record {
       long = length-take-le 8 (drop (8 * g) row) (omega (arith, length-drop (8 * g) row));
-      small = take-bytes 8 (drop (8 * g) row) (λ i. rw (getD-drop (8 * g) row i 0) (b (8 * g + i)));
+      small = bytes-take 8 (drop (8 * g) row) (bytes-drop (8 * g) row b);
     } in
     let m : getD row (w + g) 0 ≡ 0 = rw (add-zero g) at (z 0 (omega arith)) in
     let r = plain-groups n (g + 1) w row b (omega arith) (λ i k. rw (add-assoc g 1 i, add-comm 1 i, add-one i) (z (suc i) (omega arith))) in
