@@ -1,4 +1,4 @@
--- The fields of a group's words: how many there are, and that each lies in the 64 bits of the count bytes.
+-- The fields of a group's words: how many there are, that each lies in the 64 bits of the count bytes, and tables that describe them.
 use mathlib.Core.Path.{_≡_, refl, sym, ap, ap₂, _∙_}
 use mathlib.Core.Bool.{true}
 use mathlib.Core.List.{List, _++_}
@@ -159,7 +159,12 @@ described m t at n h e o = (
 
 -- what is the same below place a has the same descriptions there
 same-described : (m at a : ℕ) (t s : List ℕ) → at + 17 ≤ a → take a s ≡ take a t → Described m t at → Described m s at
-same-described m at a t s h e d = (same at (omega arith) ∙ d .0, λ i l. (same (at + 1 + i) (omega (arith, size-most m)) ∙ d .1 i l .0, same (at + 9 + i) (omega (arith, size-most m)) ∙ d .1 i l .1))
+same-described m at a t s h e d = (
+  same at (omega arith) ∙ d .0,
+  λ i l.
+      let z = size-most m in
+      (same (at + 1 + i) (omega arith) ∙ d .1 i l .0, same (at + 9 + i) (omega arith) ∙ d .1 i l .1),
+)
   where
     same : (j : ℕ) → j < a → getD s j 0 ≡ getD t j 0
     same j k = sym (getD-take a s j 0 k) ∙ ap (λ (l : List ℕ). getD l j 0) e ∙ getD-take a t j 0 k

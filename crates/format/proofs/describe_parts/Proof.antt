@@ -1,9 +1,9 @@
-use mathlib.Core.Path.{_≡_, refl, _∙_}
+use mathlib.Core.Path.{_≡_, refl}
 use mathlib.Core.List.{List, _++_}
-use Prim.Native.Nat.{_+_, _*_, _-_, _≤_}
+use Prim.Native.Nat.{_+_, _≤_}
 use native.Mathlib.Omega.{arith}
 use borrow.Author.Needs.{needs}
-use lib.ListN.{length, take, drop, set, length-set}
+use lib.ListN.{length, take, drop, length-set}
 use lib.Seq.{take-set-le}
 use Rattle.format.specs.Fields.{Field, partFields, Told}
 use Rattle.format.proofs.Fields.{told-more}
@@ -52,9 +52,7 @@ add-t-5 : tie.Need-add-t-5 Inv-loop μ-loop
 add-t-5 c = search needs
 
 slice-write-t-2 : tie.Need-slice-write-t-2 Inv-loop μ-loop
-slice-write-t-2 c = let l = c .before .loop in
-    let a = c .before .before .args in
-    omega (arith, length-set (l .t) (a .at + 1 + l .j) (a .place + 24 * (l .left - 1)))
+slice-write-t-2 c = simp length-set (omega arith)
 
 add-j : tie.Need-add-j Inv-loop μ-loop
 add-j c = search needs
@@ -65,12 +63,12 @@ loop-less c = search needs
 loop-again : tie.Need-loop-again Inv-loop μ-loop
 loop-again c = let l = c .before .loop in
     let a = c .before .before .args in
-    let x = a .place + 24 * (l .left - 1) in
-    let s = set (l .t) (a .at + 1 + l .j) x in (
+    let g : a .at ≤ a .at + 1 + l .j = omega arith in
+    let h : a .at ≤ a .at + 9 + l .j = omega arith in (
       omega arith,
-      length-set s (a .at + 9 + l .j) (l .b) ∙ length-set (l .t) (a .at + 1 + l .j) x ∙ l .inv .1,
+      simp length-set (l .inv .1),
       omega arith,
-      take-set-le (a .at) s (a .at + 9 + l .j) (l .b) (omega arith) ∙ take-set-le (a .at) (l .t) (a .at + 1 + l .j) x (omega arith) ∙ l .inv .3,
+      rw (take-set-le, take-set-le) (l .inv .3),
       λ fs rest e o.
           let p = l .inv .4 fs rest e o in
           told-more fs (l .t) (a .at) (l .j) (omega arith) (omega arith) rest (l .left) (a .place) (l .b) (omega arith) (p .0) (p .1),
