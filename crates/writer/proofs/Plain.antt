@@ -17,17 +17,13 @@ use Rattle.geometry.specs.Rows.{groupAt}
 use Rattle.format.specs.Image.{word, layoutKind, countKind, groupWords, groupsWords, layoutAt, fourWords}
 use Rattle.format.specs.Write.{allValid, groupSize}
 use Rattle.format.proofs.Plain.{plain-words, size-none}
-use Rattle.writer.proofs.Laws.{layout-is, group-length, valid-step}
+use Rattle.writer.proofs.Laws.{map-append, layout-is, group-length, valid-step}
 
 take-bytes : (n : ℕ) (xs : List ℕ) → Bytes xs → Bytes (take n xs)
 take-bytes zero xs b i = omega arith
 take-bytes (suc n) [] b i = omega arith
 take-bytes (suc n) (x ∷ xs) b zero = b 0
 take-bytes (suc n) (x ∷ xs) b (suc i) = take-bytes n xs (λ j. b (suc j)) i
-
-map-append : (f : ℕ → ℕ) (xs ys : List ℕ) → map f (xs ++ ys) ≡ map f xs ++ map f ys
-map-append f [] ys = refl
-map-append f (x ∷ xs) ys = ap (λ (l : List ℕ). f x ∷ l) (map-append f xs ys)
 
 pub plain-groups : (n g w : ℕ) (row : List ℕ) → Bytes row → 8 * g + 8 * n ≤ length row → ((i : ℕ) → i < n → getD row (w + (g + i)) 0 ≡ 0)
     → groupsWords n g w row ≡ map (word countKind) (take (8 * n) (drop (8 * g) row))
