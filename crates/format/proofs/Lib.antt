@@ -2,3 +2,4 @@ pub mod Laws
 pub mod Sizes
 pub mod Counters
 pub mod Plain
+pub mod Fields
