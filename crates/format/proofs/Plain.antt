@@ -15,7 +15,8 @@ use Rattle.bytes.proofs.Bytes.{bytes-number}
 use Rattle.format.specs.Image.{word, countKind, parts, wordsOf, levelAt, isFirst, slotWords, slotsWords, groupWords}
 use Rattle.format.specs.Write.{slotSize, slotsSize, groupSize}
 
-more : {x y : ℕ} {l m : List ℕ} → x ≡ y → l ≡ m → word countKind x ∷ l ≡ word countKind y ∷ m
+-- one word and those after it
+pub more : {x y : ℕ} {l m : List ℕ} → x ≡ y → l ≡ m → word countKind x ∷ l ≡ word countKind y ∷ m
 more e f = ap₂ (λ (x : ℕ) (l : List ℕ). word countKind x ∷ l) e f
 
 eight-words : (xs : List ℕ) → number xs < 2 ^ 64 → groupWords (record { counts = xs; merge = 0 }) ≡ map (word countKind) (bytes 8 (number xs))

@@ -1,7 +1,7 @@
 -- Laws of the loops that write: over words, slots, groups and rows.
 use mathlib.Core.Path.{_≡_, refl, sym, ap, _∙_}
 use mathlib.Core.Bool.{Bool, true, false, cond, _&&_}
-use mathlib.Core.List.{List, [], _∷_, _++_}
+use mathlib.Core.List.{List, [], _∷_, _++_, map}
 use Prim.Native.Nat.{ℕ, zero, suc, _+_, _-_, _*_, _/_, _%_, _^_, _≤_, _<_}
 use native.Mathlib.Nat.{one-mul, add-mul, add-assoc, add-zero, add-suc, suc-add, zero-add}
 use native.Mathlib.Numerals.{add-one, sub-one}
@@ -24,6 +24,10 @@ use Rattle.format.specs.Write.{allValid, validRows, slotSize, slotsSize, groupS
 use Rattle.format.proofs.Laws.{slot-none, parts-length}
 use Rattle.format.proofs.Sizes.{codeOf}
 use Rattle.format.proofs.Counters.{behind}
+
+pub map-append : {A : Type 0} (f : A → ℕ) (xs ys : List A) → map f (xs ++ ys) ≡ map f xs ++ map f ys
+map-append f [] ys = refl
+map-append f (x ∷ xs) ys = ap (λ (l : List ℕ). f x ∷ l) (map-append f xs ys)
 
 -- merge bytes one by one
 pub valid-step : (row : List ℕ) (i : ℕ) → i < length row → allValid (drop i row) ≡ (valid 3 (getD row i 0) && allValid (drop (i + 1) row))

@@ -1,7 +1,7 @@
 -- Groups where nothing is merged, written 32 slots at a time.
 use mathlib.Core.Path.{_≡_, refl, sym, ap, ap₂, _∙_}
 use mathlib.Core.Bool.{true}
-use mathlib.Core.List.{List, [], _∷_, _++_, map}
+use mathlib.Core.List.{List, _∷_, _++_, map}
 use Prim.Native.Nat.{ℕ, zero, suc, _+_, _*_, _≤_, _<_}
 use native.Mathlib.Nat.{add-zero, add-assoc, add-comm}
 use native.Mathlib.Numerals.{add-one}
@@ -18,11 +18,7 @@ use Rattle.geometry.proofs.Lists.{bytes-drop, bytes-take}
 use Rattle.format.specs.Image.{word, layoutKind, countKind, groupWords, groupsWords, layoutAt, fourWords}
 use Rattle.format.specs.Write.{allValid, groupSize}
 use Rattle.format.proofs.Plain.{plain-words, size-none}
-use Rattle.writer.proofs.Laws.{layout-is, group-length, valid-step}
-
-map-append : (f : ℕ → ℕ) (xs ys : List ℕ) → map f (xs ++ ys) ≡ map f xs ++ map f ys
-map-append f [] ys = refl
-map-append f (x ∷ xs) ys = ap (λ (l : List ℕ). f x ∷ l) (map-append f xs ys)
+use Rattle.writer.proofs.Laws.{map-append, layout-is, group-length, valid-step}
 
 pub plain-groups : (n g w : ℕ) (row : List ℕ) → Bytes row → 8 * g + 8 * n ≤ length row → ((i : ℕ) → i < n → getD row (w + (g + i)) 0 ≡ 0)
     → groupsWords n g w row ≡ map (word countKind) (take (8 * n) (drop (8 * g) row))

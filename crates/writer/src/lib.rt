@@ -9,7 +9,7 @@ use group::Group;
 ghost use mathlib.Core.Path.{_≡_};
 ghost use mathlib.Core.Bool.{true, false, cond, _&&_};
 ghost use mathlib.Core.List.{_∷_, _++_, map};
-ghost use Prim.Native.Nat.{ℕ, _+_, _*_, _/_, _%_, _<_, _≤_};
+ghost use Prim.Native.Nat.{ℕ, _+_, _*_, _/_, _%_, _^_, _<_, _≤_};
 ghost use lib.Dec.{ltb};
 ghost use lib.ListN.{length, getD, take, drop};
 ghost use lib.Seq.{sets};
@@ -19,6 +19,7 @@ ghost use Rattle.geometry.specs.Geometry.{RowsIn};
 ghost use Rattle.format.specs.Image as spec;
 ghost use Rattle.format.specs.Image.{layoutKind, countKind, parts, groupWords, groupsWords, layoutAt, fourWords, rowWords, rowsWords, image};
 ghost use Rattle.format.specs.Write.{allValid, validRows, groupSize};
+ghost use Rattle.format.specs.Fields.{Described, Fields};
 
 // Whether four bytes are there and all are 0.
 fn clear(row: &[u8], at: usize) -> bool
@@ -169,15 +170,64 @@ fn put_group(words: &mut [u32], p: usize, g: Group) -> usize
     at
 }
 
+// So many bits of a number, from a place on.
+fn field(x: u64, place: u8, bits: u8) -> u32
+    requires { ⌜ place < 64 ⌝ ∗ ⌜ bits ≤ 24 ⌝ }
+    ensures { λ r. ⌜ r ≡ x / 2 ^ place % 2 ^ bits ⌝ }
+    ensures { λ r. ⌜ r < 2 ^ 24 ⌝ }
+{
+    ((x >> (place as u32)) & ((1u64 << (bits as u32)) - 1)) as u32
+}
+
+// The words of a valid group's counters, by the description of its layout, which has code c.
+fn put_fields(words: &mut [u32], p: usize, g: Group, fields: &[u8], c: usize) -> usize
+    requires { ⌜ p + groupSize (g .merge) ≤ length (now words) ⌝ ∗ ⌜ valid 3 (g .merge) ≡ true ⌝ ∗ ⌜ 17 * c + 17 ≤ length (now fields) ⌝ ∗ ⌜ Described (g .merge) (now fields) (17 * c) ⌝ }
+    ensures { λ r. ⌜ r ≡ p + groupSize (g .merge) ⌝ }
+    ensures { λ _. ⌜ now (words .exit) ≡ sets (now (words .entry)) p (groupWords g) ⌝ }
+{
+    let at = 17 * c;
+    let n = fields[at] as usize;
+    let counts = g.counts;
+    let x = bytes::number_of(counts);
+    for i in 0..n {
+        let part = field(x, fields[at + 1 + i], fields[at + 9 + i]);
+        words[p + i] = word(format::COUNT, part);
+    }
+    p + n
+}
+
+// The words of a group's counters: by the description of its layout, if there is one.
+fn put_any(words: &mut [u32], p: usize, g: Group, codes: &[u8], fields: &[u8]) -> usize
+    requires { ⌜ p + groupSize (g .merge) ≤ length (now words) ⌝ ∗ ⌜ ((m : ℕ) → m < length (now codes) → getD (now codes) m 0 ≡ cond (valid 3 m) (mergeCode m) 26) ⌝ ∗ ⌜ Fields (now fields) ⌝ }
+    ensures { λ r. ⌜ r ≡ p + groupSize (g .merge) ⌝ }
+    ensures { λ _. ⌜ now (words .exit) ≡ sets (now (words .entry)) p (groupWords g) ⌝ }
+{
+    if fields.len() == 442 {
+        let c = code_at(codes, g.merge) as usize;
+        if c < 26 {
+            return put_fields(words, p, g, fields, c);
+        }
+    }
+    put_group(words, p, g)
+}
+
 // The words of the counters of four groups, from group g on.
-fn put_groups(words: &mut [u32], p: usize, row: &[u8], w: usize, g: usize) -> usize
-    requires { ⌜ 8 * g + 32 ≤ w ⌝ ∗ ⌜ w + g + 4 ≤ length (now row) ⌝ ∗ ⌜ p + length (groupsWords 4 g w (now row)) ≤ length (now words) ⌝ }
+fn put_groups(
+    words: &mut [u32],
+    p: usize,
+    row: &[u8],
+    w: usize,
+    g: usize,
+    codes: &[u8],
+    fields: &[u8],
+) -> usize
+    requires { ⌜ 8 * g + 32 ≤ w ⌝ ∗ ⌜ w + g + 4 ≤ length (now row) ⌝ ∗ ⌜ p + length (groupsWords 4 g w (now row)) ≤ length (now words) ⌝ ∗ ⌜ ((m : ℕ) → m < length (now codes) → getD (now codes) m 0 ≡ cond (valid 3 m) (mergeCode m) 26) ⌝ ∗ ⌜ Fields (now fields) ⌝ }
     ensures { λ r. ⌜ r ≡ p + length (groupsWords 4 g w (now (row .entry))) ⌝ }
     ensures { λ _. ⌜ now (words .exit) ≡ sets (now (words .entry)) p (groupsWords 4 g w (now (row .entry))) ⌝ }
 {
     let mut at = p;
     for i in 0..4 {
-        at = put_group(words, at, load(row, w, g + i));
+        at = put_any(words, at, load(row, w, g + i), codes, fields);
     }
     at
 }
@@ -233,18 +283,34 @@ fn put_clear(words: &mut [u32], p: usize, row: &[u8], g: usize)
 }
 
 // The words of 32 slots, from group g on, by group.
-fn put_mixed(words: &mut [u32], p: usize, row: &[u8], w: usize, g: usize, codes: &[u8]) -> usize
-    requires { ⌜ 8 * g + 32 ≤ w ⌝ ∗ ⌜ w + g + 4 ≤ length (now row) ⌝ ∗ ⌜ p + length (fourWords w (now row) g) ≤ length (now words) ⌝ ∗ ⌜ ((m : ℕ) → m < length (now codes) → getD (now codes) m 0 ≡ cond (valid 3 m) (mergeCode m) 26) ⌝ }
+fn put_mixed(
+    words: &mut [u32],
+    p: usize,
+    row: &[u8],
+    w: usize,
+    g: usize,
+    codes: &[u8],
+    fields: &[u8],
+) -> usize
+    requires { ⌜ 8 * g + 32 ≤ w ⌝ ∗ ⌜ w + g + 4 ≤ length (now row) ⌝ ∗ ⌜ p + length (fourWords w (now row) g) ≤ length (now words) ⌝ ∗ ⌜ ((m : ℕ) → m < length (now codes) → getD (now codes) m 0 ≡ cond (valid 3 m) (mergeCode m) 26) ⌝ ∗ ⌜ Fields (now fields) ⌝ }
     ensures { λ r. ⌜ r ≡ p + length (fourWords w (now (row .entry)) g) ⌝ }
     ensures { λ _. ⌜ now (words .exit) ≡ sets (now (words .entry)) p (fourWords w (now (row .entry)) g) ⌝ }
 {
     words[p] = word(format::LAYOUT, layout_at(row, w, g, codes));
-    put_groups(words, p + 1, row, w, g)
+    put_groups(words, p + 1, row, w, g, codes, fields)
 }
 
 // The words of 32 slots, from group g on.
-fn put_four(words: &mut [u32], p: usize, row: &[u8], w: usize, g: usize, codes: &[u8]) -> usize
-    requires { ⌜ 8 * g + 32 ≤ w ⌝ ∗ ⌜ w + g + 4 ≤ length (now row) ⌝ ∗ ⌜ p + length (fourWords w (now row) g) ≤ length (now words) ⌝ ∗ ⌜ ((m : ℕ) → m < length (now codes) → getD (now codes) m 0 ≡ cond (valid 3 m) (mergeCode m) 26) ⌝ }
+fn put_four(
+    words: &mut [u32],
+    p: usize,
+    row: &[u8],
+    w: usize,
+    g: usize,
+    codes: &[u8],
+    fields: &[u8],
+) -> usize
+    requires { ⌜ 8 * g + 32 ≤ w ⌝ ∗ ⌜ w + g + 4 ≤ length (now row) ⌝ ∗ ⌜ p + length (fourWords w (now row) g) ≤ length (now words) ⌝ ∗ ⌜ ((m : ℕ) → m < length (now codes) → getD (now codes) m 0 ≡ cond (valid 3 m) (mergeCode m) 26) ⌝ ∗ ⌜ Fields (now fields) ⌝ }
     ensures { λ r. ⌜ r ≡ p + length (fourWords w (now (row .entry)) g) ⌝ }
     ensures { λ _. ⌜ now (words .exit) ≡ sets (now (words .entry)) p (fourWords w (now (row .entry)) g) ⌝ }
 {
@@ -252,41 +318,49 @@ fn put_four(words: &mut [u32], p: usize, row: &[u8], w: usize, g: usize, codes: 
         put_clear(words, p, row, g);
         return p + 33;
     }
-    put_mixed(words, p, row, w, g, codes)
+    put_mixed(words, p, row, w, g, codes, fields)
 }
 
 // The words of a row.
-fn put_row(words: &mut [u32], p: usize, row: &[u8], w: usize, codes: &[u8]) -> usize
-    requires { ⌜ w + w / 8 ≤ length (now row) ⌝ ∗ ⌜ w ≤ 65536 ⌝ ∗ ⌜ p + length (rowWords (w / 32) 0 w (now row)) ≤ length (now words) ⌝ ∗ ⌜ ((m : ℕ) → m < length (now codes) → getD (now codes) m 0 ≡ cond (valid 3 m) (mergeCode m) 26) ⌝ }
+fn put_row(words: &mut [u32], p: usize, row: &[u8], w: usize, codes: &[u8], fields: &[u8]) -> usize
+    requires { ⌜ w + w / 8 ≤ length (now row) ⌝ ∗ ⌜ w ≤ 65536 ⌝ ∗ ⌜ p + length (rowWords (w / 32) 0 w (now row)) ≤ length (now words) ⌝ ∗ ⌜ ((m : ℕ) → m < length (now codes) → getD (now codes) m 0 ≡ cond (valid 3 m) (mergeCode m) 26) ⌝ ∗ ⌜ Fields (now fields) ⌝ }
     ensures { λ r. ⌜ r ≡ p + length (rowWords (w / 32) 0 w (now (row .entry))) ⌝ }
     ensures { λ _. ⌜ now (words .exit) ≡ sets (now (words .entry)) p (rowWords (w / 32) 0 w (now (row .entry))) ⌝ }
 {
     let mut at = p;
     for i in 0..w / 32 {
-        at = put_four(words, at, row, w, 4 * i, codes);
+        at = put_four(words, at, row, w, 4 * i, codes, fields);
     }
     at
 }
 
 // The words of d rows.
-fn put_rows(words: &mut [u32], p: usize, memory: &[u8], d: usize, w: usize, codes: &[u8]) -> usize
-    requires { ⌜ RowsIn d w (length (now memory)) ⌝ ∗ ⌜ p + length (rowsWords d w (now memory)) ≤ length (now words) ⌝ ∗ ⌜ ((m : ℕ) → m < length (now codes) → getD (now codes) m 0 ≡ cond (valid 3 m) (mergeCode m) 26) ⌝ }
+fn put_rows(
+    words: &mut [u32],
+    p: usize,
+    memory: &[u8],
+    d: usize,
+    w: usize,
+    codes: &[u8],
+    fields: &[u8],
+) -> usize
+    requires { ⌜ RowsIn d w (length (now memory)) ⌝ ∗ ⌜ p + length (rowsWords d w (now memory)) ≤ length (now words) ⌝ ∗ ⌜ ((m : ℕ) → m < length (now codes) → getD (now codes) m 0 ≡ cond (valid 3 m) (mergeCode m) 26) ⌝ ∗ ⌜ Fields (now fields) ⌝ }
     ensures { λ r. ⌜ r ≡ p + length (rowsWords d w (now (memory .entry))) ⌝ }
     ensures { λ _. ⌜ now (words .exit) ≡ sets (now (words .entry)) p (rowsWords d w (now (memory .entry))) ⌝ }
 {
     let mut at = p;
     for r in 0..d {
-        at = put_row(words, at, row_at(w, memory, r), w, codes);
+        at = put_row(words, at, row_at(w, memory, r), w, codes, fields);
     }
     at
 }
 
 // The whole image.
-pub fn put_image(words: &mut [u32], memory: &[u8], d: usize, w: usize, codes: &[u8])
-    requires { ⌜ RowsIn d w (length (now memory)) ⌝ ∗ ⌜ length (image d w (now memory)) ≤ length (now words) ⌝ ∗ ⌜ ((m : ℕ) → m < length (now codes) → getD (now codes) m 0 ≡ cond (valid 3 m) (mergeCode m) 26) ⌝ }
+pub fn put_image(words: &mut [u32], memory: &[u8], d: usize, w: usize, codes: &[u8], fields: &[u8])
+    requires { ⌜ RowsIn d w (length (now memory)) ⌝ ∗ ⌜ length (image d w (now memory)) ≤ length (now words) ⌝ ∗ ⌜ ((m : ℕ) → m < length (now codes) → getD (now codes) m 0 ≡ cond (valid 3 m) (mergeCode m) 26) ⌝ ∗ ⌜ Fields (now fields) ⌝ }
     ensures { λ _. ⌜ now (words .exit) ≡ image d w (now (memory .entry)) ++ drop (length (image d w (now (memory .entry)))) (now (words .entry)) ⌝ }
 {
     words[0] = word(word::HEAD, log_width(w) * 16 + d as u32);
-    let end = put_rows(words, 1, memory, d, w, codes);
+    let end = put_rows(words, 1, memory, d, w, codes, fields);
     words[end] = word(word::END, (end % 268435456) as u32);
 }

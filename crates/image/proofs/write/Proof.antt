@@ -12,6 +12,7 @@ use Rattle.geometry.specs.Geometry.{RowsIn}
 use Rattle.geometry.proofs.Widths.{shape-good, stride-is}
 use Rattle.geometry.proofs.Lists.{one-row}
 use Rattle.format.proofs.Sizes.{table-part, codeOf}
+use Rattle.format.proofs.Fields.{fields-part}
 use borrow.Author.Needs.{needs}
 use Rattle.image.proofs.write.Statement.{statement}
 use Rattle.image.proofs.write.Tie as tie
@@ -84,6 +85,12 @@ returns-3 c = let a = c .before .before .before .before .before .before .before 
 code-table-requires : tie.Need-code-table-requires
 code-table-requires c κs = search needs
 
+mul-m : tie.Need-mul-m
+mul-m c = search needs
+
+field-table-requires : tie.Need-field-table-requires
+field-table-requires c κs = search needs
+
 sub-put-image : tie.Need-sub-put-image
 sub-put-image c = search needs
 
@@ -93,10 +100,23 @@ part-put-image-start c = search needs
 part-put-image-end : tie.Need-part-put-image-end
 part-put-image-end c = search needs
 
+mul-put-image : tie.Need-mul-put-image
+mul-put-image c = search needs
+
+sub-put-image-2 : tie.Need-sub-put-image-2
+sub-put-image-2 c = search needs
+
+part-put-image-start-2 : tie.Need-part-put-image-start-2
+part-put-image-start-2 c = search needs
+
+part-put-image-end-2 : tie.Need-part-put-image-end-2
+part-put-image-end-2 c = search needs
+
 put-image-requires : tie.Need-put-image-requires
-put-image-requires c κs = let a = c .before .before .before .before .before .before .before .before .before .before .before .before .before .before .before .before .args in
-    let t = c .before .before .before .code-table in
-    (shape (c .before .before .before .before .before .before .before .before .before .before .before .before) .1, (omega (arith, image-length (a .d) (a .w) (a .memory .now), c .before .before .before .before .before .rows-size .ensures .0), table-part codeOf (t .result) (c .before .before .before .before .before .before .before .before .before .table-size .result) (t .ensures)))
+put-image-requires c κs = let a = c .before .before .before .before .before .before .before .before .before .before .before .before .before .before .before .before .before .before .before .args in
+    let t = c .before .before .before .before .before .before .code-table in
+    let f = c .before .before .before .before .before .field-table in
+    (shape (c .before .before .before .before .before .before .before .before .before .before .before .before .before .before .before) .1, (omega (arith, image-length (a .d) (a .w) (a .memory .now), c .before .before .before .before .before .before .before .before .rows-size .ensures .0), (table-part codeOf (t .result) (c .before .before .before .before .before .before .before .before .before .before .before .before .table-size .result) (t .ensures), fields-part (f .result) _ (f .ensures))))
 
 accepted-requires : tie.Need-accepted-requires
 accepted-requires c κs = search needs
@@ -105,11 +125,11 @@ same-length : tie.Need-same-length
 same-length c = search needs
 
 returns-4 : tie.Need-returns-4
-returns-4 c = let a = c .before .before .before .before .before .before .before .before .before .before .before .before .before .before .before .before .before .before .before .before .args in
-    let s = c .before .before .before .before .before .before .before .before .before .before .before .before .before .before .before .before .before .bad-shape in
-    let z = c .before .before .before .before .before .before .before .before .before .before .before .before .before .before .before .before .if1 .left in
-    let v = sym (c .before .before .before .before .before .before .before .before .before .before .before .before .before .before .before .rows-valid .ensures) ∙ not-false _ (c .before .before .before .before .before .before .before .before .before .before .before .before .before .before .if2 .left) in
-    let n : c .before .before .before .before .before .before .before .before .before .rows-size .result + 2 ≡ length (image (a .d) (a .w) (a .memory .now)) = omega (arith, image-length (a .d) (a .w) (a .memory .now), c .before .before .before .before .before .before .before .before .before .rows-size .ensures .0) in
+returns-4 c = let a = c .before .before .before .before .before .before .before .before .before .before .before .before .before .before .before .before .before .before .before .before .before .before .before .args in
+    let s = c .before .before .before .before .before .before .before .before .before .before .before .before .before .before .before .before .before .before .before .before .bad-shape in
+    let z = c .before .before .before .before .before .before .before .before .before .before .before .before .before .before .before .before .before .before .before .if1 .left in
+    let v = sym (c .before .before .before .before .before .before .before .before .before .before .before .before .before .before .before .before .before .before .rows-valid .ensures) ∙ not-false _ (c .before .before .before .before .before .before .before .before .before .before .before .before .before .before .before .before .before .if2 .left) in
+    let n : c .before .before .before .before .before .before .before .before .before .before .before .before .rows-size .result + 2 ≡ length (image (a .d) (a .w) (a .memory .now)) = omega (arith, image-length (a .d) (a .w) (a .memory .now), c .before .before .before .before .before .before .before .before .before .before .before .before .rows-size .ensures .0) in
     let e = write-done (a .d) (a .w) (a .memory .now) (a .words .now) (s .result) (s .ensures) z v (omega (arith, n)) in
     (c .accepted .ensures ∙ ap accepted n ∙ ap (λ (x : Written). x .answer) (sym e), c .before .before .before .put-image .ensures ∙ ap (λ (x : Written). x .words) (sym e))
 
@@ -133,9 +153,15 @@ write-spec =
     rejected-requires-3
     returns-3
     code-table-requires
+    mul-m
+    field-table-requires
     sub-put-image
     part-put-image-start
     part-put-image-end
+    mul-put-image
+    sub-put-image-2
+    part-put-image-start-2
+    part-put-image-end-2
     put-image-requires
     accepted-requires
     same-length

@@ -15,7 +15,7 @@ clear-requires : tie.Need-clear-requires
 clear-requires c κs = search needs
 
 put-clear-requires : tie.Need-put-clear-requires
-put-clear-requires c κs = let a = c .before .before .before .before .before .before .args in
+put-clear-requires c κs = let a = c .before .before .before .before .before .before .before .args in
     let z = c .before .before .clear .ensures (c .before .if1 .taken) .1 in
     (omega arith, omega (arith, four-length (a .w) (a .row .now) (a .g), clear-size (a .w) (a .g) (a .row .now) z))
 
@@ -26,10 +26,10 @@ same-length : tie.Need-same-length
 same-length c = search needs
 
 returns : tie.Need-returns
-returns c = let a = c .before .before .before .before .before .before .before .before .before .args in
+returns c = let a = c .before .before .before .before .before .before .before .before .before .before .args in
     let b = c .before .before .before .before .before in
     let z = b .clear .ensures (c .before .before .before .before .if1 .taken) .1 in
-    let t : Bytes (a .row .now) = λ i. b .before .before .shared-slice-known .given i .fits in (
+    let t : Bytes (a .row .now) = λ i. b .before .before .before .shared-slice-known .given i .fits in (
       omega (arith, four-length (a .w) (a .row .now) (a .g), clear-size (a .w) (a .g) (a .row .now) z),
       c .before .before .put-clear .ensures ∙ ap (sets (a .words .now) (a .p)) (sym (clear-words (a .w) (a .g) (a .row .now) t (omega arith) z)),
     )

@@ -26,15 +26,15 @@ word-requires : tie.Need-word-requires
 word-requires c κs = search needs
 
 slice-write-words : tie.Need-slice-write-words
-slice-write-words c = let a = c .before .before .before .before .before .args in
+slice-write-words c = let a = c .before .before .before .before .before .before .args in
     omega (arith, image-length (a .d) (a .w) (a .memory .now))
 
 put-rows-requires : tie.Need-put-rows-requires
-put-rows-requires c κs = let a = c .before .before .before .before .before .before .args in
-    (c .before .before .before .before .before .before .pre .0, (rw (length-set (a .words .now) 0 (c .before .word .result)) (omega (arith, image-length (a .d) (a .w) (a .memory .now))), c .before .before .before .before .before .before .pre .1 .1))
+put-rows-requires c κs = let a = c .before .before .before .before .before .before .before .args in
+    (c .before .before .before .before .before .before .before .pre .0, (rw (length-set (a .words .now) 0 (c .before .word .result)) (omega (arith, image-length (a .d) (a .w) (a .memory .now))), c .before .before .before .before .before .before .before .pre .1 .1))
 
-kept : (c : tie.After-slice-known2) → length (c .before .before .put-rows .last .0) ≡ length (c .before .before .before .before .before .before .before .before .before .args .words .now)
-kept c = let a = c .before .before .before .before .before .before .before .before .before .args in
+kept : (c : tie.After-slice-known2) → length (c .before .before .put-rows .last .0) ≡ length (c .before .before .before .before .before .before .before .before .before .before .args .words .now)
+kept c = let a = c .before .before .before .before .before .before .before .before .before .before .args in
     omega (arith, length-set (a .words .now) 0 (c .before .before .before .before .word .result))
 
 cast-word-2 : tie.Need-cast-word-2
@@ -44,11 +44,11 @@ word-requires-2 : tie.Need-word-requires-2
 word-requires-2 c κs = search needs
 
 mul-words : tie.Need-mul-words
-mul-words c = let a = c .before .before .before .before .before .before .before .before .before .before .args in
+mul-words c = let a = c .before .before .before .before .before .before .before .before .before .before .before .args in
     let k = kept (c .before) in omega (arith, image-length (a .d) (a .w) (a .memory .now), c .before .before .before .put-rows .ensures .0)
 
 slice-write-words-2 : tie.Need-slice-write-words-2
-slice-write-words-2 c = let a = c .before .before .before .before .before .before .before .before .before .before .args in
+slice-write-words-2 c = let a = c .before .before .before .before .before .before .before .before .before .before .before .args in
     let k = kept (c .before) in omega (arith, image-length (a .d) (a .w) (a .memory .now), c .before .before .before .put-rows .ensures .0)
 
 same-length : tie.Need-same-length
@@ -56,7 +56,7 @@ same-length c = length-set (c .before .before .before .put-rows .last .0) (c .be
 
 returns : tie.Need-returns
 unfolding headPayload endWord
-returns c = let a = c .before .before .before .before .before .before .before .before .before .before .args in
+returns c = let a = c .before .before .before .before .before .before .before .before .before .before .before .args in
     let s = c .before .before .before .put-rows in
     ap (λ (x : List ℕ). set x (s .result) (c .word2 .result)) (s .ensures .1)
     ∙ image-put (a .d) (a .w) (a .memory .now) (a .words .now) (c .before .before .before .before .before .word .result) (c .word2 .result) (s .result) (omega arith)

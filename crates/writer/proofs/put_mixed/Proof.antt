@@ -20,23 +20,24 @@ mul-words : tie.Need-mul-words
 mul-words c = search needs
 
 slice-write-words : tie.Need-slice-write-words
-slice-write-words c = let a = c .before .before .before .before .before .args in omega (arith, four-length (a .w) (a .row .now) (a .g))
+slice-write-words c = let a = c .before .before .before .before .before .before .args in omega (arith, four-length (a .w) (a .row .now) (a .g))
 
 add-put-groups : tie.Need-add-put-groups
-add-put-groups c = let a = c .before .before .before .before .before .before .args in omega (arith, four-length (a .w) (a .row .now) (a .g))
+add-put-groups c = let a = c .before .before .before .before .before .before .before .args in omega (arith, four-length (a .w) (a .row .now) (a .g))
 
 put-groups-requires : tie.Need-put-groups-requires
-put-groups-requires c κs = let a = c .before .before .before .before .before .before .args in
-    (omega arith, (omega arith, rw (length-set (a .words .now) (a .p) (c .before .word .result)) (omega (arith, four-length (a .w) (a .row .now) (a .g)))))
+put-groups-requires c κs = let s = c .before .before .before .before .before .before .before in
+    let a = s .args in
+    (omega arith, (omega arith, (rw (length-set (a .words .now) (a .p) (c .before .word .result)) (omega (arith, four-length (a .w) (a .row .now) (a .g))), s .pre .1 .1 .1)))
 
 same-length : tie.Need-same-length
-same-length c = let a = c .before .before .before .before .before .before .before .before .before .args in
+same-length c = let a = c .before .before .before .before .before .before .before .before .before .before .args in
     let s = c .before .before .put-groups in
     ap length (s .ensures .1) ∙ length-sets (set (a .words .now) (a .p) (c .before .before .before .before .word .result)) (a .p + 1) (groupsWords 4 (a .g) (a .w) (a .row .now)) ∙ length-set (a .words .now) (a .p) (c .before .before .before .before .word .result)
 
 returns : tie.Need-returns
 unfolding fourWords
-returns c = let a = c .before .before .before .before .before .before .before .before .before .args in
+returns c = let a = c .before .before .before .before .before .before .before .before .before .before .args in
     let s = c .before .before .put-groups in
     let x : c .before .before .before .before .word .result ≡ word layoutKind (layoutAt (a .w) (a .row .now) (a .g)) = c .before .before .before .before .word .ensures ∙ ap (word layoutKind) (c .before .before .before .before .before .layout-at .ensures .0) in (
       omega (arith, four-length (a .w) (a .row .now) (a .g), s .ensures .0),

@@ -16,22 +16,22 @@ use Rattle.writer.proofs.put_rows.Statement.{statement}
 use Rattle.writer.proofs.put_rows.Tie as tie
 
 abbrev Inv-loop : tie.InvT-loop
-Inv-loop words₀ p memory d w codes at₀ r₀ words at r = (r ≤ d) × (at + length (rowsWords (d - r) w (drop (r * stride w) memory)) ≡ p + length (rowsWords d w memory)) × (length words ≡ length words₀) × (sets words at (rowsWords (d - r) w (drop (r * stride w) memory)) ≡ sets words₀ p (rowsWords d w memory))
+Inv-loop words₀ p memory d w codes fields at₀ r₀ words at r = (r ≤ d) × (at + length (rowsWords (d - r) w (drop (r * stride w) memory)) ≡ p + length (rowsWords d w memory)) × (length words ≡ length words₀) × (sets words at (rowsWords (d - r) w (drop (r * stride w) memory)) ≡ sets words₀ p (rowsWords d w memory))
 
 abbrev μ-loop : tie.MeasureT-loop
-μ-loop words₀ p memory d w codes at₀ r₀ words at r = d - r
+μ-loop words₀ p memory d w codes fields at₀ r₀ words at r = d - r
 
 loop-holds : tie.Need-loop-holds Inv-loop μ-loop
-loop-holds c = let a = c .before .before .before .args in
+loop-holds c = let a = c .before .before .before .before .args in
     let e = ap₂ (λ (n k : ℕ). rowsWords n (a .w) (drop k (a .memory .now))) (sub-zero (a .d)) (zero-mul (stride (a .w))) in
     (omega arith, ap (λ (x : List ℕ). a .p + length x) e, refl, ap (sets (a .words .now) (a .p)) e)
 
 row-at-requires : tie.Need-row-at-requires Inv-loop μ-loop
-row-at-requires c κs = one-row _ _ _ (c .before .before .before .before .before .before .pre .0) (c .before .loop-test .taken)
+row-at-requires c κs = one-row _ _ _ (c .before .before .before .before .before .before .before .pre .0) (c .before .loop-test .taken)
 
 put-row-requires : tie.Need-put-row-requires Inv-loop μ-loop
 put-row-requires c κs = let l = c .before .before .before .loop in
-    let s = c .before .before .before .before .before .before .before in (
+    let s = c .before .before .before .before .before .before .before .before in (
       omega (arith, c .row-at .ensures .1, stride-is (s .args .w)),
       (
         width-is _ (s .pre .0 .0) .most,
@@ -47,7 +47,7 @@ loop-less c = search needs
 
 loop-again : tie.Need-loop-again Inv-loop μ-loop
 loop-again c = let l = c .before .before .before .before .before .before .loop in
-    let a = c .before .before .before .before .before .before .before .before .before .before .args in
+    let a = c .before .before .before .before .before .before .before .before .before .before .before .args in
     let s = c .before .before .put-row in
     let row = rowWords (a .w / 32) 0 (a .w) (take (stride (a .w)) (drop (l .r * stride (a .w)) (a .memory .now))) in
     let e = ap (rowWords (a .w / 32) 0 (a .w)) (c .before .before .before .row-at .ensures .0) in
@@ -64,7 +64,7 @@ same-length c = search needs
 
 returns : tie.Need-returns Inv-loop μ-loop
 returns c = let l = c .before .loop in
-    let a = c .before .before .before .before .before .args in
+    let a = c .before .before .before .before .before .before .args in
     let e = rows-none (a .d - l .r) (a .w) (drop (l .r * stride (a .w)) (a .memory .now)) (omega arith) in
     (omega (arith, ap length e), sym (ap (sets (l .words) (l .at)) e) ∙ l .inv .3)
 
