@@ -2,7 +2,7 @@
 use mathlib.Core.Path.{_≡_, refl, sym, ap, _∙_}
 use mathlib.Core.Bool.{Bool, true, false, cond}
 use mathlib.Core.List.{List}
-use Prim.Native.Nat.{ℕ, zero, suc, _+_, _-_, _^_, _≤_, _<_}
+use Prim.Native.Nat.{ℕ, zero, suc, _≤_}
 use native.Mathlib.Decide.{decLt}
 use native.Mathlib.Omega.{arith}
 use lib.Dec.{eqb}
@@ -10,58 +10,17 @@ use lib.ListN.{length}
 use Rattle.group.specs.declared.Answer.{Answer}
 use Rattle.geometry.specs.Order.{badShape, answerOf, finish}
 use Rattle.meter.specs.Meter.{updated, estimated}
-use Rattle.word.specs.declared.Step.{Step}
-use Rattle.word.specs.Word.{go, stop, next, isDue, tested, below}
-use Rattle.word.proofs.Laws.{due-in}
-use Rattle.feed.specs.declared.words.Opening.{Opening}
-use Rattle.feed.specs.declared.words.Opening.the-variants as opening
-use Rattle.feed.specs.declared.words.Body.the-variants as body
+use Rattle.records.specs.declared.Opening.{Opening}
+use Rattle.records.specs.declared.Opening.the-variants as opening
+use Rattle.records.specs.declared.Body.the-variants as body
 use Rattle.feed.specs.declared.Recorded.{Recorded}
 use Rattle.feed.specs.declared.Recorded.the-variants as case
 use Rattle.feed.specs.Answers.{recordAnswer}
-use Rattle.feed.specs.Words.{opened, keyWords, keyWord, checkKey, checkAmount, keyOf, amountOf, updateStep, queryStep, bodyOf, updateBody, queryBody}
+use Rattle.records.specs.Words.{opened, keyWords, keyOf, amountOf, updateStep, queryStep, bodyOf, updateBody, queryBody}
 use Rattle.feed.specs.Record.{Carried, outcomeOf, carriedUpdate, queried, carried, carriedAfter, recorded}
+use Rattle.records.proofs.Places.{key-in, update-in, missing}
 
--- a step inside so many words
-abbrev In : ℕ → Step → Type 0
-In n s = s .position ≤ n
-
-tested-in : (words : List ℕ) (p kind : ℕ) (holds : Bool) (line : ℕ) → p ≤ length words → In (length words) (tested words p kind holds line)
-unfolding tested
-tested-in words p kind holds line h = due (isDue words p kind) refl
-  where
-    passed : (t : Bool) → p < length words → In (length words) (cond t (go (p + 1)) (stop line p))
-    passed true l = omega arith
-    passed false l = h
-
-    due : (t : Bool) → isDue words p kind ≡ t → In (length words) (cond t (cond holds (go (p + 1)) (stop line p)) (stop 8 p))
-    due true e = passed holds (due-in words p kind e)
-    due false e = h
-
-next-in : (n : ℕ) (s : Step) (f : ℕ → Step) → In n s → ((q : ℕ) → q ≤ n → In n (f q)) → In n (next s f)
-unfolding next
-next-in n s f h k = test (eqb (s .status) 0)
-  where
-    test : (t : Bool) → In n (cond t (f (s .position)) s)
-    test true = k (s .position) h
-    test false = h
-
-key-in : (k n : ℕ) (words : List ℕ) (p : ℕ) → p ≤ length words → In (length words) (checkKey k n words p)
-unfolding checkKey keyWord
-key-in zero n words p h = h
-key-in (suc k) n words p h =
-    next-in (length words) (keyWord n words p) (λ q. checkKey k (n - 3) words q) (tested-in words p _ _ _ h) (λ q l. key-in k (n - 3) words q l)
-
-amount-in : (words : List ℕ) (p : ℕ) → p ≤ length words → In (length words) (checkAmount words p)
-unfolding checkAmount below
-amount-in words p h =
-    next-in (length words) (below words p 8 (2 ^ 16)) (λ q. below words q 8 (2 ^ 16)) (tested-in words p _ _ _ h) (λ q l. tested-in words q _ _ _ l)
-
-update-in : (n : ℕ) (words : List ℕ) → 1 ≤ length words → In (length words) (updateStep n words)
-unfolding updateStep
-update-in n words h = next-in (length words) (checkKey (keyWords n) n words 1) (λ p. checkAmount words p) (key-in (keyWords n) n words 1 h) (λ q l. amount-in words q l)
-
--- the same of a record's outcome
+-- the place of a record's outcome, inside so many words
 abbrev Inside : ℕ → Recorded → Type 0
 Inside n r = recordAnswer r .position ≤ n
 
@@ -102,11 +61,6 @@ carried-in d w memory words (opening.Update n) h = update-place d w memory n wor
 carried-in d w memory words (opening.Query n) h = query-place d w memory n words h
 carried-in d w memory words opening.End h = omega arith
 carried-in d w memory words (opening.Refused s) h = omega arith
-
--- a first word that is missing opens nothing
-missing : (before : ℕ) (words : List ℕ) → length words ≡ 0 → opened before words ≡ opening.Refused 8
-unfolding opened isDue
-missing before words e = rw e
 
 after-in : (s d w : ℕ) (memory : List ℕ) (before : ℕ) (words : List ℕ) → Inside (length words) (carriedAfter s d w memory before words .outcome)
 unfolding carriedAfter carried

@@ -1,4 +1,3 @@
 pub mod Answers
 pub mod Head
-pub mod Words
 pub mod Record

@@ -21,7 +21,7 @@ use Rattle.word.specs.Word as words
 use Rattle.format.specs.Image as image
 use Rattle.format.specs.Write as writing
 use Rattle.format.specs.Read as reading
-use Rattle.feed.specs.Words as records
+use Rattle.records.specs.Words as records
 use Rattle.feed.specs.Record as carrying
 use Rattle.traffic.specs.Traffic as totals
 use Rattle.traffic.specs.Calls as calls

@@ -13,7 +13,7 @@ use Rattle.word.specs.Word.{endKind, payload, isDue}
 use Rattle.feed.specs.declared.Recorded.{Recorded}
 use Rattle.feed.specs.declared.Recorded.the-variants as case
 use Rattle.feed.specs.Answers.{recordAnswer}
-use Rattle.feed.specs.Words.{updateKind, queryKind, opensKey, opened, keyOf, amountOf, updateStep, queryStep, bodyOf, updateBody, queryBody}
+use Rattle.records.specs.Words.{updateKind, queryKind, opensKey, opened, keyOf, amountOf, updateStep, queryStep, bodyOf, updateBody, queryBody}
 use Rattle.feed.specs.Record.{Carried, outcomeOf, carriedUpdate, queried, carried, carriedAfter, recorded}
 use Rattle.format.proofs.Laws.{by-test}
 

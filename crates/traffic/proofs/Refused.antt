@@ -15,7 +15,7 @@ use Rattle.image.proofs.Calls.{read-call, read-faulty, read-done}
 use Rattle.word.specs.Word.{payload}
 use Rattle.feed.specs.declared.Recorded.the-variants as case
 use Rattle.feed.specs.Answers.{recordAnswer}
-use Rattle.feed.specs.Words.{keyOf, amountOf}
+use Rattle.records.specs.Words.{keyOf, amountOf}
 use Rattle.feed.specs.Record.{recorded}
 use Rattle.traffic.specs.Calls.{Call, clear, update, estimate, widest, unite, write, read, feed, done, wordsOf}
 use Rattle.traffic.proofs.Records.{record-cases, outcome-status}

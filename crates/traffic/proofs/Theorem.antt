@@ -21,7 +21,7 @@ use Rattle.image.proofs.Theorems.{restored}
 use Rattle.word.specs.Word.{payload, isDue}
 use Rattle.feed.specs.declared.Recorded.the-variants as case
 use Rattle.feed.specs.Answers.{recordAnswer}
-use Rattle.feed.specs.Words.{updateKind, keyOf, amountOf}
+use Rattle.records.specs.Words.{updateKind, keyOf, amountOf}
 use Rattle.feed.specs.Record.{recorded}
 use Rattle.traffic.specs.Traffic.{Pair}
 use Rattle.traffic.specs.Calls.{Call, clear, update, estimate, widest, unite, write, read, feed, Source, from, raw, Calls, none, then, recordPair, traffic, after, behind, run, done, bytesOf, wordsOf, Faithful, Listed, LeftBy}

@@ -14,7 +14,7 @@ use Rattle.format.specs.Write.{written}
 use Rattle.format.specs.Read.{taken}
 use Rattle.word.specs.Word.{payload, isDue}
 use Rattle.feed.specs.Answers.{recordAnswer}
-use Rattle.feed.specs.Words.{updateKind, keyOf, amountOf}
+use Rattle.records.specs.Words.{updateKind, keyOf, amountOf}
 use Rattle.feed.specs.Record.{recorded}
 use Rattle.traffic.specs.Traffic.{Pair}
 

@@ -1,5 +1,6 @@
 use Rattle.feed.proofs.Places.{all-of}
-use Rattle.feed.proofs.Laws.{is-end, badKeyIn, opened-good, record-good, record-bad}
+use Rattle.records.proofs.Laws.{is-end, badKeyIn, opened-good}
+use Rattle.feed.proofs.Laws.{record-good, record-bad}
 use mathlib.Core.Path.{_≡_, refl, sym, ap, _∙_}
 use lib.ListN.{length}
 use Rattle.geometry.specs.Order.{badShape}

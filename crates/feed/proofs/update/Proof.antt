@@ -6,12 +6,13 @@ use borrow.Author.Needs.{needs}
 use Rattle.group.specs.declared.Answer.{Answer}
 use Rattle.geometry.specs.Order.{Done}
 use Rattle.meter.specs.Meter.{updated}
-use Rattle.feed.specs.declared.words.Body.{Body}
+use Rattle.records.specs.declared.Body.{Body}
 use Rattle.feed.specs.declared.Recorded.the-variants as case
-use Rattle.feed.specs.Answers.{bodyAnswer}
-use Rattle.feed.specs.Words.{updateBody, keyOf}
+use Rattle.records.specs.Answers.{bodyAnswer}
+use Rattle.records.specs.Words.{updateBody, keyOf}
 use Rattle.feed.specs.Record.{Carried, rejection, outcomeOf, carriedUpdate}
-use Rattle.feed.proofs.Laws.{lent, key-short, call-passes, outcome-rejected, outcome-accepted, update-refused}
+use Rattle.records.proofs.Laws.{key-short}
+use Rattle.feed.proofs.Laws.{lent, call-passes, outcome-rejected, outcome-accepted, update-refused}
 use Rattle.feed.proofs.update.Statement.{statement}
 use Rattle.feed.proofs.update.Tie as tie
 
