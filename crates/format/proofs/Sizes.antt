@@ -2,12 +2,11 @@
 use mathlib.Core.Path.{_≡_, refl, sym, ap, _∙_}
 use mathlib.Core.Bool.{Bool, true, false, cond}
 use mathlib.Core.List.{List}
-use Prim.Native.Nat.{ℕ, zero, suc, _+_, _-_, _*_, _/_, _%_, _^_, _≤_, _<_}
+use Prim.Native.Nat.{ℕ, zero, suc, _+_, _-_, _*_, _%_, _^_, _≤_, _<_}
 use native.Mathlib.Nat.{zero-mod, mod-one}
 use native.Mathlib.Omega.{arith}
 use borrow.Author.Tests.{eq-eqb}
 use lib.ListN.{length, getD, take, replicate, length-take}
-use lib.Pow.{pow-mono}
 use lib.Seq.{getD-take}
 use Rattle.layout.specs.Layout.{Layout, valid}
 use Rattle.block.specs.Block.{counterAt}
@@ -62,24 +61,6 @@ invalid-sizes (suc n) k m e = rw (invalid-level m k e, eq-eqb (k % 1) 0 (mod-one
 pub invalid-size : (m : ℕ) → valid 3 m ≡ false → groupSize m ≡ 8
 unfolding groupSize
 invalid-size m e = invalid-sizes 8 0 m e
-
--- a counter has at most three words, and a group eight counters
-slot-size-le : (m k : ℕ) → slotSize m k ≤ 3
-unfolding slotSize wordsOf
-slot-size-le m k = go (isFirst m k)
-  where
-    go : (b : Bool) → cond b ((8 * 2 ^ levelAt m k + 23) / 24) 0 ≤ 3
-    go true = omega (arith, pow-mono {i = levelAt m k} {j = 3} (level-at-le m k))
-    go false = omega arith
-
-slots-size-le : (n k m : ℕ) → slotsSize n k m ≤ 3 * n
-unfolding slotsSize
-slots-size-le zero k m = omega arith
-slots-size-le (suc n) k m = omega (arith, slot-size-le m k, slots-size-le n (k + 1) m)
-
-pub group-size-le : (m : ℕ) → groupSize m ≤ 24
-unfolding groupSize
-group-size-le m = slots-size-le 8 0 m
 
 -- the entries of its first n, lent
 pub table-part : (f : ℕ → ℕ) (t : List ℕ) (n : ℕ) → ((k : ℕ) → k < n → getD t k 0 ≡ f k) → (k : ℕ) → k < length (take (n - 0) t) → getD (take (n - 0) t) k 0 ≡ f k

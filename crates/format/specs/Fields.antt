@@ -35,6 +35,12 @@ groupFields merge = slotsFields 8 0 merge
 unfoldable pub fieldAt : ℕ → ℕ → Field
 fieldAt merge i = getD (groupFields merge) i (record { place = 0; bits = 0 })
 
+-- the bytes of a description at `at` that say the first n of these words
+abbrev pub Told : List Field → ℕ → List ℕ → ℕ → Type 0
+Told fs n t at =
+    (i : ℕ) → i < n
+    → (getD t (at + 1 + i) 0 ≡ getD fs i (record { place = 0; bits = 0 }) .place) × (getD t (at + 9 + i) 0 ≡ getD fs i (record { place = 0; bits = 0 }) .bits)
+
 -- 17 bytes of a table, from `at` on, that describe the words of a group: their number, the place of each, and the bits of each
 abbrev pub Described : ℕ → List ℕ → ℕ → Type 0
 Described merge t at =

@@ -2,14 +2,16 @@
 use group::Group;
 ghost use mathlib.Core.Path.{_≡_};
 ghost use mathlib.Core.Bool.{cond};
+ghost use mathlib.Core.List.{List, _++_};
 ghost use Prim.Native.Nat.{ℕ, _+_, _*_, _^_, _<_, _≤_};
-ghost use lib.ListN.{length, getD};
+ghost use lib.ListN.{length, getD, take, drop};
 ghost use Rattle.layout.specs.Layout.{valid};
-ghost use Rattle.codes.specs.Pack.{mergeCode};
+ghost use Rattle.codes.specs.Pack.{mergeCode, codeMerge};
 ghost use Rattle.format.specs.Image as spec;
 ghost use Rattle.format.specs.Image.{countKind, logWidth, wordsOf, levelAt};
 ghost use Rattle.format.specs.Write.{groupSize};
 ghost use Rattle.format.specs.Read.{firstBits};
+ghost use Rattle.format.specs.Fields.{Field, partFields, Told, Described};
 
 // The kinds of words.
 pub const LAYOUT: u32 = 2;
@@ -164,4 +166,55 @@ pub fn code_at(codes: &[u8], merge: u8) -> u8
         return codes[m];
     }
     code_of(merge)
+}
+
+// The words of a counter described, from word i of a description at `at` on: the counter's lowest bit is at a place, its first word has so
+// many bits and the others 24.
+fn describe_parts(t: &mut [u8], at: usize, i: usize, place: u32, n: u32, bits: u32) -> usize
+    requires { ⌜ at + 17 ≤ length (now t) ⌝ ∗ ⌜ i + n ≤ 8 ⌝ ∗ ⌜ place < 64 ⌝ ∗ ⌜ bits ≤ 24 ⌝ }
+    ensures { λ r. ⌜ r ≡ i + n ⌝ }
+    ensures { λ r. ⌜ take at (now (t .exit)) ≡ take at (now (t .entry)) ⌝ }
+    ensures { λ r. ⌜ ((fs rest : List Field) → drop i fs ≡ partFields n place bits ++ rest → Told fs i (now (t .entry)) at → Told fs (i + n) (now (t .exit)) at) ⌝ }
+{
+    let mut j = i;
+    let mut left = n;
+    let mut b = bits;
+    while left > 0 {
+        left -= 1;
+        t[at + 1 + j] = (place + 24 * left) as u8;
+        t[at + 9 + j] = b as u8;
+        b = 24;
+        j += 1;
+    }
+    j
+}
+
+// The words of a group with this merge byte described in the 17 bytes from `at` on.
+fn describe(t: &mut [u8], at: usize, merge: u8)
+    requires { ⌜ at + 17 ≤ length (now t) ⌝ }
+    ensures { λ _. ⌜ Described merge (now (t .exit)) at ⌝ }
+    ensures { λ _. ⌜ take at (now (t .exit)) ≡ take at (now (t .entry)) ⌝ }
+{
+    let mut i = 0;
+    let mut k = 0;
+    while k < 8 {
+        let level = level_at(merge, k);
+        i = describe_parts(t, at, i, 8 * k as u32, words_of(level), first_bits(level));
+        k += 1 << level;
+    }
+    t[at] = i as u8;
+}
+
+// For each of the first n layout codes a description of a group's words. Where a description has no word its bits stay 31: a reader that
+// tests eight words at once then sees little of the words behind the group's.
+pub fn field_table(n: usize) -> [u8; 442]
+    requires { ⌜ n ≤ 26 ⌝ }
+    ensures { λ r. ⌜ ((c : ℕ) → c < n → Described (codeMerge c) r (17 * c)) ⌝ }
+{
+    let mut t = [31u8; 442];
+    for c in 0..n {
+        let u = codes::unpack(c as u32);
+        describe(&mut t, 17 * c, u.merges[3]);
+    }
+    t
 }

@@ -2,16 +2,10 @@
 use mathlib.Core.Path.{_≡_}
 use mathlib.Core.List.{List, [], _∷_}
 use Prim.Native.Nat.{ℕ, _-_, _/_, _%_, _≤_, _<_}
-use native.Mathlib.Nat.{mod-eq-of-lt}
 use native.Mathlib.Omega.{arith}
 use borrow.Author.Tests.{lt-ltb, le-ltb}
 use lib.ListN.{length, getD}
 use Rattle.codes.specs.Pack.{codeMerge, fourMerges, unpacked}
-
--- the last merge byte of a code below 26
-pub last-merge : (c : ℕ) → c < 26 → getD (unpacked c .merges) 3 0 ≡ codeMerge c
-unfolding unpacked fourMerges
-last-merge c h = rw (lt-ltb c 456976 (omega arith), mod-eq-of-lt {n = c} {m = 26} h)
 
 -- the merge bytes of four groups by a table of all codes
 pub merges-by : (t : List ℕ) (code : ℕ) → ((c : ℕ) → c < length t → getD t c 0 ≡ codeMerge c) → 26 ≤ length t → code < 456976

@@ -1,6 +1,6 @@
 use native.Mathlib.Omega.{arith}
 use borrow.Author.Needs.{needs}
-use Rattle.format.proofs.Sizes.{group-size-le}
+use Rattle.format.proofs.Fields.{size-most}
 use Rattle.format.proofs.size_at.Statement.{statement}
 use Rattle.format.proofs.size_at.Tie as tie
 
@@ -8,11 +8,11 @@ shared-slice-read-result : tie.Need-shared-slice-read-result
 shared-slice-read-result c = search needs
 
 cast-result : tie.Need-cast-result
-cast-result c = let a = c .before .before .before .args in omega (arith, c .before .before .before .pre (a .merge) (c .before .if1 .taken), group-size-le (a .merge))
+cast-result c = let a = c .before .before .before .args in omega (arith, c .before .before .before .pre (a .merge) (c .before .if1 .taken), size-most (a .merge))
 
 returns : tie.Need-returns
 returns c = let a = c .before .before .before .args in
-    let e = c .before .before .before .pre (a .merge) (c .before .if1 .taken) in (e, rw e (group-size-le (a .merge)))
+    let e = c .before .before .before .pre (a .merge) (c .before .if1 .taken) in (e, rw e (omega (arith, size-most (a .merge))))
 
 group-size-requires : tie.Need-group-size-requires
 group-size-requires c κs = search needs

@@ -6,7 +6,7 @@ use lib.ListN.{length, getD, length-set}
 use Rattle.codes.specs.declared.Unpacked.{Unpacked}
 use Rattle.codes.specs.Pack.{codeMerge}
 use Rattle.geometry.proofs.Lists.{filled-more}
-use Rattle.reader.proofs.Layouts.{last-merge}
+use Rattle.format.proofs.Fields.{last-merge}
 use Rattle.reader.proofs.layout_table.Statement.{statement}
 use Rattle.reader.proofs.layout_table.Tie as tie
 
