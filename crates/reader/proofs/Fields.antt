@@ -6,11 +6,12 @@ use Prim.Native.Nat.{ℕ, zero, suc, _+_, _-_, _*_, _/_, _%_, _^_, _≤_, _<_}
 use native.Mathlib.Nat.{add-zero, zero-add, zero-mul, add-mul, mul-assoc, mul-comm, mod-lt, mod-eq-of-lt, div-eq-of-lt, zero-mod, div-add-mod', mul-add-mod-self-right}
 use native.Mathlib.Decide.{decLt}
 use native.Mathlib.Omega.{arith}
-use borrow.Author.Tests.{lt-ltb, eqb-true}
+use borrow.Author.Tests.{lt-ltb, eq-eqb, eqb-true}
 use lib.Arith.{digits-lt}
+use lib.Bits.{bitXor}
 use lib.Dec.{eqb}
 use lib.ListN.{length, getD, replicate}
-use lib.Pow.{pow-pos, pow-add, pow-mono, mod-pow-add, mod-mod-pow, high, low}
+use lib.Pow.{pow-pos, pow-add, pow-mono, mod-pow-add, mod-mod-pow, high, low, split, shl-shr}
 use Rattle.bytes.specs.Bytes.{number, bytes}
 use Rattle.bytes.proofs.Bytes.{number-bytes}
 use Rattle.layout.specs.Layout.{Layout, layout, valid}
@@ -26,11 +27,12 @@ use Rattle.word.specs.Word.{go, next, payload, isDue, tested, below}
 use Rattle.format.specs.Image.{countKind, wordsOf, levelAt, isFirst}
 use Rattle.format.specs.Write.{groupSize}
 use Rattle.format.specs.Read.{checkParts, checkSlot, checkSlots, firstBits, valueFrom, readSlots, readGroup}
-use Rattle.format.specs.Fields.{Field, partFields, slotFields, slotsFields, groupFields, fieldAt}
+use Rattle.format.specs.Fields.{Field, partFields, slotFields, slotsFields, groupFields, fieldAt, Described}
 use Rattle.format.proofs.Laws.{by-test}
 use Rattle.format.proofs.Sizes.{level-at-le}
-use Rattle.format.proofs.Counters.{level-at, behind}
-use Rattle.format.proofs.Fields.{none, parts-size, fields-size, first-bits-is}
+use Rattle.format.proofs.Counters.{level-at}
+use Rattle.format.proofs.Fields.{none, parts-size, fields-size, size-most, field-in, first-bits-is, fields-turn}
+use Rattle.reader.proofs.Plain.{same-from}
 use Rattle.reader.proofs.Steps.{Stands, stands-first, stands-next, reads-step}
 use Rattle.reader.proofs.Digits.{power-step, words-bits}
 
@@ -100,6 +102,31 @@ sound-fields m words p h =
     check-slots-fields 8 0 m words p
     ∙ fields-pass (groupFields m) words p (λ i l. h i (omega (arith, fields-size m)))
     ∙ ap (λ (n : ℕ). go (p + n)) (fields-size m)
+
+-- a word with the bits of a counter's from a place on
+holds-bits : (words : List ℕ) (p b : ℕ) → b ≤ 24 → p < length words → bitXor (getD words p 0) 0x30000000 / 2 ^ b ≡ 0 → Holds words p b
+unfolding isDue payload
+holds-bits words p b h i z =
+    let x = getD words p 0 in
+    let all : 28 ≡ 28 - b + b = omega arith in
+    let kind : 0x30000000 ≡ 3 * 2 ^ (28 - b) * 2 ^ b = ap (λ (n : ℕ). 3 * 2 ^ n) all ∙ ap (λ (n : ℕ). 3 * n) (pow-add 2 (28 - b) b) ∙ sym (mul-assoc 3 (2 ^ (28 - b)) (2 ^ b)) in
+    let e : x / 2 ^ b ≡ 3 * 2 ^ (28 - b) = same-from x 0x30000000 b z ∙ ap (λ (n : ℕ). n / 2 ^ b) kind ∙ shl-shr (3 * 2 ^ (28 - b)) b in
+    let is : x ≡ 0x30000000 + x % 2 ^ b = sym (split x b) ∙ ap (λ (n : ℕ). n * 2 ^ b + x % 2 ^ b) e ∙ ap (λ (n : ℕ). n + x % 2 ^ b) (sym kind) in
+    let low = mod-lt x (pow-pos b) in
+    let small = pow-mono {i = b} {j = 24} h in
+    let due : x / 2 ^ 28 ≡ 3 = omega (arith, is, low, small) in
+    (rw (lt-ltb p (length words) i) (eq-eqb (x / 2 ^ 28) 3 due), omega (arith, is, low, small))
+
+-- eight words with the bits that a description says
+pub sound-described : (m : ℕ) (t : List ℕ) (at : ℕ) (words : List ℕ) (p : ℕ) → Described m t at → p + 8 ≤ length words
+    → ((i : ℕ) → i < 8 → bitXor (getD words (p + i) 0) 0x30000000 / 2 ^ (getD t (at + 9 + i) 0 % 32) ≡ 0) → checkSlots 8 0 m words p ≡ go (p + groupSize m)
+sound-described m t at words p d h f =
+    sound-fields m words p
+    (λ i l.
+    let n = size-most m in
+    let b = field-in m i l .0 in
+    let e : getD t (at + 9 + i) 0 % 32 ≡ fieldAt m i .bits = rw (d .1 i l .1) (mod-eq-of-lt {n = fieldAt m i .bits} {m = 32} (omega arith)) in
+    holds-bits words (p + i) (fieldAt m i .bits) b (omega arith) (rw (← e) (f i (omega arith))))
 
 -- the sum of what the words of fields hold, each at its place
 unfoldable pub fieldsSum : List Field → List ℕ → ℕ → ℕ
@@ -231,13 +258,6 @@ module _ (m k w x : ℕ) (v : valid 3 m ≡ true) (h : k < 8) (t : isFirst m k �
       = ap (λ (i : ℕ). i % cap level * 2 ^ (8 * k)) (div-eq-of-lt l) ∙ ap (λ (i : ℕ). i * 2 ^ (8 * k)) (zero-mod (cap level)) ∙ zero-mul (2 ^ (8 * k)) in
       rw (v, n, k8) (ap (grouped m) (sym (value-put w m k level (8 * k) word-in h (block-level w m k v h) q x (x % cap level) refl new (omega (arith, none)))))
 
--- the fields, from the first slot of a counter to the next
-fields-turn : (k m : ℕ) → k < 8 → isFirst m k ≡ true → slotsFields (8 - k) k m ≡ slotFields m k ++ slotsFields (8 - (k + 2 ^ levelAt m k)) (k + 2 ^ levelAt m k) m
-unfolding slotsFields slotFields
-fields-turn k m h t =
-    let e : 8 - k ≡ suc (8 - (k + 1)) = omega arith in
-    rw e (ap (λ (l : List Field). slotFields m k ++ l) (behind (λ n i. slotsFields n i m) m (λ n i f. rw f) k h t))
-
 -- the words of a group's counters from slot k on, read into a group without counts from there on
 module _ (m : ℕ) (v : valid 3 m ≡ true) (words : List ℕ) where
   abbrev Reads : ℕ → ℕ → ℕ → Type 0
@@ -251,7 +271,6 @@ module _ (m : ℕ) (v : valid 3 m ≡ true) (words : List ℕ) where
 
   reads-one : (k w p : ℕ) (h : k < 8) (t : isFirst m k ≡ true) (l : w < 2 ^ (8 * k)) → let L = levelAt m k in
       Reads (k + 2 ^ L) (new m k w (valueFrom (wordsOf L) 0 words p) v h t l) (p + wordsOf L) → Reads k w p
-  unfolding slotFields
   reads-one k w p h t l r =
       let L = levelAt m k in
       let n = wordsOf L in
@@ -259,10 +278,9 @@ module _ (m : ℕ) (v : valid 3 m ≡ true) (words : List ℕ) where
       let y = new m k w x v h t l in
       let fs = partFields n (8 * k) (firstBits L) in
       let gs = slotsFields (8 - (k + 2 ^ L)) (k + 2 ^ L) m in
-      let here : slotFields m k ≡ fs = rw t in
       let held : fieldsSum fs words p ≡ x % cap L * 2 ^ (8 * k) = parts-place n (8 * k) (firstBits L) words p ∙ ap (λ (i : ℕ). i * 2 ^ (8 * k)) (sym (value-cut L words p (level-at-le m k))) in
       let whole : fieldsSum (slotsFields (8 - k) k m) words p ≡ fieldsSum fs words p + fieldsSum gs words (p + n)
-      = ap (λ (l : List Field). fieldsSum l words p) (fields-turn k m h t ∙ ap (λ (l : List Field). l ++ gs) here) ∙ sum-append fs gs words p
+      = ap (λ (l : List Field). fieldsSum l words p) (fields-turn m k L n (firstBits L) h t refl refl refl) ∙ sum-append fs gs words p
       ∙ ap (λ (i : ℕ). fieldsSum fs words p + fieldsSum gs words (p + i)) (parts-size n (8 * k) (firstBits L)) in
       let same : y + fieldsSum gs words (p + n) ≡ w + fieldsSum (slotsFields (8 - k) k m) words p = omega (arith, whole, held) in
       let s = reads-step m k (grouped m w) (grouped m y) L n x words p refl h t refl refl refl (sym (changed-field m k w x v h t l)) in
