@@ -43,7 +43,7 @@ pub fn read(d: usize, w: usize, memory: &mut [u8], words: &[u32]) -> Answer
     if s.status != 0 {
         return rejected(s.status, s.position);
     }
-    reader::read_rows(memory, d, w, words, &layouts[0..n]);
+    reader::read_rows(memory, d, w, words, &layouts[0..n], &fields[0..17 * n]);
     accepted(s.position)
 }
 

@@ -5,13 +5,15 @@ use mathlib.Core.List.{List, [], _∷_, _++_}
 use Prim.Native.Nat.{ℕ, zero, suc, _+_, _-_, _*_, _/_, _%_, _^_, _≤_, _<_}
 use native.Mathlib.Nat.{add-zero, zero-add, zero-mul, add-mul, mul-assoc, mul-comm, mod-lt, mod-eq-of-lt, div-eq-of-lt, zero-mod, div-add-mod', mul-add-mod-self-right}
 use native.Mathlib.Decide.{decLt}
+use native.Mathlib.Numerals.{add-one}
 use native.Mathlib.Omega.{arith}
 use borrow.Author.Tests.{lt-ltb, eq-eqb, eqb-true}
 use lib.Arith.{digits-lt}
 use lib.Bits.{bitXor}
 use lib.Dec.{eqb}
-use lib.ListN.{length, getD, replicate}
+use lib.ListN.{length, getD, drop, replicate, drop-of-length-le}
 use lib.Pow.{pow-pos, pow-add, pow-mono, mod-pow-add, mod-mod-pow, high, low, split, shl-shr}
+use lib.Seq.{drop-cons}
 use Rattle.bytes.specs.Bytes.{number, bytes}
 use Rattle.bytes.proofs.Bytes.{number-bytes}
 use Rattle.layout.specs.Layout.{Layout, layout, valid}
@@ -304,3 +306,21 @@ module _ (m : ℕ) (v : valid 3 m ≡ true) (words : List ℕ) where
       let r = reads-from 8 0 0 p (omega arith) (stands-first m) (omega arith) in
       let z = zero-add (fieldsSum (slotsFields 8 0 m) words p) in
       (r .0 ∙ ap (grouped m) z, omega (arith, r .1))
+
+-- that sum, word by word
+pub sum-step : (m : ℕ) (words : List ℕ) (p i : ℕ) → i < groupSize m
+    → fieldsSum (drop i (groupFields m)) words (p + i)
+    ≡ payload words (p + i) % 2 ^ fieldAt m i .bits * 2 ^ fieldAt m i .place + fieldsSum (drop (i + 1) (groupFields m)) words (p + (i + 1))
+unfolding fieldsSum fieldAt
+sum-step m words p i h =
+    let e : p + i + 1 ≡ p + (i + 1) = omega arith in
+    rw (drop-cons (groupFields m) i none (omega (arith, fields-size m)), add-one i) (ap (λ (q : ℕ). payload words (p + i) % 2 ^ fieldAt m i .bits * 2 ^ fieldAt m i .place + fieldsSum (drop (suc i) (groupFields m)) words q) (rw (add-one i) at e))
+
+pub sum-none : (m : ℕ) (words : List ℕ) (q i : ℕ) → groupSize m ≤ i → fieldsSum (drop i (groupFields m)) words q ≡ 0
+unfolding fieldsSum
+sum-none m words q i h = rw (drop-of-length-le (groupFields m) {i = i} (omega (arith, fields-size m)))
+
+-- the places and bits that a description says
+pub described-in : (m : ℕ) (t : List ℕ) (at i : ℕ) → Described m t at → i < groupSize m
+    → (getD t (at + 9 + i) 0 ≤ 24) × (getD t (at + 1 + i) 0 + getD t (at + 9 + i) 0 ≤ 64) × (1 ≤ getD t (at + 9 + i) 0)
+described-in m t at i d h = rw (d .1 i h .0, d .1 i h .1) (field-in m i h)

@@ -14,6 +14,7 @@ ghost use mathlib.Core.List.{map};
 ghost use Prim.Native.Nat.{ℕ, _+_, _*_, _/_, _%_, _^_, _<_, _≤_};
 ghost use lib.ListN.{length, getD, take, drop};
 ghost use lib.Seq.{sets};
+ghost use Rattle.bytes.specs.Bytes.{bytes};
 ghost use Rattle.codes.specs.Pack.{codeMerge};
 ghost use Rattle.geometry.specs.Geometry.{stride};
 ghost use Rattle.geometry.specs.Rows.{withGroup};
@@ -338,6 +339,50 @@ fn read_group(merge: u8, words: &[u32], p: usize) -> Taken
     }
 }
 
+// The low bits of a payload, at a place.
+fn placed(payload: u32, place: u8, bits: u8) -> u64
+    requires { ⌜ bits ≤ 24 ⌝ ∗ ⌜ place + bits ≤ 64 ⌝ ∗ ⌜ 1 ≤ bits ⌝ }
+    ensures { λ r. ⌜ r ≡ payload % 2 ^ bits * 2 ^ place ⌝ }
+{
+    (payload as u64 & ((1 << bits) - 1)) << place
+}
+
+// The count bytes, taken as one number, of a group with layout code c and the counters at a position, by the description of its layout.
+fn read_fields(words: &[u32], p: usize, fields: &[u8], c: usize) -> u64
+    requires { ⌜ c < 26 ⌝ ∗ ⌜ p < 2 ^ 31 ⌝ ∗ ⌜ 17 * c + 17 ≤ length (now fields) ⌝ ∗ ⌜ Fields (now fields) ⌝ }
+    ensures { λ r. ⌜ record { counts = bytes 8 r; merge = codeMerge c } ≡ readGroup (codeMerge c) (now (words .entry)) p ⌝ }
+{
+    let at = 17 * c;
+    let n = fields[at] as usize;
+    let mut x: u64 = 0;
+    for i in 0..n {
+        x = x
+            + placed(
+                payload(words, p + i),
+                fields[at + 1 + i],
+                fields[at + 9 + i],
+            );
+    }
+    x
+}
+
+// A group with layout code c and the counters at a position.
+fn read_any(merge: u8, words: &[u32], p: usize, fields: &[u8], c: usize) -> Taken
+    requires { ⌜ c < 26 ⌝ ∗ ⌜ merge ≡ codeMerge c ⌝ ∗ ⌜ p < 2 ^ 31 ⌝ ∗ ⌜ Fields (now fields) ⌝ }
+    ensures { λ r. ⌜ r .group ≡ readGroup merge (now (words .entry)) p ⌝ }
+    ensures { λ r. ⌜ r .position ≡ p + groupSize merge ⌝ }
+    ensures { λ r. ⌜ r .position ≤ p + 24 ⌝ }
+{
+    if 17 * c + 17 <= fields.len() {
+        let counts = bytes::bytes_of(read_fields(words, p, fields, c));
+        return Taken {
+            group: Group { counts, merge },
+            position: p + fields[17 * c] as usize,
+        };
+    }
+    read_group(merge, words, p)
+}
+
 // n count bytes of a row from `at` on, each from a word.
 fn read_counts(row: &mut [u8], at: usize, words: &[u32], p: usize, n: usize)
     requires { ⌜ at + n ≤ length (now row) ⌝ ∗ ⌜ p + n ≤ length (now words) ⌝ }
@@ -348,9 +393,19 @@ fn read_counts(row: &mut [u8], at: usize, words: &[u32], p: usize, n: usize)
     }
 }
 
-// Group g of a row. Gives the position after its words.
-fn read_into(row: &mut [u8], w: usize, g: usize, merge: u8, words: &[u32], p: usize) -> usize
+// Group g of a row, with layout code c. Gives the position after its words.
+fn read_into(
+    row: &mut [u8],
+    w: usize,
+    g: usize,
+    merge: u8,
+    words: &[u32],
+    p: usize,
+    fields: &[u8],
+    c: usize,
+) -> usize
     requires { ⌜ 8 * g + 8 ≤ w ⌝ ∗ ⌜ w + g < length (now row) ⌝ ∗ ⌜ p < 2 ^ 31 ⌝ }
+    requires { ⌜ c < 26 ⌝ ∗ ⌜ merge ≡ codeMerge c ⌝ ∗ ⌜ Fields (now fields) ⌝ }
     ensures { λ r. ⌜ r ≡ p + groupSize merge ⌝ }
     ensures { λ r. ⌜ r ≤ p + 24 ⌝ }
     ensures { λ _. ⌜ now (row .exit) ≡ withGroup w (now (row .entry)) g (readGroup merge (now (words .entry)) p) ⌝ }
@@ -362,74 +417,85 @@ fn read_into(row: &mut [u8], w: usize, g: usize, merge: u8, words: &[u32], p: us
             return p + 8;
         }
     }
-    let t = read_group(merge, words, p);
+    let t = read_any(merge, words, p, fields, c);
     store(row, w, g, t.group);
     t.position
 }
 
-// Four groups of a row, from group g on. Gives the position after their words.
+// Four groups of a row with these layout codes, from group g on. Gives the position after their words.
 fn read_groups(
     row: &mut [u8],
     w: usize,
     g: usize,
-    merges: [u8; 4],
+    codes: [u8; 4],
     words: &[u32],
     p: usize,
+    layouts: &[u8],
+    fields: &[u8],
 ) -> usize
     requires { ⌜ 8 * g + 32 ≤ w ⌝ ∗ ⌜ w + g + 4 ≤ length (now row) ⌝ ∗ ⌜ p < 2 ^ 30 ⌝ }
-    ensures { λ r. ⌜ r ≡ afterGroups merges p ⌝ }
+    requires { ⌜ ((i : ℕ) → getD codes i 0 < 26) ⌝ ∗ ⌜ ((c : ℕ) → c < length (now layouts) → getD (now layouts) c 0 ≡ codeMerge c) ⌝ ∗ ⌜ Fields (now fields) ⌝ }
+    ensures { λ r. ⌜ r ≡ afterGroups (map (λ (c : ℕ). codeMerge c) codes) p ⌝ }
     ensures { λ r. ⌜ r ≤ p + 96 ⌝ }
-    ensures { λ _. ⌜ now (row .exit) ≡ readGroups merges g w (now (row .entry)) (now (words .entry)) p ⌝ }
+    ensures { λ _. ⌜ now (row .exit) ≡ readGroups (map (λ (c : ℕ). codeMerge c) codes) g w (now (row .entry)) (now (words .entry)) p ⌝ }
 {
     let mut at = p;
     for i in 0..4 {
-        at = read_into(row, w, g + i, merges[i], words, at);
+        let c = codes[i];
+        at = read_into(
+            row,
+            w,
+            g + i,
+            merge_of(c, layouts),
+            words,
+            at,
+            fields,
+            c as usize,
+        );
     }
     at
 }
 
-// The merge bytes of the layout word at a position, by the layouts unpacked ahead if there are any.
-fn merges_at(words: &[u32], p: usize, layouts: &[u8]) -> [u8; 4]
-    requires { ⌜ ((c : ℕ) → c < length (now layouts) → getD (now layouts) c 0 ≡ codeMerge c) ⌝ }
-    ensures { λ r. ⌜ r ≡ mergesAt (now (words .entry)) p ⌝ }
-{
-    let code = payload(words, p);
-    if code == 0 {
-        return [0; 4];
-    }
-    if 456976 <= code {
-        return [0; 4];
-    }
-    if layouts.len() < 26 {
-        let u = codes::unpack(code);
-        return u.merges;
-    }
-    let at = code as usize;
-    [
-        layouts[at / 17576],
-        layouts[at / 676 % 26],
-        layouts[at / 26 % 26],
-        layouts[at % 26],
-    ]
-}
-
 // A row of w slots. Gives the position after its words.
-fn read_row(row: &mut [u8], w: usize, words: &[u32], p: usize, layouts: &[u8]) -> usize
-    requires { ⌜ w + w / 8 ≤ length (now row) ⌝ ∗ ⌜ w ≤ 65536 ⌝ ∗ ⌜ p < 2 ^ 29 ⌝ ∗ ⌜ ((c : ℕ) → c < length (now layouts) → getD (now layouts) c 0 ≡ codeMerge c) ⌝ }
+fn read_row(
+    row: &mut [u8],
+    w: usize,
+    words: &[u32],
+    p: usize,
+    layouts: &[u8],
+    fields: &[u8],
+) -> usize
+    requires { ⌜ w + w / 8 ≤ length (now row) ⌝ ∗ ⌜ w ≤ 65536 ⌝ ∗ ⌜ p < 2 ^ 29 ⌝ ∗ ⌜ ((c : ℕ) → c < length (now layouts) → getD (now layouts) c 0 ≡ codeMerge c) ⌝ ∗ ⌜ Fields (now fields) ⌝ }
     ensures { λ r. ⌜ r ≡ afterFours (w / 32) (now (words .entry)) p ⌝ }
     ensures { λ r. ⌜ r ≤ p + 97 * 2048 ⌝ }
     ensures { λ _. ⌜ now (row .exit) ≡ readFours (w / 32) 0 w (now (row .entry)) (now (words .entry)) p ⌝ }
 {
     let mut at = p;
     for i in 0..w / 32 {
-        at = read_groups(row, w, 4 * i, merges_at(words, at, layouts), words, at + 1);
+        at = read_groups(
+            row,
+            w,
+            4 * i,
+            codes_at(words, at),
+            words,
+            at + 1,
+            layouts,
+            fields,
+        );
     }
     at
 }
 
 // d rows of a memory, from the words after the head.
-pub fn read_rows(memory: &mut [u8], d: usize, w: usize, words: &[u32], layouts: &[u8])
-    requires { ⌜ d * stride w ≤ length (now memory) ⌝ ∗ ⌜ w ≤ 65536 ⌝ ∗ ⌜ d ≤ 8 ⌝ ∗ ⌜ ((c : ℕ) → c < length (now layouts) → getD (now layouts) c 0 ≡ codeMerge c) ⌝ }
+pub fn read_rows(
+    memory: &mut [u8],
+    d: usize,
+    w: usize,
+    words: &[u32],
+    layouts: &[u8],
+    fields: &[u8],
+)
+    requires { ⌜ d * stride w ≤ length (now memory) ⌝ ∗ ⌜ w ≤ 65536 ⌝ ∗ ⌜ d ≤ 8 ⌝ ∗ ⌜ ((c : ℕ) → c < length (now layouts) → getD (now layouts) c 0 ≡ codeMerge c) ⌝ ∗ ⌜ Fields (now fields) ⌝ }
     ensures { λ _. ⌜ now (memory .exit) ≡ readRows d w (now (memory .entry)) (now (words .entry)) 1 ⌝ }
 {
     let size = w * 9 / 8;
@@ -437,6 +503,6 @@ pub fn read_rows(memory: &mut [u8], d: usize, w: usize, words: &[u32], layouts: 
     for r in 0..d {
         let a = r * size;
         let e = a + size;
-        at = read_row(&mut memory[a..e], w, words, at, layouts);
+        at = read_row(&mut memory[a..e], w, words, at, layouts, fields);
     }
 }

@@ -94,10 +94,22 @@ part-read-rows-start c = search needs
 part-read-rows-end : tie.Need-part-read-rows-end
 part-read-rows-end c = search needs
 
+mul-read-rows : tie.Need-mul-read-rows
+mul-read-rows c = search needs
+
+sub-read-rows-2 : tie.Need-sub-read-rows-2
+sub-read-rows-2 c = search needs
+
+part-read-rows-start-2 : tie.Need-part-read-rows-start-2
+part-read-rows-start-2 c = search needs
+
+part-read-rows-end-2 : tie.Need-part-read-rows-end-2
+part-read-rows-end-2 c = search needs
+
 read-rows-requires : tie.Need-read-rows-requires
-read-rows-requires c κs = let f = c .before .before .before .before .before .before .before .before .before .before in
+read-rows-requires c κs = let f = c .before .before .before .before .before .before .before .before .before .before .before .before in
     let k = sound (f .before .before .before) in
-    (omega arith, (omega arith, (omega arith, layouts-are f)))
+    (omega arith, (omega arith, (omega arith, (layouts-are f, fields-are f))))
 
 accepted-requires : tie.Need-accepted-requires
 accepted-requires c κs = search needs
@@ -106,11 +118,11 @@ same-length : tie.Need-same-length
 same-length c = search needs
 
 returns-3 : tie.Need-returns-3
-returns-3 c = let a = c .before .before .before .before .before .before .before .before .before .before .before .before .before .before .before .before .before .before .before .before .before .args in
-    let s = c .before .before .before .before .before .before .before .before .before .before .before .before .before .before .before .before .before .before .bad-shape in
-    let z = c .before .before .before .before .before .before .before .before .before .before .before .before .before .before .before .before .before .if1 .left in
-    let t = c .before .before .before .before .before .before .before .before .before .check in
-    let e = read-done (a .d) (a .w) (a .memory .now) (a .words .now) (s .result) (s .ensures) z (t .result) (t .ensures) (c .before .before .before .before .before .before .before .if2 .left) in
+returns-3 c = let a = c .before .before .before .before .before .before .before .before .before .before .before .before .before .before .before .before .before .before .before .before .before .before .before .args in
+    let s = c .before .before .before .before .before .before .before .before .before .before .before .before .before .before .before .before .before .before .before .before .bad-shape in
+    let z = c .before .before .before .before .before .before .before .before .before .before .before .before .before .before .before .before .before .before .before .if1 .left in
+    let t = c .before .before .before .before .before .before .before .before .before .before .before .check in
+    let e = read-done (a .d) (a .w) (a .memory .now) (a .words .now) (s .result) (s .ensures) z (t .result) (t .ensures) (c .before .before .before .before .before .before .before .before .before .if2 .left) in
     (c .accepted .ensures ∙ ap (λ (x : Done). x .answer) (sym e), c .before .before .before .read-rows .ensures ∙ ap (λ (x : Done). x .memory) (sym e))
 
 pub read-spec : {M : Type 1} → statement M
@@ -136,6 +148,10 @@ read-spec =
     sub-read-rows
     part-read-rows-start
     part-read-rows-end
+    mul-read-rows
+    sub-read-rows-2
+    part-read-rows-start-2
+    part-read-rows-end-2
     read-rows-requires
     accepted-requires
     same-length
