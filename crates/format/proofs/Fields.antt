@@ -21,7 +21,7 @@ use Rattle.format.proofs.Sizes.{first-zero}
 use Rattle.format.proofs.Counters.{counter-end, next-first, behind, sizes-turn}
 
 -- there is a field for each word
-parts-size : (n place bits : ℕ) → length (partFields n place bits) ≡ n
+pub parts-size : (n place bits : ℕ) → length (partFields n place bits) ≡ n
 unfolding partFields
 parts-size zero place bits = refl
 parts-size (suc n) place bits = ap suc (parts-size n place 24)
@@ -68,7 +68,7 @@ abbrev In : Field → Type 0
 In f = (f .bits ≤ 24) × (f .place + f .bits ≤ 64) × (1 ≤ f .bits)
 
 -- where no field is
-abbrev none : Field
+abbrev pub none : Field
 none = record { place = 0; bits = 0 }
 
 parts-in : (n place bits i : ℕ) → i < n → bits ≤ 24 → place + 24 * (n - 1) + bits ≤ 64 → 1 ≤ bits → In (getD (partFields n place bits) i none)

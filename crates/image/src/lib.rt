@@ -40,11 +40,12 @@ pub fn read(d: usize, w: usize, memory: &mut [u8], words: &[u32]) -> Answer
     }
     let n = reader::table_size(words.len(), d, w);
     let layouts = reader::layout_table(n);
-    let s = reader::check(words, d, w, &layouts[0..n]);
+    let fields = format::field_table(n);
+    let s = reader::check(words, d, w, &layouts[0..n], &fields[0..17 * n]);
     if s.status != 0 {
         return rejected(s.status, s.position);
     }
-    reader::read_rows(memory, d, w, words, &layouts[0..n]);
+    reader::read_rows(memory, d, w, words, &layouts[0..n], &fields[0..17 * n]);
     accepted(s.position)
 }
 

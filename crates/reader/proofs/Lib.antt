@@ -4,3 +4,4 @@ pub mod Restoring
 pub mod Steps
 pub mod Layouts
 pub mod Plain
+pub mod Fields

@@ -86,10 +86,17 @@ clear-checks words p h e f =
 pub or-below : (a b : ℕ) → bitOr a b < 256 → (a < 256) × (b < 256)
 or-below a b h = (omega (arith, or-add-and a b, and-le-r a b), omega (arith, or-add-and a b, and-le-l a b))
 
+pub or-none : (a b : ℕ) → bitOr a b ≡ 0 → (a ≡ 0) × (b ≡ 0)
+or-none a b h = (omega (arith, or-add-and a b, and-le-r a b), omega (arith, or-add-and a b, and-le-l a b))
+
+-- the same bits from a place on
+pub same-from : (x y b : ℕ) → bitXor x y / 2 ^ b ≡ 0 → x / 2 ^ b ≡ y / 2 ^ b
+same-from x y b h =
+    let e : bitXor (x / 2 ^ b) (y / 2 ^ b) ≡ 0 = sym (xor-shr x y b) ∙ h in
+    omega (arith, e, xor-add-and (x / 2 ^ b) (y / 2 ^ b), and-le-l (x / 2 ^ b) (y / 2 ^ b), and-le-r (x / 2 ^ b) (y / 2 ^ b))
+
 pub same-bits : (x : ℕ) → bitXor x 0x30000000 < 256 → x / 2 ^ 8 ≡ 3145728
-same-bits x h =
-    let e : bitXor (x / 2 ^ 8) 3145728 ≡ 0 = sym (xor-shr x 0x30000000 8) ∙ omega arith in
-    omega (arith, e, xor-add-and (x / 2 ^ 8) 3145728, and-le-l (x / 2 ^ 8) 3145728, and-le-r (x / 2 ^ 8) 3145728)
+same-bits x h = same-from x 0x30000000 8 (omega arith)
 
 pub plain-read : (w g : ℕ) (row words : List ℕ) (p : ℕ) → 8 * g + 8 ≤ length row → p + 8 ≤ length words → Counts words p 8
     → set (sets row (8 * g) (lows words p 8)) (w + g) 0 ≡ withGroup w row g (readGroup 0 words p)

@@ -1,10 +1,12 @@
-use Prim.Native.Nat.{ℕ}
-use mathlib.Core.Path.{sym, ap, _∙_}
+use Prim.Native.Nat.{ℕ, _-_, _*_, _<_}
+use mathlib.Core.Path.{_≡_, sym, ap, _∙_}
 use native.Mathlib.Omega.{arith}
-use lib.ListN.{length}
+use lib.ListN.{length, getD, take}
 use Rattle.image.proofs.Calls.{Sound, sound-call, read-call, read-faulty, read-done}
 use Rattle.codes.specs.Pack.{codeMerge}
+use Rattle.format.specs.Fields.{Fields}
 use Rattle.format.proofs.Sizes.{table-part}
+use Rattle.format.proofs.Fields.{fields-part}
 use Rattle.geometry.specs.Order.{Done}
 use borrow.Author.Needs.{needs}
 use Rattle.image.proofs.read.Statement.{statement}
@@ -32,6 +34,20 @@ table-size-requires c κs = let k = sound c in (omega arith, omega arith)
 layout-table-requires : tie.Need-layout-table-requires
 layout-table-requires c κs = search needs
 
+field-table-requires : tie.Need-field-table-requires
+field-table-requires c κs = search needs
+
+-- the tables that are lent
+module _ (c : tie.After-field-table) where
+  abbrev size : ℕ
+  size = c .before .before .table-size .result
+
+  layouts-are : (k : ℕ) → k < length (take (size - 0) (c .before .layout-table .result)) → getD (take (size - 0) (c .before .layout-table .result)) k 0 ≡ codeMerge k
+  layouts-are = table-part (λ (k : ℕ). codeMerge k) (c .before .layout-table .result) size (c .before .layout-table .ensures)
+
+  fields-are : Fields (take (17 * size - 0) (c .field-table .result))
+  fields-are = fields-part (c .field-table .result) size (c .field-table .ensures)
+
 sub-check : tie.Need-sub-check
 sub-check c = search needs
 
@@ -41,18 +57,30 @@ part-check-start c = search needs
 part-check-end : tie.Need-part-check-end
 part-check-end c = search needs
 
+mul-check : tie.Need-mul-check
+mul-check c = search needs
+
+sub-check-2 : tie.Need-sub-check-2
+sub-check-2 c = search needs
+
+part-check-start-2 : tie.Need-part-check-start-2
+part-check-start-2 c = search needs
+
+part-check-end-2 : tie.Need-part-check-end-2
+part-check-end-2 c = search needs
+
 check-requires : tie.Need-check-requires
-check-requires c κs = let t = c .before .before .layout-table in
-    let k = sound (c .before .before .before .before) in
-    (omega arith, (omega arith, table-part (λ (k : ℕ). codeMerge k) (t .result) (c .before .before .before .table-size .result) (t .ensures)))
+check-requires c κs = let f = c .before .before .before .before in
+    let k = sound (f .before .before .before) in
+    (omega arith, (omega arith, (layouts-are f, fields-are f)))
 
 rejected-requires-2 : tie.Need-rejected-requires-2
 rejected-requires-2 c κs = search needs
 
 returns-2 : tie.Need-returns-2
-returns-2 c = let a = c .before .before .before .before .before .before .before .before .before .before .before .before .args in
-    let s = c .before .before .before .before .before .before .before .before .before .bad-shape in
-    let z = c .before .before .before .before .before .before .before .before .if1 .left in
+returns-2 c = let a = c .before .before .before .before .before .before .before .before .before .before .before .before .before .before .before .args in
+    let s = c .before .before .before .before .before .before .before .before .before .before .before .before .bad-shape in
+    let z = c .before .before .before .before .before .before .before .before .before .before .before .if1 .left in
     let t = c .before .before .before .check in
     let e = read-faulty (a .d) (a .w) (a .memory .now) (a .words .now) (s .result) (s .ensures) z (t .result) (t .ensures) (c .before .if2 .taken) in
     (c .rejected2 .ensures ∙ ap (λ (x : Done). x .answer) (sym e), ap (λ (x : Done). x .memory) (sym e))
@@ -66,10 +94,22 @@ part-read-rows-start c = search needs
 part-read-rows-end : tie.Need-part-read-rows-end
 part-read-rows-end c = search needs
 
+mul-read-rows : tie.Need-mul-read-rows
+mul-read-rows c = search needs
+
+sub-read-rows-2 : tie.Need-sub-read-rows-2
+sub-read-rows-2 c = search needs
+
+part-read-rows-start-2 : tie.Need-part-read-rows-start-2
+part-read-rows-start-2 c = search needs
+
+part-read-rows-end-2 : tie.Need-part-read-rows-end-2
+part-read-rows-end-2 c = search needs
+
 read-rows-requires : tie.Need-read-rows-requires
-read-rows-requires c κs = let t = c .before .before .before .before .before .before .before .before .layout-table in
-    let k = sound (c .before .before .before .before .before .before .before .before .before .before) in
-    (omega arith, (omega arith, (omega arith, table-part (λ (k : ℕ). codeMerge k) (t .result) (c .before .before .before .before .before .before .before .before .before .table-size .result) (t .ensures))))
+read-rows-requires c κs = let f = c .before .before .before .before .before .before .before .before .before .before .before .before in
+    let k = sound (f .before .before .before) in
+    (omega arith, (omega arith, (omega arith, (layouts-are f, fields-are f))))
 
 accepted-requires : tie.Need-accepted-requires
 accepted-requires c κs = search needs
@@ -78,11 +118,11 @@ same-length : tie.Need-same-length
 same-length c = search needs
 
 returns-3 : tie.Need-returns-3
-returns-3 c = let a = c .before .before .before .before .before .before .before .before .before .before .before .before .before .before .before .before .before .before .args in
-    let s = c .before .before .before .before .before .before .before .before .before .before .before .before .before .before .before .bad-shape in
-    let z = c .before .before .before .before .before .before .before .before .before .before .before .before .before .before .if1 .left in
-    let t = c .before .before .before .before .before .before .before .before .before .check in
-    let e = read-done (a .d) (a .w) (a .memory .now) (a .words .now) (s .result) (s .ensures) z (t .result) (t .ensures) (c .before .before .before .before .before .before .before .if2 .left) in
+returns-3 c = let a = c .before .before .before .before .before .before .before .before .before .before .before .before .before .before .before .before .before .before .before .before .before .before .before .args in
+    let s = c .before .before .before .before .before .before .before .before .before .before .before .before .before .before .before .before .before .before .before .before .bad-shape in
+    let z = c .before .before .before .before .before .before .before .before .before .before .before .before .before .before .before .before .before .before .before .if1 .left in
+    let t = c .before .before .before .before .before .before .before .before .before .before .before .check in
+    let e = read-done (a .d) (a .w) (a .memory .now) (a .words .now) (s .result) (s .ensures) z (t .result) (t .ensures) (c .before .before .before .before .before .before .before .before .before .if2 .left) in
     (c .accepted .ensures ∙ ap (λ (x : Done). x .answer) (sym e), c .before .before .before .read-rows .ensures ∙ ap (λ (x : Done). x .memory) (sym e))
 
 pub read-spec : {M : Type 1} → statement M
@@ -94,15 +134,24 @@ read-spec =
     returns
     table-size-requires
     layout-table-requires
+    field-table-requires
     sub-check
     part-check-start
     part-check-end
+    mul-check
+    sub-check-2
+    part-check-start-2
+    part-check-end-2
     check-requires
     rejected-requires-2
     returns-2
     sub-read-rows
     part-read-rows-start
     part-read-rows-end
+    mul-read-rows
+    sub-read-rows-2
+    part-read-rows-start-2
+    part-read-rows-end-2
     read-rows-requires
     accepted-requires
     same-length

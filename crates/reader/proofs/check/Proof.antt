@@ -17,7 +17,7 @@ returns c = let s = c .before .before .check-head in
     sym (halt (s .result) _ _ (s .ensures) (c .if1 .taken))
 
 mul-check-fours : tie.Need-mul-check-fours
-mul-check-fours c = let a = c .before .before .before .before .before .args in omega (arith, mul-le-mul-right {m = a .d} {n = 8} (a .w / 32) (omega arith))
+mul-check-fours c = let a = c .before .before .before .before .before .before .args in omega (arith, mul-le-mul-right {m = a .d} {n = 8} (a .w / 32) (omega arith))
 
 check-fours-requires : tie.Need-check-fours-requires
 check-fours-requires c κs = search needs

@@ -28,20 +28,20 @@ unfolding checkFour
 returns-2 c = let s = c .before .before .below in
     sym (halt (s .result) _ _ (s .ensures) (c .if2 .taken))
 
-merges-at-requires : tie.Need-merges-at-requires
-merges-at-requires c κs = search needs
+codes-at-requires : tie.Need-codes-at-requires
+codes-at-requires c κs = search needs
 
 check-groups-requires : tie.Need-check-groups-requires
 check-groups-requires c κs = search needs
 
 returns-3 : tie.Need-returns-3
 unfolding checkFour
-returns-3 c = let a = c .before .before .before .before .before .before .before .before .before .args in
+returns-3 c = let a = c .before .before .before .before .before .before .before .before .before .before .args in
     let s = c .before .before .before .before .below in
     c .check-groups .ensures
-    ∙ ap (λ (m : List ℕ). checkGroups m (a .words .now) (s .result .position)) (c .before .merges-at .ensures)
+    ∙ ap (λ (m : List ℕ). checkGroups m (a .words .now) (s .result .position)) (c .before .codes-at .ensures .0)
     ∙ sym (turn (s .result) _ _ (s .ensures) (c .before .before .if2 .left))
 
 pub check-four-spec : {M : Type 1} → statement M
 check-four-spec =
-    tie.close (tie.spec is-clear-requires add-go go-requires returns below-requires returns-2 merges-at-requires check-groups-requires returns-3)
+    tie.close (tie.spec is-clear-requires add-go go-requires returns below-requires returns-2 codes-at-requires check-groups-requires returns-3)

@@ -10,13 +10,13 @@ use Rattle.reader.proofs.check_fours.Statement.{statement}
 use Rattle.reader.proofs.check_fours.Tie as tie
 
 abbrev Inv-loop : tie.InvT-loop
-Inv-loop words p n layouts at₀ i₀ at i = (i ≤ n) × (checkFours (n - i) words at ≡ checkFours n words p)
+Inv-loop words p n layouts fields at₀ i₀ at i = (i ≤ n) × (checkFours (n - i) words at ≡ checkFours n words p)
 
 abbrev μ-loop : tie.MeasureT-loop
-μ-loop words p n layouts at₀ i₀ at i = n - i
+μ-loop words p n layouts fields at₀ i₀ at i = n - i
 
 loop-holds : tie.Need-loop-holds Inv-loop μ-loop
-loop-holds c = let a = c .before .before .args in
+loop-holds c = let a = c .before .before .before .args in
     (omega arith, ap (λ (x : ℕ). checkFours x (a .words .now) (a .p)) (sub-zero (a .n)))
 
 check-four-requires : tie.Need-check-four-requires Inv-loop μ-loop
@@ -24,7 +24,7 @@ check-four-requires c κs = search needs
 
 returns : tie.Need-returns Inv-loop μ-loop
 returns c = let l = c .before .before .before .before .loop in
-    let a = c .before .before .before .before .before .before .before .args in
+    let a = c .before .before .before .before .before .before .before .before .args in
     let s = c .before .before .check-four in
     sym (halt (s .result) _ _ (s .ensures) (c .if1 .taken)) ∙ sym (check-fours-step (a .n) (l .i) (a .words .now) (l .at) (omega arith)) ∙ l .inv .1
 
@@ -36,7 +36,7 @@ loop-less c = search needs
 
 loop-again : tie.Need-loop-again Inv-loop μ-loop
 loop-again c = let l = c .before .before .before .before .loop in
-    let a = c .before .before .before .before .before .before .before .args in
+    let a = c .before .before .before .before .before .before .before .before .args in
     let s = c .before .before .check-four in
     (omega arith, sym (turn (s .result) _ _ (s .ensures) (c .if1 .left)) ∙ sym (check-fours-step (a .n) (l .i) (a .words .now) (l .at) (omega arith)) ∙ l .inv .1)
 
@@ -45,7 +45,7 @@ go-requires c κs = search needs
 
 returns-2 : tie.Need-returns-2 Inv-loop μ-loop
 returns-2 c = let l = c .before .before .loop in
-    let a = c .before .before .before .before .before .args in
+    let a = c .before .before .before .before .before .before .args in
     c .go .ensures ∙ sym (check-fours-none (a .n - l .i) (a .words .now) (l .at) (omega arith)) ∙ l .inv .1
 
 pub check-fours-spec : {M : Type 1} → statement M

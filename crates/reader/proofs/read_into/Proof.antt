@@ -34,7 +34,7 @@ same-length : tie.Need-same-length
 same-length c = search needs
 
 returns : tie.Need-returns
-returns c = let a = c .before .before .before .before .before .before .before .before .before .args in
+returns c = let a = c .before .before .before .before .before .before .before .before .before .before .args in
     let z = c .before .before .before .before .before .are-counts .ensures (c .before .before .before .before .if2 .taken) in
     let m = c .before .before .before .before .before .before .if1 .taken in
     let n : groupSize (a .merge) ≡ 8 = plain-size (a .merge) m in (
@@ -47,8 +47,8 @@ returns c = let a = c .before .before .before .before .before .before .before .b
       ),
     )
 
-read-group-requires : tie.Need-read-group-requires
-read-group-requires c κs = search needs
+read-any-requires : tie.Need-read-any-requires
+read-any-requires c κs = search needs
 
 store-requires : tie.Need-store-requires
 store-requires c κs = search needs
@@ -57,8 +57,8 @@ same-length-2 : tie.Need-same-length-2
 same-length-2 c = search needs
 
 returns-2 : tie.Need-returns-2
-returns-2 c = let a = c .before .before .before .before .before .before .before .before .args in
-    let t = c .before .before .before .before .read-group in
+returns-2 c = let a = c .before .before .before .before .before .before .before .before .before .args in
+    let t = c .before .before .before .before .read-any in
     (t .ensures .1 .0, (t .ensures .1 .1, c .before .before .store .ensures ∙ ap (withGroup (a .w) (a .row .now) (a .g)) (t .ensures .0)))
 
 pub read-into-spec : {M : Type 1} → statement M
@@ -73,7 +73,7 @@ read-into-spec =
     add-result
     same-length
     returns
-    read-group-requires
+    read-any-requires
     store-requires
     same-length-2
     returns-2)

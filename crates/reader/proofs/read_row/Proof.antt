@@ -11,26 +11,27 @@ use Rattle.reader.proofs.read_row.Statement.{statement}
 use Rattle.reader.proofs.read_row.Tie as tie
 
 abbrev Inv-loop : tie.InvT-loop
-Inv-loop row₀ w words p layouts at₀ i₀ i-end row at i = (i ≤ i-end) × (i-end ≡ w / 32) × (at ≤ p + 97 * i) × (length row ≡ length row₀) × (afterFours (w / 32 - i) words at ≡ afterFours (w / 32) words p) × (readFours (w / 32 - i) (4 * i) w row words at ≡ readFours (w / 32) 0 w row₀ words p)
+Inv-loop row₀ w words p layouts fields at₀ i₀ i-end row at i = (i ≤ i-end) × (i-end ≡ w / 32) × (at ≤ p + 97 * i) × (length row ≡ length row₀) × (afterFours (w / 32 - i) words at ≡ afterFours (w / 32) words p) × (readFours (w / 32 - i) (4 * i) w row words at ≡ readFours (w / 32) 0 w row₀ words p)
 
 abbrev μ-loop : tie.MeasureT-loop
-μ-loop row₀ w words p layouts at₀ i₀ i-end row at i = i-end - i
+μ-loop row₀ w words p layouts fields at₀ i₀ i-end row at i = i-end - i
 
 loop-holds : tie.Need-loop-holds Inv-loop μ-loop
-loop-holds c = let a = c .before .before .before .args in
+loop-holds c = let a = c .before .before .before .before .args in
     (omega arith, refl, omega arith, refl, ap (λ (x : ℕ). afterFours x (a .words .now) (a .p)) (sub-zero (a .w / 32)), ap (λ (x : ℕ). readFours x 0 (a .w) (a .row .now) (a .words .now) (a .p)) (sub-zero (a .w / 32)))
 
 mul-read-groups : tie.Need-mul-read-groups Inv-loop μ-loop
 mul-read-groups c = search needs
 
-merges-at-requires : tie.Need-merges-at-requires Inv-loop μ-loop
-merges-at-requires c κs = search needs
+codes-at-requires : tie.Need-codes-at-requires Inv-loop μ-loop
+codes-at-requires c κs = search needs
 
 add-read-groups : tie.Need-add-read-groups Inv-loop μ-loop
 add-read-groups c = search needs
 
 read-groups-requires : tie.Need-read-groups-requires Inv-loop μ-loop
-read-groups-requires c κs = search needs
+read-groups-requires c κs = let t = c .before .before .before .before .before .before .before .before .pre .1 .1 .1 in
+    (omega arith, (omega arith, (omega arith, (c .codes-at .ensures .1, t))))
 
 add-i : tie.Need-add-i Inv-loop μ-loop
 add-i c = search needs
@@ -40,9 +41,9 @@ loop-less c = search needs
 
 loop-again : tie.Need-loop-again Inv-loop μ-loop
 loop-again c = let l = c .before .before .before .before .before .before .loop in
-    let a = c .before .before .before .before .before .before .before .before .before .before .args in
+    let a = c .before .before .before .before .before .before .before .before .before .before .before .args in
     let s = c .before .before .read-groups in
-    let m = c .before .before .before .merges-at .ensures in
+    let m = c .before .before .before .codes-at .ensures .0 in
     let n = a .w / 32 - (l .i + 1) in
     let z : s .result ≡ afterGroups (mergesAt (a .words .now) (l .at)) (l .at + 1) = s .ensures .0 ∙ ap (λ (x : List ℕ). afterGroups x (l .at + 1)) m in (
       omega arith,
@@ -60,7 +61,7 @@ same-length c = search needs
 
 returns : tie.Need-returns Inv-loop μ-loop
 returns c = let l = c .before .loop in
-    let a = c .before .before .before .before .before .args in (
+    let a = c .before .before .before .before .before .before .args in (
       sym (after-fours-none (a .w / 32 - l .i) (a .words .now) (l .at) (omega arith)) ∙ l .inv .4,
       (
         omega arith,
@@ -76,7 +77,7 @@ read-row-spec =
     μ-loop
     loop-holds
     mul-read-groups
-    merges-at-requires
+    codes-at-requires
     add-read-groups
     read-groups-requires
     add-i

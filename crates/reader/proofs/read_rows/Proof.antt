@@ -13,17 +13,17 @@ use Rattle.reader.proofs.read_rows.Statement.{statement}
 use Rattle.reader.proofs.read_rows.Tie as tie
 
 abbrev Inv-loop : tie.InvT-loop
-Inv-loop memory₀ d w words layouts size at₀ r₀ memory at r = (r ≤ d) × (size ≡ stride w) × (at ≤ 1 + 198656 * r) × (length memory ≡ length memory₀) × (rowsFrom d r w memory words at ≡ readRows d w memory₀ words 1)
+Inv-loop memory₀ d w words layouts fields size at₀ r₀ memory at r = (r ≤ d) × (size ≡ stride w) × (at ≤ 1 + 198656 * r) × (length memory ≡ length memory₀) × (rowsFrom d r w memory words at ≡ readRows d w memory₀ words 1)
 
 abbrev μ-loop : tie.MeasureT-loop
-μ-loop memory₀ d w words layouts size at₀ r₀ memory at r = d - r
+μ-loop memory₀ d w words layouts fields size at₀ r₀ memory at r = d - r
 
 mul-size : tie.Need-mul-size Inv-loop μ-loop
 mul-size c = omega arith
 
 loop-holds : tie.Need-loop-holds Inv-loop μ-loop
 unfolding stride
-loop-holds c = let a = c .before .before .before .args in (
+loop-holds c = let a = c .before .before .before .before .args in (
   omega arith,
   refl,
   omega arith,
@@ -32,10 +32,10 @@ loop-holds c = let a = c .before .before .before .args in (
       ∙ ap (λ (n : ℕ). readRows n (a .w) (a .memory .now) (a .words .now) 1) (sub-zero (a .d)),
 )
 
-row-fits : (c : tie.In-loop Inv-loop μ-loop) → let a = c .before .before .before .before .before .args in c .before .loop .r * (a .w * 9 / 8) + a .w * 9 / 8 ≤ length (a .memory .now)
+row-fits : (c : tie.In-loop Inv-loop μ-loop) → let a = c .before .before .before .before .before .before .args in c .before .loop .r * (a .w * 9 / 8) + a .w * 9 / 8 ≤ length (a .memory .now)
 unfolding stride
-row-fits c = let a = c .before .before .before .before .before .args in
-    row-in (c .before .loop .r) (a .d) (a .w * 9 / 8) (c .loop-test .taken) (c .before .before .before .before .before .pre .0)
+row-fits c = let a = c .before .before .before .before .before .before .args in
+    row-in (c .before .loop .r) (a .d) (a .w * 9 / 8) (c .loop-test .taken) (c .before .before .before .before .before .before .pre .0)
 
 mul-a : tie.Need-mul-a Inv-loop μ-loop
 mul-a c = omega (arith, row-fits c)
@@ -54,7 +54,7 @@ part-read-row-end c = omega (arith, row-fits c)
 
 read-row-requires : tie.Need-read-row-requires Inv-loop μ-loop
 read-row-requires c κs = let fit = row-fits (c .before) in
-    (omega (arith, fit), (omega arith, (omega arith, c .before .before .before .before .before .before .pre .1 .1 .1)))
+    (omega (arith, fit), (omega arith, (omega arith, c .before .before .before .before .before .before .before .pre .1 .1 .1)))
 
 add-r : tie.Need-add-r Inv-loop μ-loop
 add-r c = search needs
@@ -65,7 +65,7 @@ loop-less c = search needs
 loop-again : tie.Need-loop-again Inv-loop μ-loop
 unfolding stride
 loop-again c = let l = c .before .before .before .before .before .loop in
-    let a = c .before .before .before .before .before .before .before .before .before .args in
+    let a = c .before .before .before .before .before .before .before .before .before .before .args in
     let s = c .before .before .read-row in
     let fit = row-fits (c .before .before .before .before) in (
       omega arith,
@@ -81,7 +81,7 @@ same-length c = search needs
 
 returns : tie.Need-returns Inv-loop μ-loop
 returns c = let l = c .before .loop in
-    let a = c .before .before .before .before .before .args in
+    let a = c .before .before .before .before .before .before .args in
     sym (read-rows-end (a .d) (l .r) (a .w) (l .memory) (a .words .now) (l .at) (omega arith)) ∙ l .inv .4
 
 pub read-rows-spec : {M : Type 1} → statement M
