@@ -8,8 +8,7 @@ use native.Mathlib.Omega.{arith}
 use lib.ListN.{length, getD, take, drop, set, replicate, length-drop, length-map}
 use lib.Bits.{bitOr, bitXor, or-add-and, xor-add-and, xor-shr, and-le-l, and-le-r}
 use lib.Seq.{sets, sets-eq, drop-cons, length-take-le}
-use Rattle.layout.specs.Layout.{valid, ones, marks}
-use Rattle.layout.specs.Code.{layouts, mergedCode, uncode}
+use Rattle.layout.specs.Layout.{valid, ones}
 use Rattle.codes.specs.Pack.{fourMerges, unpacked}
 use Rattle.group.proofs.Laws.{Eight}
 use Rattle.bytes.proofs.Bytes.{Bytes}
@@ -19,6 +18,7 @@ use Rattle.format.specs.Image.{word, layoutKind, countKind}
 use Rattle.format.specs.Write.{groupSize}
 use Rattle.format.specs.Read.{checkSlots, checkGroups, checkFour, mergesAt, readGroup}
 use Rattle.format.proofs.Plain.{plain-words, size-none}
+use Rattle.reader.proofs.Layouts.{merge-none}
 use Rattle.reader.proofs.Digits.{below-here, payload-here}
 use Rattle.reader.proofs.Restoring.{Restored, group-restored}
 
@@ -69,9 +69,9 @@ plain-check-groups (suc n) words p h f =
     rw (plain-checks words p (omega arith) (λ i k. f i (omega arith)))
     (plain-check-groups n words (p + 8) (omega arith) (λ i k. rw (add-assoc p 8 i) (f (8 + i) (omega arith))) ∙ ap go (omega arith))
 
-pub merges-none : unpacked 0 .merges ≡ replicate 4 0
-unfolding unpacked fourMerges uncode mergedCode layouts marks ones
-merges-none = refl
+merges-none : unpacked 0 .merges ≡ replicate 4 0
+unfolding unpacked fourMerges
+merges-none = rw merge-none
 
 pub clear-checks : (words : List ℕ) (p : ℕ) → p + 33 ≤ length words → getD words p 0 ≡ 0x20000000 → Counts words (p + 1) 32 → checkFour words p ≡ go (p + 33)
 unfolding checkFour mergesAt word next
@@ -82,12 +82,9 @@ clear-checks words p h e f =
     (ap (λ (c : ℕ). checkGroups (unpacked c .merges) words (p + 1)) x ∙ ap (λ (m : List ℕ). checkGroups m words (p + 1)) merges-none
     ∙ plain-check-groups 4 words (p + 1) (omega arith) f ∙ ap go (omega arith))
 
--- bits that are all in one byte
-pub or-below : (a b : ℕ) → bitOr a b < 256 → (a < 256) × (b < 256)
-or-below a b h = (omega (arith, or-add-and a b, and-le-r a b), omega (arith, or-add-and a b, and-le-l a b))
-
-pub or-none : (a b : ℕ) → bitOr a b ≡ 0 → (a ≡ 0) × (b ≡ 0)
-or-none a b h = (omega (arith, or-add-and a b, and-le-r a b), omega (arith, or-add-and a b, and-le-l a b))
+-- no bits are lost
+pub or-le : (a b : ℕ) → (a ≤ bitOr a b) × (b ≤ bitOr a b)
+or-le a b = (omega (arith, or-add-and a b, and-le-r a b), omega (arith, or-add-and a b, and-le-l a b))
 
 -- the same bits from a place on
 pub same-from : (x y b : ℕ) → bitXor x y / 2 ^ b ≡ 0 → x / 2 ^ b ≡ y / 2 ^ b

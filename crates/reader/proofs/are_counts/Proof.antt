@@ -7,7 +7,7 @@ use borrow.Author.Tests.{ltb-true}
 use lib.Bits.{bitXor}
 use lib.ListN.{length, getD}
 use Rattle.reader.proofs.Restoring.{up-to}
-use Rattle.reader.proofs.Plain.{or-below, same-bits}
+use Rattle.reader.proofs.Plain.{or-le, same-bits}
 use Rattle.reader.proofs.are_counts.Statement.{statement}
 use Rattle.reader.proofs.are_counts.Tie as tie
 
@@ -50,8 +50,8 @@ loop-again c = let l = c .before .before .loop in
     let x = getD (a .words .now) (a .p + l .i) 0 in (
       omega arith,
       l .inv .1,
-      λ j h b. let o = or-below (l .bits) (bitXor x 0x30000000) b in
-          up-to h (λ k. l .inv .2 j k (o .0)) (λ k. rw k (same-bits x (o .1))),
+      λ j h b. let o = or-le (l .bits) (bitXor x 0x30000000) in
+          up-to h (λ k. l .inv .2 j k (omega (arith, o .0))) (λ k. rw k (same-bits x (omega (arith, o .1)))),
     )
 
 returns-3 : tie.Need-returns-3 Inv-loop μ-loop

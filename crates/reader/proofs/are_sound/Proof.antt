@@ -8,7 +8,7 @@ use lib.Bits.{bitXor}
 use lib.ListN.{length, getD}
 use Rattle.codes.specs.Pack.{codeMerge}
 use Rattle.reader.proofs.Restoring.{up-to}
-use Rattle.reader.proofs.Plain.{or-none}
+use Rattle.reader.proofs.Plain.{or-le}
 use Rattle.reader.proofs.Fields.{sound-described}
 use Rattle.reader.proofs.are_sound.Statement.{statement}
 use Rattle.reader.proofs.are_sound.Tie as tie
@@ -79,8 +79,9 @@ loop-again c = let l = c .before .before .before .loop in
       omega arith,
       l .inv .1,
       l .inv .2,
-      λ j h z. let o = or-none (l .bits) (bitXor (getD (a .words .now) (a .p + l .i) 0) 0x30000000 / 2 ^ (getD (a .fields .now) (17 * a .c + 9 + l .i) 0 % 32)) z in
-          up-to h (λ k. l .inv .3 j k (o .0)) (λ k. rw k (o .1)),
+      λ j h z. let y = bitXor (getD (a .words .now) (a .p + l .i) 0) 0x30000000 / 2 ^ (getD (a .fields .now) (17 * a .c + 9 + l .i) 0 % 32) in
+          let o = or-le (l .bits) y in
+          up-to h (λ k. l .inv .3 j k (omega (arith, o .0))) (λ k. rw k (omega (arith, o .1))),
     )
 
 returns-4 : tie.Need-returns-4 Inv-loop μ-loop

@@ -88,7 +88,9 @@ turn-sum c = let l = c .before .before .before .before .before .loop in
     let h : l .i < groupSize (merge s) = omega arith in
     let d = told s .1 (l .i) h in
     let e : c .placed .result ≡ payload (s .args .words .now) (s .args .p + l .i) % 2 ^ fieldAt (merge s) (l .i) .bits * 2 ^ fieldAt (merge s) (l .i) .place
-    = c .placed .ensures ∙ rw (d .0, d .1, ← c .before .before .before .payload .ensures .0) in
+    = c .placed .ensures
+    ∙ ap (λ (y : ℕ). y % 2 ^ getD (s .args .fields .now) (17 * s .args .c + 9 + l .i) 0 * 2 ^ getD (s .args .fields .now) (17 * s .args .c + 1 + l .i) 0) (c .before .before .before .payload .ensures .0)
+    ∙ rw (d .0, d .1) in
     omega (arith, e, sum-step (merge s) (s .args .words .now) (s .args .p) (l .i) h, l .inv .3)
 
 add-x : tie.Need-add-x Inv-loop μ-loop
