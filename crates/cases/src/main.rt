@@ -45,7 +45,7 @@ fn outcome(o: group::Outcome) {
     let g = o.group;
     let counts = g.counts;
     decimal(o.status as u64);
-    hex(bytes::number_of(counts), 16);
+    hex(counts::number_of(counts), 16);
     byte(g.merge);
     text(b"\n");
 }

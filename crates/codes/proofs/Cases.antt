@@ -1,6 +1,6 @@
 -- P1 to P12 hold of the definitions, by computation.
 use mathlib.Core.Path.{refl}
-use Rattle.bytes.specs.Bytes.{number, bytes}
+use Rattle.counts.specs.Bytes.{number, bytes}
 use Rattle.layout.specs.Layout.{bit, ones, marks, layout, valid}
 use Rattle.layout.specs.Code.{layouts, mergedCode, code}
 use Rattle.block.specs.Block.{cap, shape, word, fill, block, total}

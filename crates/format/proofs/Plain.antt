@@ -8,10 +8,10 @@ use lib.ListN.{length, getD, take, drop}
 use lib.Seq.{sets, drop-cons}
 use Rattle.layout.specs.Layout.{layout, valid, bit, ones}
 use Rattle.block.specs.Block.{cap, block, fill, counterAt}
-use Rattle.bytes.specs.Bytes.{number, bytes}
+use Rattle.counts.specs.Bytes.{number, bytes}
 use Rattle.group.specs.Group.{decode, read, reading}
 use Rattle.group.proofs.Laws.{Eight, number-in}
-use Rattle.bytes.proofs.Bytes.{bytes-number}
+use Rattle.counts.proofs.Bytes.{bytes-number}
 use Rattle.format.specs.Image.{word, countKind, parts, wordsOf, levelAt, isFirst, slotWords, slotsWords, groupWords}
 use Rattle.format.specs.Write.{slotSize, slotsSize, groupSize}
 

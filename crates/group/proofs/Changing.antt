@@ -5,8 +5,8 @@ use Prim.Native.Nat.{ℕ, zero, suc, _/_, _%_, _^_, _<_}
 use native.Mathlib.Nat.{mod-eq-of-lt, mod-lt}
 use native.Mathlib.Omega.{arith}
 use lib.ListN.{getD, replicate}
-use Rattle.bytes.specs.Bytes.{number, bytes}
-use Rattle.bytes.proofs.Bytes.{number-bytes, bytes-length}
+use Rattle.counts.specs.Bytes.{number, bytes}
+use Rattle.counts.proofs.Bytes.{number-bytes, bytes-length}
 use Rattle.layout.specs.Layout.{layout, valid}
 use Rattle.block.specs.Block.{Block, cap, Fits, shape, word, block, counterAt}
 use Rattle.block.specs.Change.{change}

@@ -6,8 +6,8 @@ use mathlib.Core.List.{List}
 use native.Mathlib.Decide.{decLt}
 use native.Mathlib.Omega.{arith}
 use lib.ListN.{length}
-use Rattle.bytes.specs.Bytes.{number}
-use Rattle.bytes.proofs.Bytes.{Bytes, number-lt, number-bytes, bytes-number}
+use Rattle.counts.specs.Bytes.{number}
+use Rattle.counts.proofs.Bytes.{Bytes, number-lt, number-bytes, bytes-number}
 use Rattle.layout.specs.Layout.{valid}
 use Rattle.layout.proofs.Laws.{valid-marks}
 use Rattle.block.specs.Block.{Block, cap, Fits, shape, word, block, total}

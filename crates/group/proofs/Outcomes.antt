@@ -4,7 +4,7 @@ use mathlib.Core.Bool.{Bool, true, false, cond, _&&_}
 use Prim.Native.Nat.{ℕ, _%_}
 use native.Mathlib.Omega.{arith}
 use lib.ListN.{length}
-use Rattle.bytes.proofs.Bytes.{bytes-length}
+use Rattle.counts.proofs.Bytes.{bytes-length}
 use Rattle.layout.specs.Layout.{valid}
 use Rattle.block.specs.Block.{word}
 use Rattle.block.specs.Sum.{Sum, fits, over, add, unite}

@@ -9,7 +9,7 @@ use borrow.Author.Tests.{ne-eqb, lt-ltb, le-ltb, le-leb, lt-leb}
 use lib.Dec.{leb, ltb}
 use lib.Bits.{bitAnd, bitOr, and-mask, or-shr, or-step}
 use lib.Pow.{pow-pos, pow-mono, ones-lt, ones-split, high}
-use Rattle.bytes.specs.Bytes.{number}
+use Rattle.counts.specs.Bytes.{number}
 use Rattle.layout.specs.Layout.{bit, isMerged, layout, valid}
 use Rattle.layout.proofs.Laws.{own-bit}
 use Rattle.block.specs.Block.{cap, word, block, counterAt, total}

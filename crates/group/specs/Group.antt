@@ -1,7 +1,7 @@
 -- A group's calls. Document 01, 'Rows, groups and blocks' and 'Updating, asking, uniting'.
 use Prim.Native.Nat.{ℕ, _%_}
 use mathlib.Core.Bool.{cond, _&&_}
-use Rattle.bytes.specs.Bytes.{number, bytes}
+use Rattle.counts.specs.Bytes.{number, bytes}
 use Rattle.layout.specs.Layout.{marks, layout, valid}
 use Rattle.layout.specs.Layout as layout-spec
 use Rattle.block.specs.declared.Counter.{Counter}

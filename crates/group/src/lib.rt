@@ -135,7 +135,7 @@ pub fn counter(g: Group, slot: usize) -> Reading
     let at = place(level, slot % 8);
     Reading {
         status: 0,
-        value: value_at(bytes::number_of(counts), level, at),
+        value: value_at(counts::number_of(counts), level, at),
         level,
     }
 }
@@ -147,7 +147,7 @@ fn settled(s: Summed) -> Outcome
     Outcome {
         status: 0,
         group: Group {
-            counts: bytes::bytes_of(s.word),
+            counts: counts::bytes_of(s.word),
             merge: s.merge,
         },
     }
@@ -236,7 +236,7 @@ pub fn add(g: Group, slot: usize, amount: u32) -> Outcome
     if !is_valid(g.merge) {
         return unchanged(INVALID_MERGE, g);
     }
-    let word = bytes::number_of(counts);
+    let word = counts::number_of(counts);
     let k = slot % 8;
     let level = level_at(g.merge, k);
     let at = place(level, k);
@@ -281,8 +281,8 @@ pub fn unite_status(target: Group, source: Group) -> u8
     if !is_valid(source.merge) {
         return INVALID_MERGE;
     }
-    let target_word = bytes::number_of(target_counts);
-    let source_word = bytes::number_of(source_counts);
+    let target_word = counts::number_of(target_counts);
+    let source_word = counts::number_of(source_counts);
     if !sum_fits(target_word, target.merge, source_word, source.merge) {
         return COUNTER_FULL;
     }
@@ -299,8 +299,8 @@ pub fn unite(target: Group, source: Group) -> Outcome
     if status != 0 {
         return unchanged(status, target);
     }
-    let word = bytes::number_of(target_counts);
-    let source_word = bytes::number_of(source_counts);
+    let word = counts::number_of(target_counts);
+    let source_word = counts::number_of(source_counts);
     settled(block::unite(3, word, target.merge, source_word, source.merge))
 }
 
@@ -343,11 +343,11 @@ pub fn change(g: Group, slot: usize, value: u64) -> Outcome
     if !is_valid(g.merge) {
         return unchanged(INVALID_MERGE, g);
     }
-    let word = with_value(bytes::number_of(counts), g.merge, slot % 8, value);
+    let word = with_value(counts::number_of(counts), g.merge, slot % 8, value);
     Outcome {
         status: 0,
         group: Group {
-            counts: bytes::bytes_of(word),
+            counts: counts::bytes_of(word),
             merge: g.merge,
         },
     }

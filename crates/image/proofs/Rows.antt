@@ -10,7 +10,7 @@ use lib.Dec.{eqb}
 use borrow.Author.Tests.{eqb-false}
 use lib.ListN.{length, getD, take, drop, set, length-append, length-drop, length-set, List·getD-append, take-append-drop}
 use lib.Seq.{getD-take, getD-drop, getD-append-add, getD-set-same, getD-set-other, ext-getD, length-take-le}
-use Rattle.bytes.proofs.Bytes.{Bytes}
+use Rattle.counts.proofs.Bytes.{Bytes}
 use Rattle.layout.specs.Layout.{valid}
 use Rattle.group.specs.declared.Group.{Group}
 use Rattle.codes.specs.declared.Unpacked.{Unpacked}

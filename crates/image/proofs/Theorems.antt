@@ -12,7 +12,7 @@ use lib.Dec.{eqb, ltb}
 use lib.ListN.{length, take, drop, length-drop, length-append, drop-of-length-le}
 use lib.Pow.{pow-add, pow-pos}
 use lib.Seq.{take-append-seam}
-use Rattle.bytes.proofs.Bytes.{Bytes}
+use Rattle.counts.proofs.Bytes.{Bytes}
 use Rattle.group.specs.Status.{badPayload, accepted}
 use Rattle.geometry.specs.Geometry.{validWidth}
 use Rattle.geometry.specs.Order.{badShape, Done}

@@ -14,8 +14,8 @@ use lib.Dec.{eqb}
 use lib.ListN.{length, getD, drop, replicate, drop-of-length-le}
 use lib.Pow.{pow-pos, pow-add, pow-mono, mod-pow-add, mod-mod-pow, high, low, split, shl-shr}
 use lib.Seq.{drop-cons}
-use Rattle.bytes.specs.Bytes.{number, bytes}
-use Rattle.bytes.proofs.Bytes.{number-bytes}
+use Rattle.counts.specs.Bytes.{number, bytes}
+use Rattle.counts.proofs.Bytes.{number-bytes}
 use Rattle.layout.specs.Layout.{Layout, layout, valid}
 use Rattle.block.specs.Block.{cap, block, counterAt}
 use Rattle.block.proofs.Laws.{cap-pos, shape-fill}

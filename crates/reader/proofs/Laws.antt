@@ -13,7 +13,7 @@ use Rattle.layout.specs.Layout.{valid}
 use Rattle.block.specs.Block.{word as block-word}
 use Rattle.block.specs.Change.{change}
 use Rattle.group.specs.declared.Group.{Group}
-use Rattle.bytes.specs.Bytes.{bytes}
+use Rattle.counts.specs.Bytes.{bytes}
 use Rattle.group.specs.Group.{decode, changed, unchanged}
 use Rattle.group.specs.Status.{invalidMerge}
 use Rattle.geometry.specs.Geometry.{stride}

@@ -11,7 +11,7 @@ use lib.Seq.{sets, sets-eq, drop-cons, length-take-le}
 use Rattle.layout.specs.Layout.{valid, ones}
 use Rattle.codes.specs.Pack.{fourMerges, unpacked}
 use Rattle.group.proofs.Laws.{Eight}
-use Rattle.bytes.proofs.Bytes.{Bytes}
+use Rattle.counts.proofs.Bytes.{Bytes}
 use Rattle.geometry.specs.Rows.{withGroup}
 use Rattle.word.specs.Word.{go, next, payload}
 use Rattle.format.specs.Image.{word, layoutKind, countKind}

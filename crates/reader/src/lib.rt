@@ -14,7 +14,7 @@ ghost use mathlib.Core.List.{map};
 ghost use Prim.Native.Nat.{ℕ, _+_, _*_, _/_, _%_, _^_, _<_, _≤_};
 ghost use lib.ListN.{length, getD, take, drop};
 ghost use lib.Seq.{sets};
-ghost use Rattle.bytes.specs.Bytes.{bytes};
+ghost use Rattle.counts.specs.Bytes.{bytes};
 ghost use Rattle.codes.specs.Pack.{codeMerge};
 ghost use Rattle.geometry.specs.Geometry.{stride};
 ghost use Rattle.geometry.specs.Rows.{withGroup};
@@ -374,7 +374,7 @@ fn read_any(merge: u8, words: &[u32], p: usize, fields: &[u8], c: usize) -> Take
     ensures { λ r. ⌜ r .position ≤ p + 24 ⌝ }
 {
     if 17 * c + 17 <= fields.len() {
-        let counts = bytes::bytes_of(read_fields(words, p, fields, c));
+        let counts = counts::bytes_of(read_fields(words, p, fields, c));
         return Taken {
             group: Group { counts, merge },
             position: p + fields[17 * c] as usize,

@@ -9,8 +9,8 @@ use lib.Arith.{digits-div, digits-mod}
 use lib.ListN.{length, getD, take, drop, length-append, length-drop, take-append-drop}
 use lib.Pow.{pow-add}
 use lib.Seq.{drop-cons, length-take-le, take-at, drop-at, drop-drop, take-add}
-use Rattle.bytes.specs.Bytes.{number, bytes}
-use Rattle.bytes.proofs.Bytes.{Bytes, number-lt, bytes-number}
+use Rattle.counts.specs.Bytes.{number, bytes}
+use Rattle.counts.proofs.Bytes.{Bytes, number-lt, bytes-number}
 use Rattle.layout.specs.Layout.{Layout, merged, halves, layout}
 use Rattle.block.specs.Block.{cap, fill, block, total}
 use Rattle.block.specs.Sum.{fits, held, join, unite}

@@ -5,8 +5,8 @@ use mathlib.Core.List.{List}
 use Prim.Native.Nat.{ℕ, zero, suc, _+_, _*_, _/_, _%_, _^_, _≤_, _<_}
 use native.Mathlib.Omega.{arith}
 use lib.ListN.{length, getD, take, drop}
-use Rattle.bytes.specs.Bytes.{number}
-use Rattle.bytes.proofs.Bytes.{Bytes, number-lt}
+use Rattle.counts.specs.Bytes.{number}
+use Rattle.counts.proofs.Bytes.{Bytes, number-lt}
 use Rattle.layout.specs.Layout.{Layout, halves, bit, ones, layout, valid}
 use Rattle.block.specs.Block.{cap, Fits, fill, block, total}
 use Rattle.block.proofs.Laws.{fill-fits, total-lt}

@@ -10,8 +10,8 @@ use borrow.Author.Tests.{lt-ltb, le-ltb}
 use lib.Dec.{ltb}
 use lib.ListN.{length, getD, take, drop, length-drop, List·getD-eq-default}
 use lib.Seq.{getD-take, getD-drop, drop-drop, ext-getD, length-take-le}
-use Rattle.bytes.specs.Bytes.{bytes}
-use Rattle.bytes.proofs.Bytes.{Bytes}
+use Rattle.counts.specs.Bytes.{bytes}
+use Rattle.counts.proofs.Bytes.{Bytes}
 use Rattle.layout.specs.Layout.{valid, marks}
 use Rattle.layout.proofs.Laws.{marks-in}
 use Rattle.block.specs.Block.{Block, shape, word}

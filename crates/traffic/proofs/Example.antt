@@ -2,7 +2,7 @@
 use mathlib.Core.Path.{_≡_, refl, sym}
 use mathlib.Core.Bool.{true, false, true≢false}
 use Prim.Native.Nat.{ℕ}
-use Rattle.bytes.specs.Bytes as bytes
+use Rattle.counts.specs.Bytes as bytes
 use Rattle.layout.specs.Layout as layouts
 use Rattle.layout.specs.Code as codes
 use Rattle.block.specs.Block as blocks

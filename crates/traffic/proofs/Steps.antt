@@ -7,7 +7,7 @@ use native.Mathlib.Nat.{zero-sub, sub-zero, suc-sub-suc}
 use native.Mathlib.Decide.{ℕ-discrete}
 use native.Mathlib.Omega.{arith}
 use lib.ListN.{length, take, drop, replicate, length-replicate, getD-replicate}
-use Rattle.bytes.specs.Bytes.{bytes}
+use Rattle.counts.specs.Bytes.{bytes}
 use Rattle.layout.specs.Layout.{marks, ones}
 use Rattle.block.specs.Block.{cap, shape, word}
 use Rattle.group.specs.declared.Group.{Group}

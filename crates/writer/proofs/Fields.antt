@@ -9,7 +9,7 @@ use native.Mathlib.Omega.{arith}
 use lib.ListN.{getD, drop, drop-of-length-le, List·getD-map}
 use lib.Pow.{pow-pos, pow-mono, field, mod-mod-pow, shr-shr}
 use lib.Seq.{drop-cons}
-use Rattle.bytes.specs.Bytes.{number}
+use Rattle.counts.specs.Bytes.{number}
 use Rattle.layout.specs.Layout.{valid}
 use Rattle.block.specs.Block.{cap, counterAt}
 use Rattle.block.specs.declared.Counter.{Counter}

@@ -12,7 +12,7 @@ use Rattle.layout.specs.Layout.{layout, valid, bit, ones}
 use Rattle.layout.specs.Code.{layouts, mergedCode, code}
 use Rattle.codes.specs.Pack.{fourCode, packed}
 use Rattle.group.proofs.Laws.{Eight}
-use Rattle.bytes.proofs.Bytes.{Bytes}
+use Rattle.counts.proofs.Bytes.{Bytes}
 use Rattle.geometry.specs.Rows.{groupAt}
 use Rattle.geometry.proofs.Lists.{bytes-drop, bytes-take}
 use Rattle.format.specs.Image.{word, layoutKind, countKind, groupWords, groupsWords, layoutAt, fourWords}

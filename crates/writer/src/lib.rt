@@ -188,7 +188,7 @@ fn put_fields(words: &mut [u32], p: usize, g: Group, fields: &[u8], c: usize) ->
     let at = 17 * c;
     let n = fields[at] as usize;
     let counts = g.counts;
-    let x = bytes::number_of(counts);
+    let x = counts::number_of(counts);
     for i in 0..n {
         let part = field(x, fields[at + 1 + i], fields[at + 9 + i]);
         words[p + i] = word(format::COUNT, part);

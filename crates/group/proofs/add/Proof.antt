@@ -4,7 +4,7 @@ use Prim.Native.Nat.{_+_, _-_, _*_, _/_, _%_, _^_, _≤_, _<_}
 use native.Mathlib.Nat.{mod-eq-of-lt, mod-lt}
 use native.Mathlib.Omega.{arith}
 use borrow.Author.Tests.{not-true, not-false}
-use Rattle.bytes.specs.Bytes.{number}
+use Rattle.counts.specs.Bytes.{number}
 use Rattle.layout.specs.Layout.{valid}
 use Rattle.block.specs.Block.{cap, total, block, counterAt}
 use Rattle.block.proofs.Laws.{cap-pos}

@@ -4,7 +4,7 @@ use mathlib.Core.List.{List}
 use Prim.Native.Nat.{ℕ}
 use native.Mathlib.Omega.{arith}
 use borrow.Author.Tests.{not-true, not-false}
-use Rattle.bytes.specs.Bytes.{bytes}
+use Rattle.counts.specs.Bytes.{bytes}
 use Rattle.layout.specs.Layout.{valid}
 use Rattle.group.specs.Group.{decode, changed}
 use borrow.Author.Needs.{needs}

@@ -3,7 +3,7 @@ use mathlib.Core.Bool.{true}
 use Prim.Native.Nat.{ℕ, _<_}
 use native.Mathlib.Omega.{arith}
 use borrow.Author.Tests.{ltb-true, ltb-false, not-true, not-false}
-use Rattle.bytes.specs.Bytes.{number}
+use Rattle.counts.specs.Bytes.{number}
 use Rattle.layout.specs.Layout.{valid}
 use Rattle.block.specs.Block.{cap}
 use Rattle.group.specs.declared.Outcome.{Outcome}

@@ -4,7 +4,7 @@ use native.Mathlib.Nat.{add-zero, zero-add}
 use native.Mathlib.Omega.{arith}
 use borrow.Author.Needs.{needs}
 use lib.ListN.{getD, drop}
-use Rattle.bytes.specs.Bytes.{bytes}
+use Rattle.counts.specs.Bytes.{bytes}
 use Rattle.codes.specs.Pack.{codeMerge}
 use Rattle.codes.proofs.Packing.{code-merge}
 use Rattle.word.specs.Word.{payload}

@@ -1,6 +1,6 @@
 use mathlib.Core.Path.{sym}
 use native.Mathlib.Omega.{arith}
-use Rattle.bytes.proofs.Bytes.{Bytes}
+use Rattle.counts.proofs.Bytes.{Bytes}
 use Rattle.row.proofs.Unmerged.{unmerged-status}
 use Rattle.geometry.proofs.Widths.{stride-is}
 use borrow.Author.Needs.{needs}

@@ -7,7 +7,7 @@ use mir.Val.{Fits}
 use mir.Syntax.{w8}
 use lib.ListN.{length, getD, length-set}
 use lib.Seq.{sets}
-use Rattle.bytes.proofs.Bytes.{Bytes}
+use Rattle.counts.proofs.Bytes.{Bytes}
 use Rattle.group.proofs.Changing.{Good}
 use Rattle.format.specs.Image.{word, countKind}
 use Rattle.format.specs.Write.{groupSize}

@@ -1,7 +1,7 @@
 use mathlib.Core.Path.{sym, ap, _∙_}
 use native.Mathlib.Omega.{arith}
 use lib.Seq.{sets}
-use Rattle.bytes.proofs.Bytes.{Bytes}
+use Rattle.counts.proofs.Bytes.{Bytes}
 use Rattle.writer.proofs.Laws.{four-length}
 use Rattle.writer.proofs.Plain.{clear-words, clear-size}
 use borrow.Author.Needs.{needs}

@@ -7,7 +7,7 @@ use native.Mathlib.Omega.{arith}
 use lib.ListN.{length, getD, drop, drop-of-length-le}
 use lib.Pow.{pow-add}
 use lib.Seq.{drop-cons}
-use Rattle.bytes.specs.Bytes.{number, bytes}
+use Rattle.counts.specs.Bytes.{number, bytes}
 
 abbrev pub Bytes : List ℕ → Type 0
 Bytes xs = (i : ℕ) → getD xs i 0 < 256

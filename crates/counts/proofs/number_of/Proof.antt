@@ -1,11 +1,11 @@
 use mathlib.Core.Path.{_≡_}
 use native.Mathlib.Omega.{arith}
 use lib.ListN.{length}
-use Rattle.bytes.specs.Bytes.{number}
-use Rattle.bytes.proofs.Bytes.{elements, number-eight}
+use Rattle.counts.specs.Bytes.{number}
+use Rattle.counts.proofs.Bytes.{elements, number-eight}
 use borrow.Author.Needs.{needs}
-use Rattle.bytes.proofs.number_of.Statement.{statement}
-use Rattle.bytes.proofs.number_of.Tie as tie
+use Rattle.counts.proofs.number_of.Statement.{statement}
+use Rattle.counts.proofs.number_of.Tie as tie
 
 array-read-eight : tie.Need-array-read-eight
 array-read-eight c = search needs

@@ -1,8 +1,8 @@
 use native.Mathlib.Nat.{div-div-eq-div-mul}
-use Rattle.bytes.specs.Bytes.{bytes}
+use Rattle.counts.specs.Bytes.{bytes}
 use borrow.Author.Needs.{needs}
-use Rattle.bytes.proofs.bytes_of.Statement.{statement}
-use Rattle.bytes.proofs.bytes_of.Tie as tie
+use Rattle.counts.proofs.bytes_of.Statement.{statement}
+use Rattle.counts.proofs.bytes_of.Tie as tie
 
 cast-t3 : tie.Need-cast-t3
 cast-t3 c = search needs
