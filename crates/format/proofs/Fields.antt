@@ -60,9 +60,9 @@ unfolding groupSize
 size-most m = sizes-most 8 0 m (omega arith) (λ l. first-zero m)
 
 -- the words of a counter have all of its bits
-pub first-bits-is : (level : ℕ) → (24 * (wordsOf level - 1) + firstBits level ≡ 8 * 2 ^ level) × (1 ≤ firstBits level) × (firstBits level ≤ 24)
+pub words-bits : (level : ℕ) → (1 ≤ wordsOf level) × (firstBits level + 24 * (wordsOf level - 1) ≡ 8 * 2 ^ level) × (1 ≤ firstBits level) × (firstBits level ≤ 24)
 unfolding wordsOf firstBits
-first-bits-is level = (omega (arith, pow-pos level), omega (arith, pow-pos level), omega (arith, pow-pos level))
+words-bits level = (omega (arith, pow-pos level), omega (arith, pow-pos level), omega (arith, pow-pos level), omega (arith, pow-pos level))
 
 abbrev In : Field → Type 0
 In f = (f .bits ≤ 24) × (f .place + f .bits ≤ 64) × (1 ≤ f .bits)
@@ -84,8 +84,8 @@ slot-in m k i l h =
     by-test (isFirst m k)
     (λ t.
     let L = levelAt m k in
-    let b = first-bits-is L in
-    rw t (parts-in (wordsOf L) (8 * k) (firstBits L) i (rw t at n) (b .2) (omega (arith, counter-end m k l t)) (b .1)))
+    let b = words-bits L in
+    rw t (parts-in (wordsOf L) (8 * k) (firstBits L) i (rw t at n) (b .3) (omega (arith, counter-end m k l t)) (b .2)))
     (λ t. let z : i < 0 = rw t at n in absurd (omega arith))
 
 slots-in : (n k m i : ℕ) → k + n ≤ 8 → i < length (slotsFields n k m) → In (getD (slotsFields n k m) i none)

@@ -28,7 +28,8 @@ use Rattle.format.proofs.Laws.{slot-none, slot-some, size-first, size-other, by
 use Rattle.reader.proofs.Laws.{read-slot-other, read-slot-first, read-slot-merge}
 use Rattle.block.proofs.Slots.{level-le}
 use Rattle.group.proofs.Changing.{Good, good-changed, changed-at, changed-before, zero-good}
-use Rattle.reader.proofs.Digits.{words-bits, power-step, value-digits}
+use Rattle.format.proofs.Fields.{words-bits}
+use Rattle.reader.proofs.Digits.{power-step, value-digits}
 use Rattle.reader.proofs.Restoring.{Agree, read-value}
 use Rattle.format.proofs.Counters.{level-at, first-level}
 
@@ -123,7 +124,7 @@ unfolding cap
 value-is level words p q l e =
     let b = words-bits level in
     let n = wordsOf level in
-    let bits : firstBits level ≤ 24 = first-bits-le level in
+    let bits : firstBits level ≤ 24 = b .3 in
     let s : n ≡ suc (n - 1) = omega arith in
     let d = digits-are n words p (2 ^ firstBits level) q (pow-mono {i = firstBits level} {j = 24} bits) e in
     let c = subst (λ (k : ℕ). checkParts k words p (2 ^ firstBits level) ≡ go q) s e in
@@ -136,9 +137,6 @@ value-is level words p q l e =
     = rw (zero-mul (2 ^ (24 * n)), mod-eq-of-lt {n = low n words p} {m = 2 ^ (24 * n)} (d .small)) (zero-add (low n words p)) in
     let v : valueFrom n 0 words p ≡ low n words p = value-digits n 0 (low n words p) words p (drop q words) (omega (arith, y, g)) i ∙ y in
     record { fits = rw v f; position = d .position; is = rw v i }
-  where
-    first-bits-le : (level : ℕ) → firstBits level ≤ 24
-    first-bits-le level = omega (arith, words-bits level .0, words-bits level .1, words-bits level .2)
 
 -- a slot whose words have passed
 record Slot (k : ℕ) (h : Group) (words : List ℕ) (p q : ℕ) : Type 0 where

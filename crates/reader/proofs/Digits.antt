@@ -12,6 +12,7 @@ use lib.Seq.{getD-drop, drop-drop, drop-at}
 use Rattle.block.specs.Block.{cap}
 use Rattle.word.specs.Word.{go, next, payload, isDue, tested, below}
 use Rattle.format.specs.Image.{word, countKind, parts, wordsOf}
+use Rattle.format.proofs.Fields.{words-bits}
 use Rattle.format.specs.Read.{checkParts, firstBits, valueFrom}
 use Rattle.format.proofs.Laws.{parts-length}
 
@@ -65,11 +66,6 @@ check-value n v words p rest limit e l =
     rw (below-here words p countKind x (parts n v ++ rest) e (omega (arith, digit-lt v n)) limit l)
     (check-digits n v words (p + 1) rest (here words p (word countKind x) (parts n v ++ rest) e .after) ∙ ap go (omega arith))
 
--- the bits of a counter's words
-pub words-bits : (level : ℕ) → (1 ≤ wordsOf level) × (firstBits level + 24 * (wordsOf level - 1) ≡ 8 * 2 ^ level) × (8 * 2 ^ level ≤ 24 * wordsOf level)
-unfolding wordsOf firstBits
-words-bits level = (omega (arith, pow-pos level), omega (arith, pow-pos level), omega arith)
-
 pub check-counter : (level v : ℕ) (words : List ℕ) (p : ℕ) (rest : List ℕ) → v < cap level → drop p words ≡ parts (wordsOf level) v ++ rest
     → checkParts (wordsOf level) words p (2 ^ firstBits level) ≡ go (p + wordsOf level)
 unfolding cap
@@ -110,7 +106,8 @@ pub value-counter : (level v : ℕ) (words : List ℕ) (p : ℕ) (rest : List �
 unfolding cap
 value-counter level v words p rest l h e =
     let n = wordsOf level in
-    let b : v < 2 ^ (24 * n) = omega (arith, h, pow-mono {i = 8 * 2 ^ level} {j = 24 * n} (words-bits level .2)) in
+    let w = words-bits level in
+    let b : v < 2 ^ (24 * n) = omega (arith, h, pow-mono {i = 8 * 2 ^ level} {j = 24 * n} (omega arith)) in
     let s : v < 2 ^ 64 = omega (arith, h, pow-mono {i = 8 * 2 ^ level} {j = 64} (omega (arith, pow-mono {i = level} {j = 3} l))) in
     let m : v % 2 ^ (24 * n) ≡ v = mod-eq-of-lt {n = v} {m = 2 ^ (24 * n)} b in
     let t : 0 * 2 ^ (24 * n) + v % 2 ^ (24 * n) ≡ v = rw (m, zero-mul (2 ^ (24 * n))) (zero-add v) in

@@ -33,10 +33,10 @@ use Rattle.format.specs.Fields.{Field, partFields, slotFields, slotsFields, gro
 use Rattle.format.proofs.Laws.{by-test}
 use Rattle.format.proofs.Sizes.{level-at-le}
 use Rattle.format.proofs.Counters.{level-at}
-use Rattle.format.proofs.Fields.{none, parts-size, fields-size, size-most, field-in, first-bits-is, fields-turn}
+use Rattle.format.proofs.Fields.{none, parts-size, fields-size, size-most, field-in, words-bits, fields-turn}
 use Rattle.reader.proofs.Plain.{same-from}
 use Rattle.reader.proofs.Steps.{Stands, stands-first, stands-next, reads-step}
-use Rattle.reader.proofs.Digits.{power-step, words-bits}
+use Rattle.reader.proofs.Digits.{power-step}
 
 -- the words of fields, checked
 unfoldable checkFields : List Field → List ℕ → ℕ → Step
@@ -207,7 +207,7 @@ value-cut level words p h =
     let s : wordsOf level ≡ suc n = omega arith in
     let c : 8 * 2 ^ level ≡ bits + 24 * n = sym (w .1) in
     let most : 8 * 2 ^ level ≤ 64 = omega (arith, pow-mono {i = level} {j = 3} h) in
-    let b : 24 - bits + bits ≡ 24 = omega (arith, first-bits-is level) in
+    let b : 24 - bits + bits ≡ 24 = omega arith in
     let cut : d % 2 ^ bits ≡ x % 2 ^ bits = rw b at (mod-mod-pow x (24 - bits) bits) in
     let t : 0 * 2 ^ (24 * suc n) + digits (suc n) words p ≡ d * q + r = omega (arith, zero-mul (2 ^ (24 * suc n)), digits-more n 24 words p) in
     rw s

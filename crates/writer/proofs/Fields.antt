@@ -28,7 +28,7 @@ use Rattle.format.specs.Fields.{Field, partFields, slotFields, slotsFields, gro
 use Rattle.format.proofs.Laws.{by-test}
 use Rattle.format.proofs.Sizes.{codeOf}
 use Rattle.format.proofs.Counters.{level-at, first-level}
-use Rattle.format.proofs.Fields.{first-bits-is}
+use Rattle.format.proofs.Fields.{words-bits}
 use Rattle.format.proofs.Plain.{more}
 use Rattle.writer.proofs.Laws.{map-append, group-length}
 
@@ -56,18 +56,14 @@ unfolding parts partFields
 parts-fields zero x p w h = refl
 parts-fields (suc n) x p w h = more (within x p w (24 * n) 24 (omega arith)) (parts-fields n x p w (omega arith))
 
-some-word : (level : ℕ) → 1 ≤ wordsOf level
-unfolding wordsOf
-some-word level = omega (arith, pow-pos level)
-
 counter-fields : (x p level : ℕ) → parts (wordsOf level) (x / 2 ^ p % cap level) ≡ map (fieldWord x) (partFields (wordsOf level) p (firstBits level))
 unfolding cap parts partFields
 counter-fields x p level =
-    let b = first-bits-is level in
+    let b = words-bits level in
     let n = wordsOf level - 1 in
-    let s : wordsOf level ≡ suc n = omega (arith, some-word level) in
+    let s : wordsOf level ≡ suc n = omega arith in
     let e : 8 * 2 ^ level ≡ firstBits level + 24 * n = omega arith in
-    rw (s, e) (more (top x p (firstBits level) (24 * n) (b .2)) (parts-fields n x p (firstBits level + 24 * n) (omega arith)))
+    rw (s, e) (more (top x p (firstBits level) (24 * n) (b .3)) (parts-fields n x p (firstBits level + 24 * n) (omega arith)))
 
 -- the value of the counter that starts at slot k
 value-at : (g : Group) (k : ℕ) → Good g → k < 8 → isFirst (g .merge) k ≡ true → read g k .value ≡ number (g .counts) / 2 ^ (8 * k) % cap (levelAt (g .merge) k)
