@@ -23,6 +23,7 @@ pub fn write(d: usize, w: usize, memory: &[u8], words: &mut [u32]) -> Answer
         return rejected(format::TOO_FEW_WORDS, 0);
     }
     let codes = format::code_table(n);
+    // all layout codes or none, as with the merge bytes
     let m = n * 26 / 128;
     let fields = format::field_table(m);
     writer::put_image(words, memory, d, w, &codes[0..n], &fields[0..17 * m]);
