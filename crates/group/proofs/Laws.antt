@@ -5,18 +5,22 @@ use Prim.Native.Nat.{ℕ, _+_, _%_, _^_, _≤_, _<_}
 use mathlib.Core.List.{List}
 use native.Mathlib.Decide.{decLt}
 use native.Mathlib.Omega.{arith}
+use borrow.Author.Tests.{ltb-true, ltb-false}
+use lib.Dec.{ltb}
 use lib.ListN.{length}
 use Rattle.counts.specs.Bytes.{number}
 use Rattle.counts.proofs.Bytes.{Bytes, number-lt, number-bytes, bytes-number}
 use Rattle.layout.specs.Layout.{valid}
 use Rattle.layout.proofs.Laws.{valid-marks}
-use Rattle.block.specs.Block.{Block, cap, Fits, shape, word, block, total}
+use Rattle.block.specs.Block.{Block, cap, Fits, shape, word, block, counterAt, total}
 use Rattle.block.specs.Sum.{Sum, fits, over, add, unite, summed, sumTotal, Sound}
 use Rattle.block.proofs.Laws.{word-lt, word-block, marks-block, block-is, block-fits, total-lt}
 use Rattle.block.proofs.Adding.{add-total, add-sound, unite-total, unite-sound}
+use Rattle.block.proofs.Places.{add-in-place}
 use Rattle.group.specs.declared.Group.{Group}
+use Rattle.group.specs.declared.Kept.{Kept}
 use Rattle.group.specs.declared.Outcome.{Outcome}
-use Rattle.group.specs.Group.{decode, encode, stored, settle, unchanged, added, united}
+use Rattle.group.specs.Group.{decode, encode, stored, settle, unchanged, added, holds, united}
 use Rattle.group.specs.Status.{invalidMerge, counterFull}
 
 -- a counter of level 3 holds 64 bits
@@ -77,6 +81,32 @@ module _ (g : Group) (slot amount : ℕ) where
     pub added-stored : total (decode g) + amount < 2 ^ 64 → added g slot amount ≡ stored (summed (add (decode g) (slot % 8) amount))
     unfolding added
     added-stored k = rw v (settle-fits g (add (decode g) (slot % 8) amount) add-is-sound (omega (arith, add-total (decode g) (slot % 8) amount)))
+
+  -- whether the counter holds the sum, by the group's validity
+  pub holds-invalid : valid 3 (g .merge) ≡ false → holds g slot amount ≡ false
+  unfolding holds
+  holds-invalid v = rw v
+
+  pub holds-valid : valid 3 (g .merge) ≡ true
+      → holds g slot amount ≡ ltb (counterAt (decode g) (slot % 8) .value + amount) (cap (counterAt (decode g) (slot % 8) .level))
+  unfolding holds
+  holds-valid v = rw v
+
+  pub not-held : valid 3 (g .merge) ≡ true → holds g slot amount ≡ false → cap (counterAt (decode g) (slot % 8) .level) ≤ counterAt (decode g) (slot % 8) .value + amount
+  not-held v h = ltb-false _ _ (sym (holds-valid v) ∙ h)
+
+  -- where it does, the addition is accepted and the layout stays
+  added-held : holds g slot amount ≡ true → added g slot amount ≡ record { status = 0; group = record { counts = added g slot amount .group .counts; merge = g .merge } }
+  unfolding holds added settle encode decode
+  added-held h =
+      let v = and-eq-true-iff (valid 3 (g .merge)) _ .0 h in
+      let s = add-in-place (decode g) (slot % 8) amount (ltb-true _ _ (v .1)) in
+      rw (v .0, s .1, s .2, marks-block 3 (number (g .counts)) (g .merge) (v .0))
+
+  pub added-kept : (r : Kept) → r .held ≡ true → r .held ≡ holds g slot amount → r .counts ≡ cond (r .held) (added g slot amount .group .counts) (g .counts)
+      → added g slot amount ≡ record { status = 0; group = record { counts = r .counts; merge = g .merge } }
+  added-kept r t h e =
+      added-held (sym h ∙ t) ∙ ap (λ (l : List ℕ). record { status = 0; group = record { counts = l; merge = g .merge } }) (sym (rw t at e))
 
 module _ (g source : Group) where
   pub united-invalid : valid 3 (g .merge) ≡ false → united g source ≡ unchanged invalidMerge g

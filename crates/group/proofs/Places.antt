@@ -18,7 +18,7 @@ use Rattle.block.specs.Sum.{add, Sound}
 use Rattle.block.proofs.Laws.{word-lt, shape-fill, word-block, marks-block, block-fits}
 use Rattle.block.proofs.Adding.{add-sound}
 use Rattle.block.proofs.Changing.{change-fits}
-use Rattle.block.proofs.Slots.{whole-total, halves-total, halves-sum}
+use Rattle.block.proofs.Slots.{halves-sum}
 use Rattle.block.proofs.Places.{first, first-is, value-is, InPlace, add-in-place, change-word}
 use Rattle.group.specs.declared.Group.{Group}
 use Rattle.group.specs.Group.{decode, encode, stored, settle, added}
@@ -45,14 +45,6 @@ module _ (w m k L q : ℕ) (h : w < cap 3) (i : k < 8) (e : counterAt (block 3 w
 
   pub counter-at : counterAt (block 3 w m) k ≡ record { value = w / 2 ^ q % cap L; level = L }
   counter-at = rw (← value-place, ← e)
-
-  -- the total of a group that is one counter, and of another
-  pub whole-is : L ≡ 3 → total (block 3 w m) ≡ w / 2 ^ q % cap L
-  whole-is l = whole-total (block 3 w m) k (e ∙ l) ∙ value-place
-
-  pub halves-lt : (L ≡ 3 → ⊥) → total (block 3 w m) < 2 ^ 33
-  unfolding cap
-  halves-lt l = halves-total (block 3 w m) k (block-fits 3 w m h) (λ f. l (sym e ∙ f))
 
   -- an addition that the counter holds
   module _ (a : ℕ) (small : w / 2 ^ q % cap L + a < cap L) where

@@ -1,12 +1,13 @@
 -- A group's calls. Document 01, 'Rows, groups and blocks' and 'Updating, asking, uniting'.
-use Prim.Native.Nat.{ℕ, _%_}
-use mathlib.Core.Bool.{cond, _&&_}
+use Prim.Native.Nat.{ℕ, _+_, _%_}
+use mathlib.Core.Bool.{Bool, cond, _&&_}
+use lib.Dec.{ltb}
 use Rattle.counts.specs.Bytes.{number, bytes}
 use Rattle.layout.specs.Layout.{marks, layout, valid}
 use Rattle.layout.specs.Layout as layout-spec
 use Rattle.block.specs.declared.Counter.{Counter}
 use Rattle.block.specs.declared.Summed.{Summed}
-use Rattle.block.specs.Block.{Block, shape, word, block, counterAt}
+use Rattle.block.specs.Block.{Block, cap, shape, word, block, counterAt}
 use Rattle.block.specs.Change.{change}
 use Rattle.block.specs.Sum.{Sum, fits, over}
 use Rattle.block.specs.Sum as sum
@@ -45,6 +46,10 @@ settle g (over s) = unchanged counterFull g
 -- an amount added to the counter of a slot
 unfoldable pub added : Group → ℕ → ℕ → Outcome
 added g slot amount = cond (valid 3 (g .merge)) (settle g (sum.add (decode g) (slot % 8) amount)) (unchanged invalidMerge g)
+
+-- whether the counter of a slot holds its value with an amount added
+unfoldable pub holds : Group → ℕ → ℕ → Bool
+holds g slot amount = valid 3 (g .merge) && ltb (counterAt (decode g) (slot % 8) .value + amount) (cap (counterAt (decode g) (slot % 8) .level))
 
 -- a source group united with a target
 unfoldable pub united : Group → Group → Outcome

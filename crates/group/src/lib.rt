@@ -1,7 +1,7 @@
 // A group of eight slots: its counters, its merge byte and its layout code.
 use block::Summed;
 ghost use mathlib.Core.Path.{_≡_};
-ghost use mathlib.Core.Bool.{true, false};
+ghost use mathlib.Core.Bool.{true, false, cond};
 ghost use Prim.Native.Nat.{ℕ, _+_, _-_, _*_, _/_, _%_, _^_, _<_, _≤_};
 ghost use lib.Dec.{ltb};
 ghost use Rattle.layout.specs.Layout.{layout, valid};
@@ -11,7 +11,7 @@ ghost use Rattle.block.specs.Block as block_spec;
 ghost use Rattle.block.specs.Change as change_spec;
 ghost use Rattle.block.specs.Sum.{summed};
 ghost use Rattle.block.specs.Sum as sum_spec;
-ghost use Rattle.group.specs.Group.{read, stored, added, united, widestOf, changed};
+ghost use Rattle.group.specs.Group.{read, stored, holds, added, united, widestOf, changed};
 ghost use Rattle.group.specs.Group as spec;
 ghost use Rattle.group.specs.Status as status_spec;
 
@@ -227,9 +227,44 @@ fn widened(word: u64, merge: u8, level: u32, slot: usize, amount: u32) -> Summed
     }
 }
 
-// An amount added to the counter that a slot is in. Where the counter holds the sum, the layout stays and no other byte changes.
-// Only the counter of a whole group can be full.
-pub fn add(g: Group, slot: usize, amount: u32) -> Outcome
+// The count bytes after an addition that its counter holds; if it does not, as they were.
+pub struct Kept {
+    pub held: bool,
+    pub counts: [u8; 8],
+}
+
+// An amount added to the counter that a slot is in, if the counter holds the sum. The layout stays and no other counter changes.
+pub fn add_in_place(g: Group, slot: usize, amount: u32) -> Kept
+    ensures { λ r. ⌜ r .held ≡ holds g slot amount ⌝ }
+    ensures { λ r. ⌜ r .counts ≡ cond (r .held) (added g slot amount .group .counts) (g .counts) ⌝ }
+{
+    let counts = g.counts;
+    if !is_valid(g.merge) {
+        return Kept {
+            held: false,
+            counts,
+        };
+    }
+    let word = counts::number_of(counts);
+    let k = slot % 8;
+    let level = level_at(g.merge, k);
+    let at = place(level, k);
+    let room = most(level) - value_at(word, level, at);
+    if room < amount as u64 {
+        return Kept {
+            held: false,
+            counts,
+        };
+    }
+    Kept {
+        held: true,
+        counts: counts::bytes_of(word + ((amount as u64) << at)),
+    }
+}
+
+// An amount added to a counter that does not hold the sum. Only the counter of a whole group can be full.
+pub fn add_widening(g: Group, slot: usize, amount: u32) -> Outcome
+    requires { ⌜ holds g slot amount ≡ false ⌝ }
     ensures { λ r. ⌜ r ≡ added g slot amount ⌝ }
 {
     let counts = g.counts;
@@ -239,15 +274,6 @@ pub fn add(g: Group, slot: usize, amount: u32) -> Outcome
     let word = counts::number_of(counts);
     let k = slot % 8;
     let level = level_at(g.merge, k);
-    let at = place(level, k);
-    let room = most(level) - value_at(word, level, at);
-    if amount as u64 <= room {
-        return settled(Summed {
-            over: false,
-            word: word + ((amount as u64) << at),
-            merge: g.merge,
-        });
-    }
     if level == 3 {
         return unchanged(COUNTER_FULL, g);
     }
@@ -256,6 +282,24 @@ pub fn add(g: Group, slot: usize, amount: u32) -> Outcome
         return settled(wider);
     }
     settled(block::add(3, word, g.merge, k, amount as u64))
+}
+
+// An amount added to the counter that a slot is in.
+pub fn add(g: Group, slot: usize, amount: u32) -> Outcome
+    ensures { λ r. ⌜ r ≡ added g slot amount ⌝ }
+{
+    let s = add_in_place(g, slot, amount);
+    if s.held {
+        let counts = s.counts;
+        return Outcome {
+            status: 0,
+            group: Group {
+                counts,
+                merge: g.merge,
+            },
+        };
+    }
+    add_widening(g, slot, amount)
 }
 
 // Whether the sum of all counters of two groups is below 2 ^ 64. It is where neither group is one counter.
