@@ -40,7 +40,22 @@ pub fn update_one(row: &mut [u8], w: usize, slot: usize, amount: u32) -> u8
     ensures { λ s. ⌜ s ≡ addedIn w (now (row .entry)) slot amount .status ⌝ }
     ensures { λ s. ⌜ now (row .exit) ≡ cond (eqb s 0) (withGroup w (now (row .entry)) (slot / 8) (addedIn w (now (row .entry)) slot amount .group)) (now (row .entry)) ⌝ }
 {
-    let o = added_in(row, w, slot, amount);
+    let x = load(row, w, slot / 8);
+    let s = group::add_in_place(x, slot, amount);
+    if s.held {
+        let counts = s.counts;
+        update_row(
+            row,
+            w,
+            slot,
+            Group {
+                counts,
+                merge: x.merge,
+            },
+        );
+        return 0;
+    }
+    let o = group::add_widening(x, slot, amount);
     if o.status != 0 {
         return o.status;
     }
