@@ -74,7 +74,7 @@ struct Trial {
     status: u8,
 }
 
-// An amount added in the slot's group of each row. Stores nothing.
+// An amount added in the slot's group of each row. Stores nothing. Where the counter holds the sum, no group is handed back in memory.
 fn try_rows(d: usize, w: usize, memory: &[u8], slots: &[usize; 8], amount: u32) -> Trial
     requires { ⌜ RowsIn d w (length (now memory)) ⌝ ∗ ⌜ ((r : ℕ) → r < d → getD (now slots) r 0 < w) ⌝ }
     ensures { λ t. ⌜ t .status ≡ earliest (ofRows (λ (r : ℕ) (row : List ℕ). addedIn w row (getD (now (slots .entry)) r 0) amount .status) (geometry.stride w) d 0 (now (memory .entry))) ⌝ }
@@ -90,10 +90,20 @@ fn try_rows(d: usize, w: usize, memory: &[u8], slots: &[usize; 8], amount: u32) 
     };
     let mut status = 0u8;
     for r in 0..d {
-        let o = row::added_in(row_at(w, memory, r), w, slots[r], amount);
-        let g = o.group;
-        t.groups[r] = g;
-        status = earlier(status, o.status);
+        let x = geometry::load(row_at(w, memory, r), w, slots[r] / 8);
+        let k = group::add_in_place(x, slots[r], amount);
+        if k.held {
+            let counts = k.counts;
+            t.groups[r] = Group {
+                counts,
+                merge: x.merge,
+            };
+        } else {
+            let o = group::add_widening(x, slots[r], amount);
+            let g = o.group;
+            t.groups[r] = g;
+            status = earlier(status, o.status);
+        }
     }
     t.status = status;
     t
