@@ -18,14 +18,6 @@ ghost use Rattle.geometry.specs.Rows.{groupAt, withGroup};
 ghost use Rattle.group.specs.Group.{read};
 ghost use Rattle.row.specs.Row.{addedIn, widestStatus, widestRow, unitedAt, uniteStatus, uniteGroups, uniteRow};
 
-// The group of a slot with an amount added.
-pub fn added_in(row: &[u8], w: usize, slot: usize, amount: u32) -> Outcome
-    requires { ⌜ validWidth w ≡ true ⌝ ∗ ⌜ length (now row) ≡ geometry.stride w ⌝ ∗ ⌜ slot < w ⌝ }
-    ensures { λ r. ⌜ r ≡ addedIn w (now (row .entry)) slot amount ⌝ }
-{
-    group::add(load(row, w, slot / 8), slot, amount)
-}
-
 // An update of a row: the group of a slot stored.
 pub fn update_row(row: &mut [u8], w: usize, slot: usize, x: Group)
     requires { ⌜ validWidth w ≡ true ⌝ ∗ ⌜ length (now row) ≡ geometry.stride w ⌝ ∗ ⌜ slot < w ⌝ }
