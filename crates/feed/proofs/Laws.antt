@@ -9,15 +9,15 @@ use borrow.Author.Tests.{eq-eqb, ne-eqb}
 use Rattle.geometry.specs.Order.{badShape, badKey}
 use Rattle.meter.specs.Meter.{badCall, estimated}
 use Rattle.meter.proofs.Calls.{call-key}
-use Rattle.records.specs.declared.Body.{Body}
-use Rattle.records.specs.declared.Body.the-variants as body
+use Rattle.feed_records.specs.declared.Body.{Body}
+use Rattle.feed_records.specs.declared.Body.the-variants as body
 use Rattle.group.specs.declared.Answer.{Answer}
 use Rattle.feed.specs.declared.Recorded.{Recorded}
 use Rattle.feed.specs.declared.Recorded.the-variants as case
-use Rattle.records.specs.Answers.{bodyAnswer}
+use Rattle.feed_records.specs.Answers.{bodyAnswer}
 use Rattle.feed.specs.Record.{rejection, outcomeOf, carriedUpdate, queried, carried, carriedAfter, recorded}
-use Rattle.records.specs.Words.{opened, keyOf}
-use Rattle.records.proofs.Laws.{HasTag, key-length}
+use Rattle.feed_records.specs.Words.{opened, keyOf}
+use Rattle.feed_records.proofs.Laws.{HasTag, key-length}
 
 pub update-refused : (d w : ℕ) (memory : List ℕ) (n : ℕ) (words : List ℕ) (b : Body) → HasTag 1 b
     → carriedUpdate d w memory n words b ≡ record { outcome = rejection (bodyAnswer b); memory = memory }

@@ -6,14 +6,14 @@ use native.Mathlib.Omega.{arith}
 use lib.ListN.{length, take}
 use Rattle.geometry.specs.Order.{badShape}
 use Rattle.word.specs.Word.{headKind}
-use Rattle.records.specs.declared.Opening.{Opening}
-use Rattle.records.specs.declared.Opening.the-variants as opening
-use Rattle.records.specs.declared.Body.{Body}
-use Rattle.records.specs.declared.Body.the-variants as body
+use Rattle.feed_records.specs.declared.Opening.{Opening}
+use Rattle.feed_records.specs.declared.Opening.the-variants as opening
+use Rattle.feed_records.specs.declared.Body.{Body}
+use Rattle.feed_records.specs.declared.Body.the-variants as body
 use Rattle.feed.specs.Head.{headStep, headed}
-use Rattle.records.specs.Words.{opened, keyOf, updateBody, queryBody, wordsTaken}
+use Rattle.feed_records.specs.Words.{opened, keyOf, updateBody, queryBody, wordsTaken}
 use Rattle.feed.specs.Record.{carriedUpdate, queried, carried, carriedAfter, recorded}
-use Rattle.records.proofs.Past.{taken, some-taken, opened-taken, payload-same, below-same, update-same, query-same, key-same, opened-same}
+use Rattle.feed_records.proofs.Past.{taken, some-taken, opened-taken, payload-same, below-same, update-same, query-same, key-same, opened-same}
 
 module _ (words : List ℕ) (n : ℕ) where
   abbrev front : List ℕ

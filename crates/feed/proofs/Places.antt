@@ -10,15 +10,15 @@ use lib.ListN.{length}
 use Rattle.group.specs.declared.Answer.{Answer}
 use Rattle.geometry.specs.Order.{badShape, answerOf, finish}
 use Rattle.meter.specs.Meter.{updated, estimated}
-use Rattle.records.specs.declared.Opening.{Opening}
-use Rattle.records.specs.declared.Opening.the-variants as opening
-use Rattle.records.specs.declared.Body.the-variants as body
+use Rattle.feed_records.specs.declared.Opening.{Opening}
+use Rattle.feed_records.specs.declared.Opening.the-variants as opening
+use Rattle.feed_records.specs.declared.Body.the-variants as body
 use Rattle.feed.specs.declared.Recorded.{Recorded}
 use Rattle.feed.specs.declared.Recorded.the-variants as case
 use Rattle.feed.specs.Answers.{recordAnswer}
-use Rattle.records.specs.Words.{opened, keyWords, keyOf, amountOf, updateStep, queryStep, bodyOf, updateBody, queryBody}
+use Rattle.feed_records.specs.Words.{opened, keyWords, keyOf, amountOf, updateStep, queryStep, bodyOf, updateBody, queryBody}
 use Rattle.feed.specs.Record.{Carried, outcomeOf, carriedUpdate, queried, carried, carriedAfter, recorded}
-use Rattle.records.proofs.Places.{key-in, update-in, missing}
+use Rattle.feed_records.proofs.Places.{key-in, update-in, missing}
 
 -- the place of a record's outcome, inside so many words
 abbrev Inside : ℕ → Recorded → Type 0

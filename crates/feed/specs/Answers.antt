@@ -1,7 +1,7 @@
 -- Document 01's number, place and figure for each case of a feed's answers.
 use Rattle.group.specs.declared.Answer.{Answer}
 use Rattle.group.specs.Status.{accepted}
-use Rattle.records.specs.Answers.{faulty}
+use Rattle.feed_records.specs.Answers.{faulty}
 use Rattle.feed.specs.declared.Recorded.{Recorded}
 use Rattle.feed.specs.declared.Recorded.the-variants as case
 

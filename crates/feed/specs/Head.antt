@@ -8,7 +8,7 @@ use Rattle.group.specs.Status.{accepted}
 use Rattle.geometry.specs.Order.{firstOf, badDepth, badWidth}
 use Rattle.word.specs.declared.Step.{Step}
 use Rattle.word.specs.Word.{headKind, stop, next, payload, below}
-use Rattle.records.specs.Answers.{faulty}
+use Rattle.feed_records.specs.Answers.{faulty}
 
 -- d is in the low four bits of the head's payload, log2 w in the next five
 abbrev pub headDepth : ℕ → ℕ

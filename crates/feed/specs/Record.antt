@@ -7,14 +7,14 @@ use lib.ListN.{length}
 use Rattle.group.specs.declared.Answer.{Answer}
 use Rattle.geometry.specs.Order.{badShape}
 use Rattle.meter.specs.Meter.{updated, estimated}
-use Rattle.records.specs.declared.Opening.{Opening}
-use Rattle.records.specs.declared.Opening.the-variants as opening
-use Rattle.records.specs.declared.Body.{Body}
-use Rattle.records.specs.declared.Body.the-variants as body
+use Rattle.feed_records.specs.declared.Opening.{Opening}
+use Rattle.feed_records.specs.declared.Opening.the-variants as opening
+use Rattle.feed_records.specs.declared.Body.{Body}
+use Rattle.feed_records.specs.declared.Body.the-variants as body
 use Rattle.feed.specs.declared.Recorded.{Recorded}
 use Rattle.feed.specs.declared.Recorded.the-variants as case
-use Rattle.records.specs.Answers.{openingAnswer, bodyAnswer}
-use Rattle.records.specs.Words.{opened, keyOf, updateBody, queryBody}
+use Rattle.feed_records.specs.Answers.{openingAnswer, bodyAnswer}
+use Rattle.feed_records.specs.Words.{opened, keyOf, updateBody, queryBody}
 
 -- what the call answers and leaves in the memory
 pub record Carried : Type 0 where

@@ -1,16 +1,16 @@
 // Feeds: one call for the head, and one for each record and for the end. Both take any words, and look at none past the record.
+use feed_records::Body;
+use feed_records::Opening;
 use group::Answer;
-use records::Body;
-use records::Opening;
 ghost use mathlib.Core.Path.{_≡_};
 ghost use Prim.Native.Nat.{_≤_};
 ghost use lib.ListN.{length};
 ghost use Rattle.geometry.specs.Order.{badShape, badKey};
-ghost use Rattle.records.specs.Answers as answers;
-ghost use Rattle.records.specs.Answers.{bodyAnswer};
+ghost use Rattle.feed_records.specs.Answers as answers;
+ghost use Rattle.feed_records.specs.Answers.{bodyAnswer};
 ghost use Rattle.feed.specs.Answers.{recordAnswer};
 ghost use Rattle.feed.specs.Head.{headDepth, headWidth, badGeometry, headed};
-ghost use Rattle.records.specs.Words.{wordsTaken, updateBody, queryBody};
+ghost use Rattle.feed_records.specs.Words.{wordsTaken, updateBody, queryBody};
 ghost use Rattle.feed.specs.Record as spec;
 ghost use Rattle.feed.specs.Record.{carriedUpdate, queried, recorded};
 
@@ -93,11 +93,11 @@ pub fn head(words: &[u32]) -> Answer
 pub fn words_taken(words: &[u32]) -> usize
     ensures { λ r. ⌜ r ≡ wordsTaken (now (words .entry)) ⌝ }
 {
-    let n = records::key_words(word::payload(words, 0) as usize);
-    if word::is_due(words, 0, records::UPDATE) {
+    let n = feed_records::key_words(word::payload(words, 0) as usize);
+    if word::is_due(words, 0, feed_records::UPDATE) {
         return 1 + n + 2;
     }
-    if word::is_due(words, 0, records::QUERY) {
+    if word::is_due(words, 0, feed_records::QUERY) {
         return 1 + n;
     }
     1
@@ -129,7 +129,7 @@ fn update(d: usize, w: usize, memory: &mut [u8], n: usize, words: &[u32]) -> Rec
     ensures { λ r. ⌜ now (memory .exit) ≡ carriedUpdate d w (now (memory .entry)) n (now (words .entry)) (updateBody n (now (words .entry))) .memory ⌝ }
 {
     let mut key = [0u8; 66];
-    let b = records::update_body(words, n, &mut key);
+    let b = feed_records::update_body(words, n, &mut key);
     let Body::Sound { amount } = b else {
         return refused(b);
     };
@@ -146,7 +146,7 @@ fn query(d: usize, w: usize, memory: &[u8], n: usize, words: &[u32]) -> Recorded
     ensures { λ r. ⌜ r ≡ queried d w (now (memory .entry)) n (now (words .entry)) (queryBody n (now (words .entry))) ⌝ }
 {
     let mut key = [0u8; 66];
-    let b = records::query_body(words, n, &mut key);
+    let b = feed_records::query_body(words, n, &mut key);
     let Body::Sound { amount: _ } = b else {
         return refused(b);
     };
@@ -170,7 +170,7 @@ pub fn record(d: usize, w: usize, memory: &mut [u8], before: u64, words: &[u32])
             position: 0,
         };
     }
-    let first = records::first_word(before, words);
+    let first = feed_records::first_word(before, words);
     match first {
         Opening::Update { length } => update(d, w, memory, length, words),
         Opening::Query { length } => query(d, w, memory, length, words),

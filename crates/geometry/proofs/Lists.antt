@@ -10,7 +10,7 @@ use borrow.Rule.Slice.PartMut.{putMid, post-is}
 use lib.Bits.{bitOr, or-add-and, and-le-l, and-le-r}
 use lib.ListN.{length, getD, take, drop, set, length-append, length-take, length-drop, take-append-drop, drop-of-length-le, List·getD-eq-default}
 use lib.Seq.{paste-suc, length-take-le, take-at, drop-at, drop-drop, getD-drop, getD-take, getD-set-same, getD-set-other}
-use Rattle.counts.proofs.Bytes.{Bytes}
+use Rattle.laws.proofs.Lists.{Bytes}
 use Rattle.geometry.specs.Geometry.{size, RowIn, RowsIn}
 use Rattle.geometry.specs.Geometry as geometry
 use Rattle.geometry.specs.Rows.{mapRows, ofRows, ofGroups, largest}

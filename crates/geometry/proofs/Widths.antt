@@ -12,8 +12,8 @@ use lib.Arith.{bin-ind}
 use lib.Bits.{bitAnd, and-step, and-self, and-mask}
 use lib.Dec.{eqb, leb}
 use lib.Pow.{pow-add, pow-mono, pow-lt}
-use Rattle.layout.proofs.Laws.{or-cases}
-use Rattle.block.proofs.Every.{both-ways}
+use Rattle.laws.proofs.Tests.{or-cases}
+use Rattle.laws.proofs.Tests.{both-ways}
 use Rattle.geometry.specs.Geometry.{oneOfPowers, validDepth, validWidth, stride, size, RowsIn}
 use Rattle.geometry.specs.Order.{firstOf, unless, badShape, earlier, answerOf}
 use Rattle.group.specs.Status.{rejected}

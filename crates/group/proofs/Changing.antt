@@ -5,14 +5,14 @@ use Prim.Native.Nat.{ℕ, zero, suc, _/_, _%_, _^_, _<_}
 use native.Mathlib.Nat.{mod-eq-of-lt, mod-lt}
 use native.Mathlib.Omega.{arith}
 use lib.ListN.{getD, replicate}
-use Rattle.counts.specs.Bytes.{number, bytes}
-use Rattle.counts.proofs.Bytes.{number-bytes, bytes-length}
-use Rattle.layout.specs.Layout.{layout, valid}
-use Rattle.block.specs.Block.{Block, cap, Fits, shape, word, block, counterAt}
-use Rattle.block.specs.Change.{change}
-use Rattle.block.proofs.Laws.{word-lt, shape-fill, fill-word, block-fits}
-use Rattle.block.proofs.Changing.{change-fits, change-shape}
-use Rattle.block.proofs.Slots.{change-at, change-before, counters-ext}
+use Rattle.group_bytes.specs.Bytes.{number, bytes}
+use Rattle.group_bytes.proofs.Bytes.{number-bytes, bytes-length}
+use Rattle.group_layout.specs.Layout.{layout, valid}
+use Rattle.group_block.specs.Block.{Block, cap, Fits, shape, word, block, counterAt}
+use Rattle.group_block.specs.Change.{change}
+use Rattle.group_block.proofs.Laws.{word-lt, shape-fill, fill-word, block-fits}
+use Rattle.group_block.proofs.Changing.{change-fits, change-shape}
+use Rattle.group_block.proofs.Slots.{change-at, change-before, counters-ext}
 use Rattle.group.specs.declared.Group.{Group}
 use Rattle.group.specs.Group.{decode, encode, read, reading, changed}
 use Rattle.group.proofs.Laws.{Eight, number-in, encode-decode}

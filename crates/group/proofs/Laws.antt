@@ -8,15 +8,16 @@ use native.Mathlib.Omega.{arith}
 use borrow.Author.Tests.{ltb-true, ltb-false}
 use lib.Dec.{ltb}
 use lib.ListN.{length}
-use Rattle.counts.specs.Bytes.{number}
-use Rattle.counts.proofs.Bytes.{Bytes, number-lt, number-bytes, bytes-number}
-use Rattle.layout.specs.Layout.{valid}
-use Rattle.layout.proofs.Laws.{valid-marks}
-use Rattle.block.specs.Block.{Block, cap, Fits, shape, word, block, counterAt, total}
-use Rattle.block.specs.Sum.{Sum, fits, over, add, unite, summed, sumTotal, Sound}
-use Rattle.block.proofs.Laws.{word-lt, word-block, marks-block, block-is, block-fits, total-lt}
-use Rattle.block.proofs.Adding.{add-total, add-sound, unite-total, unite-sound}
-use Rattle.block.proofs.Places.{add-in-place}
+use Rattle.group_bytes.specs.Bytes.{number}
+use Rattle.laws.proofs.Lists.{Bytes}
+use Rattle.group_bytes.proofs.Bytes.{number-lt, number-bytes, bytes-number}
+use Rattle.group_layout.specs.Layout.{valid}
+use Rattle.group_layout.proofs.Laws.{valid-marks}
+use Rattle.group_block.specs.Block.{Block, cap, Fits, shape, word, block, counterAt, total}
+use Rattle.group_block.specs.Sum.{Sum, fits, over, add, unite, summed, sumTotal, Sound}
+use Rattle.group_block.proofs.Laws.{word-lt, word-block, marks-block, block-is, block-fits, total-lt}
+use Rattle.group_block.proofs.Adding.{add-total, add-sound, unite-total, unite-sound}
+use Rattle.group_block.proofs.Places.{add-in-place}
 use Rattle.group.specs.declared.Group.{Group}
 use Rattle.group.specs.declared.Kept.{Kept}
 use Rattle.group.specs.declared.Outcome.{Outcome}

@@ -4,10 +4,10 @@ use mathlib.Core.Bool.{Bool, true, false, cond, _&&_}
 use Prim.Native.Nat.{ℕ, _%_}
 use native.Mathlib.Omega.{arith}
 use lib.ListN.{length}
-use Rattle.counts.proofs.Bytes.{bytes-length}
-use Rattle.layout.specs.Layout.{valid}
-use Rattle.block.specs.Block.{word}
-use Rattle.block.specs.Sum.{Sum, fits, over, add, unite}
+use Rattle.group_bytes.proofs.Bytes.{bytes-length}
+use Rattle.group_layout.specs.Layout.{valid}
+use Rattle.group_block.specs.Block.{word}
+use Rattle.group_block.specs.Sum.{Sum, fits, over, add, unite}
 use Rattle.group.specs.declared.Group.{Group}
 use Rattle.group.specs.Status.{invalidMerge}
 use Rattle.group.specs.Group.{decode, encode, settle, unchanged, added, united}

@@ -9,17 +9,17 @@ use borrow.Author.Tests.{ne-eqb, lt-ltb, le-ltb, le-leb, lt-leb}
 use lib.Dec.{leb, ltb}
 use lib.Bits.{bitAnd, bitOr, and-mask, or-shr, or-step}
 use lib.Pow.{pow-pos, pow-mono, ones-lt, ones-split, high}
-use Rattle.counts.specs.Bytes.{number}
-use Rattle.layout.specs.Layout.{bit, isMerged, layout, valid}
-use Rattle.layout.proofs.Laws.{own-bit}
-use Rattle.block.specs.Block.{cap, word, block, counterAt, total}
-use Rattle.block.specs.Change.{change}
-use Rattle.block.specs.Sum.{add, Sound}
-use Rattle.block.proofs.Laws.{word-lt, shape-fill, word-block, marks-block, block-fits}
-use Rattle.block.proofs.Adding.{add-sound}
-use Rattle.block.proofs.Changing.{change-fits}
-use Rattle.block.proofs.Slots.{halves-sum}
-use Rattle.block.proofs.Places.{first, first-is, value-is, InPlace, add-in-place, change-word}
+use Rattle.group_bytes.specs.Bytes.{number}
+use Rattle.group_layout.specs.Layout.{bit, isMerged, layout, valid}
+use Rattle.group_layout.proofs.Laws.{own-bit}
+use Rattle.group_block.specs.Block.{cap, word, block, counterAt, total}
+use Rattle.group_block.specs.Change.{change}
+use Rattle.group_block.specs.Sum.{add, Sound}
+use Rattle.group_block.proofs.Laws.{word-lt, shape-fill, word-block, marks-block, block-fits}
+use Rattle.group_block.proofs.Adding.{add-sound}
+use Rattle.group_block.proofs.Changing.{change-fits}
+use Rattle.group_block.proofs.Slots.{halves-sum}
+use Rattle.group_block.proofs.Places.{first, first-is, value-is, InPlace, add-in-place, change-word}
 use Rattle.group.specs.declared.Group.{Group}
 use Rattle.group.specs.Group.{decode, encode, stored, settle, added}
 

@@ -5,11 +5,11 @@ use Prim.Native.Nat.{ℕ, _+_, _-_, _*_, _/_, _%_, _^_, _<_}
 use borrow.Author.Tests.{eqb-true, eq-eqb}
 use lib.Bits.{bitAnd, bitOr}
 use lib.Dec.{eqb}
-use Rattle.layout.specs.Layout.{bit, layout, valid, ones, widest}
-use Rattle.block.specs.Block.{block, counterAt}
-use Rattle.block.proofs.Every.{every, every-at}
-use Rattle.block.proofs.Laws.{shape-fill}
-use Rattle.block.proofs.Slots.{levelOf, level-is}
+use Rattle.group_layout.specs.Layout.{bit, layout, valid, ones, widest}
+use Rattle.group_block.specs.Block.{block, counterAt}
+use Rattle.laws.proofs.Tests.{every, every-at}
+use Rattle.group_block.proofs.Laws.{shape-fill}
+use Rattle.group_block.proofs.Slots.{levelOf, level-is}
 
 same : Bool → Bool → Bool
 same a b = cond a b (not b)

@@ -6,12 +6,12 @@ use native.Mathlib.Nat.{mul-assoc, add-mul, one-mul, mul-div-cancel, div-mul-le-
 use native.Mathlib.Numerals.{add-one}
 use native.Mathlib.Omega.{arith}
 use lib.Pow.{pow-pos, field, shr-shr, mod-mod-pow}
-use Rattle.layout.specs.Layout.{valid, marks}
-use Rattle.block.specs.Block.{Block, cap, shape, word, block, counterAt}
-use Rattle.block.specs.Sum.{add, summed, Sound}
-use Rattle.block.proofs.Laws.{word-lt, word-block, marks-block, block-fits}
-use Rattle.block.proofs.Adding.{add-sound}
-use Rattle.block.proofs.Twins.{Twins, Widened, whole-left, widens}
+use Rattle.group_layout.specs.Layout.{valid, marks}
+use Rattle.group_block.specs.Block.{Block, cap, shape, word, block, counterAt}
+use Rattle.group_block.specs.Sum.{add, summed, Sound}
+use Rattle.group_block.proofs.Laws.{word-lt, word-block, marks-block, block-fits}
+use Rattle.group_block.proofs.Adding.{add-sound}
+use Rattle.group_block.proofs.Twins.{Twins, Widened, whole-left, widens}
 use Rattle.group.proofs.Places.{counter-at}
 
 -- a field of the next level is two fields

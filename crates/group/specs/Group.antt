@@ -2,15 +2,15 @@
 use Prim.Native.Nat.{ℕ, _+_, _%_}
 use mathlib.Core.Bool.{Bool, cond, _&&_}
 use lib.Dec.{ltb}
-use Rattle.counts.specs.Bytes.{number, bytes}
-use Rattle.layout.specs.Layout.{marks, layout, valid}
-use Rattle.layout.specs.Layout as layout-spec
-use Rattle.block.specs.declared.Counter.{Counter}
-use Rattle.block.specs.declared.Summed.{Summed}
-use Rattle.block.specs.Block.{Block, cap, shape, word, block, counterAt}
-use Rattle.block.specs.Change.{change}
-use Rattle.block.specs.Sum.{Sum, fits, over}
-use Rattle.block.specs.Sum as sum
+use Rattle.group_bytes.specs.Bytes.{number, bytes}
+use Rattle.group_layout.specs.Layout.{marks, layout, valid}
+use Rattle.group_layout.specs.Layout as layout-spec
+use Rattle.group_block.specs.declared.Counter.{Counter}
+use Rattle.group_block.specs.declared.Summed.{Summed}
+use Rattle.group_block.specs.Block.{Block, cap, shape, word, block, counterAt}
+use Rattle.group_block.specs.Change.{change}
+use Rattle.group_block.specs.Sum.{Sum, fits, over}
+use Rattle.group_block.specs.Sum as sum
 use Rattle.group.specs.declared.Answer.{Answer}
 use Rattle.group.specs.declared.Group.{Group}
 use Rattle.group.specs.declared.Reading.{Reading}

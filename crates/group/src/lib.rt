@@ -1,16 +1,16 @@
 // A group of eight slots: its counters, its merge byte and its layout code.
-use block::Summed;
+use group_block::Summed;
 ghost use mathlib.Core.Path.{_≡_};
 ghost use mathlib.Core.Bool.{true, false, cond};
 ghost use Prim.Native.Nat.{ℕ, _+_, _-_, _*_, _/_, _%_, _^_, _<_, _≤_};
 ghost use lib.Dec.{ltb};
-ghost use Rattle.layout.specs.Layout.{layout, valid};
-ghost use Rattle.layout.specs.Layout as layout_spec;
-ghost use Rattle.block.specs.Block.{cap, block, counterAt};
-ghost use Rattle.block.specs.Block as block_spec;
-ghost use Rattle.block.specs.Change as change_spec;
-ghost use Rattle.block.specs.Sum.{summed};
-ghost use Rattle.block.specs.Sum as sum_spec;
+ghost use Rattle.group_layout.specs.Layout.{layout, valid};
+ghost use Rattle.group_layout.specs.Layout as layout_spec;
+ghost use Rattle.group_block.specs.Block.{cap, block, counterAt};
+ghost use Rattle.group_block.specs.Block as block_spec;
+ghost use Rattle.group_block.specs.Change as change_spec;
+ghost use Rattle.group_block.specs.Sum.{summed};
+ghost use Rattle.group_block.specs.Sum as sum_spec;
 ghost use Rattle.group.specs.Group.{read, stored, holds, added, united, widestOf, changed};
 ghost use Rattle.group.specs.Group as spec;
 ghost use Rattle.group.specs.Status as status_spec;
@@ -135,7 +135,7 @@ pub fn counter(g: Group, slot: usize) -> Reading
     let at = place(level, slot % 8);
     Reading {
         status: 0,
-        value: value_at(counts::number_of(counts), level, at),
+        value: value_at(group_bytes::number_of(counts), level, at),
         level,
     }
 }
@@ -147,7 +147,7 @@ fn settled(s: Summed) -> Outcome
     Outcome {
         status: 0,
         group: Group {
-            counts: counts::bytes_of(s.word),
+            counts: group_bytes::bytes_of(s.word),
             merge: s.merge,
         },
     }
@@ -178,7 +178,7 @@ fn twin_sum(word: u64, level: u32, place: usize) -> u64
     ensures { λ r. ⌜ r < 2 ^ 33 ⌝ }
 {
     let both = value_at(word, level + 1, place);
-    block::low_word(level, both) + block::high_word(level, both)
+    group_block::low_word(level, both) + group_block::high_word(level, both)
 }
 
 // The count bytes, taken as one number, with another value of this level at a place.
@@ -245,7 +245,7 @@ pub fn add_in_place(g: Group, slot: usize, amount: u32) -> Kept
             counts,
         };
     }
-    let word = counts::number_of(counts);
+    let word = group_bytes::number_of(counts);
     let k = slot % 8;
     let level = level_at(g.merge, k);
     let at = place(level, k);
@@ -258,7 +258,7 @@ pub fn add_in_place(g: Group, slot: usize, amount: u32) -> Kept
     }
     Kept {
         held: true,
-        counts: counts::bytes_of(word + ((amount as u64) << at)),
+        counts: group_bytes::bytes_of(word + ((amount as u64) << at)),
     }
 }
 
@@ -271,7 +271,7 @@ pub fn add_widening(g: Group, slot: usize, amount: u32) -> Outcome
     if !is_valid(g.merge) {
         return unchanged(INVALID_MERGE, g);
     }
-    let word = counts::number_of(counts);
+    let word = group_bytes::number_of(counts);
     let k = slot % 8;
     let level = level_at(g.merge, k);
     if level == 3 {
@@ -281,7 +281,7 @@ pub fn add_widening(g: Group, slot: usize, amount: u32) -> Outcome
     if !wider.over {
         return settled(wider);
     }
-    settled(block::add(3, word, g.merge, k, amount as u64))
+    settled(group_block::add(3, word, g.merge, k, amount as u64))
 }
 
 // An amount added to the counter that a slot is in.
@@ -309,8 +309,8 @@ fn sum_fits(word: u64, merge: u8, other_word: u64, other_merge: u8) -> bool
     if ((merge | other_merge) >> 3) & 1 == 0 {
         return true;
     }
-    let room = 18446744073709551615 - block::total(3, word, merge);
-    block::total(3, other_word, other_merge) <= room
+    let room = 18446744073709551615 - group_block::total(3, word, merge);
+    group_block::total(3, other_word, other_merge) <= room
 }
 
 // Whether a target takes a source.
@@ -325,8 +325,8 @@ pub fn unite_status(target: Group, source: Group) -> u8
     if !is_valid(source.merge) {
         return INVALID_MERGE;
     }
-    let target_word = counts::number_of(target_counts);
-    let source_word = counts::number_of(source_counts);
+    let target_word = group_bytes::number_of(target_counts);
+    let source_word = group_bytes::number_of(source_counts);
     if !sum_fits(target_word, target.merge, source_word, source.merge) {
         return COUNTER_FULL;
     }
@@ -343,9 +343,9 @@ pub fn unite(target: Group, source: Group) -> Outcome
     if status != 0 {
         return unchanged(status, target);
     }
-    let word = counts::number_of(target_counts);
-    let source_word = counts::number_of(source_counts);
-    settled(block::unite(3, word, target.merge, source_word, source.merge))
+    let word = group_bytes::number_of(target_counts);
+    let source_word = group_bytes::number_of(source_counts);
+    settled(group_block::unite(3, word, target.merge, source_word, source.merge))
 }
 
 // The largest level of a valid group's counters: one if a pair is merged, one if a half is, one if the group is.
@@ -387,11 +387,11 @@ pub fn change(g: Group, slot: usize, value: u64) -> Outcome
     if !is_valid(g.merge) {
         return unchanged(INVALID_MERGE, g);
     }
-    let word = with_value(counts::number_of(counts), g.merge, slot % 8, value);
+    let word = with_value(group_bytes::number_of(counts), g.merge, slot % 8, value);
     Outcome {
         status: 0,
         group: Group {
-            counts: counts::bytes_of(word),
+            counts: group_bytes::bytes_of(word),
             merge: g.merge,
         },
     }

@@ -12,26 +12,26 @@ use lib.Arith.{digits-lt, digits-div, digits-mod}
 use lib.ListN.{length, getD, drop, replicate}
 use lib.Pow.{pow-add, pow-mono}
 use lib.Seq.{drop-cons}
-use Rattle.layout.specs.Layout.{valid}
-use Rattle.block.specs.declared.Counter.{Counter}
-use Rattle.block.specs.Block.{cap, counterAt}
+use Rattle.group_layout.specs.Layout.{valid}
+use Rattle.group_block.specs.declared.Counter.{Counter}
+use Rattle.group_block.specs.Block.{cap, counterAt}
 use Rattle.group.specs.declared.Group.{Group}
 use Rattle.group.specs.Status.{badPayload}
 use Rattle.group.specs.Group.{decode, read, changed}
 use Rattle.word.specs.declared.Step.{Step}
 use Rattle.word.specs.Word.{go, next, payload, isDue, tested, below}
-use Rattle.format.specs.Image.{word, countKind, parts, wordsOf, levelAt, isFirst, slotWords, slotsWords, groupWords}
-use Rattle.format.specs.Write.{slotSize, slotsSize, groupSize}
-use Rattle.format.specs.Read.{firstBits, checkParts, checkSlot, checkSlots, valueFrom, readSlot, readSlots, readGroup}
+use Rattle.image_format.specs.Image.{word, countKind, parts, wordsOf, levelAt, isFirst, slotWords, slotsWords, groupWords}
+use Rattle.image_format.specs.Write.{slotSize, slotsSize, groupSize}
+use Rattle.image_format.specs.Read.{firstBits, checkParts, checkSlot, checkSlots, valueFrom, readSlot, readSlots, readGroup}
 use Rattle.word.proofs.Laws.{both}
-use Rattle.format.proofs.Laws.{slot-none, slot-some, size-first, size-other, by-test}
-use Rattle.reader.proofs.Laws.{read-slot-other, read-slot-first, read-slot-merge}
-use Rattle.block.proofs.Slots.{level-le}
+use Rattle.image_format.proofs.Laws.{slot-none, slot-some, size-first, size-other, by-test}
+use Rattle.image_reader.proofs.Laws.{read-slot-other, read-slot-first, read-slot-merge}
+use Rattle.group_block.proofs.Slots.{level-le}
 use Rattle.group.proofs.Changing.{Good, good-changed, changed-at, changed-before, zero-good}
-use Rattle.format.proofs.Fields.{words-bits}
-use Rattle.reader.proofs.Digits.{power-step, value-digits}
-use Rattle.reader.proofs.Restoring.{Agree, read-value}
-use Rattle.format.proofs.Counters.{level-at, first-level}
+use Rattle.image_format.proofs.Fields.{words-bits}
+use Rattle.image_reader.proofs.Digits.{power-step, value-digits}
+use Rattle.image_reader.proofs.Restoring.{Agree, read-value}
+use Rattle.image_format.proofs.Counters.{level-at, first-level}
 
 -- a test that was passed, and the tests after it
 pub record Passed (s : Step) (f : ℕ → Step) (q : ℕ) : Type 0 where

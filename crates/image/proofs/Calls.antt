@@ -11,10 +11,10 @@ use Rattle.geometry.specs.Geometry.{stride, size}
 use Rattle.geometry.specs.Order.{unless, firstOf, badShape}
 use Rattle.geometry.proofs.Widths.{shape-good}
 use Rattle.word.specs.declared.Step.{Step}
-use Rattle.format.specs.Image.{image}
-use Rattle.format.specs.Write.{tooFewWords, validRows, writeStatus, finishWrite, written}
-use Rattle.format.specs.Read.{checked, readRows, finishRead, readAfter, taken}
-use Rattle.format.proofs.Laws.{Width, width-is}
+use Rattle.image_format.specs.Image.{image}
+use Rattle.image_format.specs.Write.{tooFewWords, validRows, writeStatus, finishWrite, written}
+use Rattle.image_format.specs.Read.{checked, readRows, finishRead, readAfter, taken}
+use Rattle.image_format.proofs.Laws.{Width, width-is}
 
 -- a call whose depth, width and memory have passed
 pub record Sound (d w n : ℕ) : Type 0 where

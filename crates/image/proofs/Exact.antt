@@ -9,20 +9,20 @@ use native.Mathlib.Omega.{arith}
 use borrow.Author.Tests.{lt-ltb, ltb-true}
 use lib.ListN.{length, getD, take, drop, length-append, length-drop}
 use lib.Seq.{getD-take, getD-drop, ext-getD, length-take-le, take-at, drop-at}
-use Rattle.layout.specs.Layout.{valid}
+use Rattle.group_layout.specs.Layout.{valid}
 use Rattle.group.specs.declared.Answer.{Answer}
 use Rattle.group.specs.declared.Group.{Group}
-use Rattle.codes.specs.Pack.{packed, fourMerges, unpacked}
+use Rattle.group_codes.specs.Pack.{packed, fourMerges, unpacked}
 use Rattle.group.proofs.Laws.{Eight}
-use Rattle.codes.proofs.Packing.{code-merge, pack-unpack}
+use Rattle.group_codes.proofs.Packing.{code-merge, pack-unpack}
 use Rattle.group.proofs.Changing.{Good}
 use Rattle.geometry.specs.Geometry.{stride}
 use Rattle.geometry.specs.Rows.{groupAt, withGroup}
 use Rattle.word.specs.declared.Step.{Step}
 use Rattle.word.specs.Word.{go, next, payload, below}
-use Rattle.format.specs.Image.{word, layoutKind, layoutAt, groupWords, groupsWords, fourWords, rowWords, rowsWords}
-use Rattle.format.specs.Write.{allValid, validRows, groupSize}
-use Rattle.format.specs.Read.{mergesAt, checkSlots, checkGroups, checkFour, checkFours, readGroup, readGroups, afterGroups, readFours, afterFours, readRows}
+use Rattle.image_format.specs.Image.{word, layoutKind, layoutAt, groupWords, groupsWords, fourWords, rowWords, rowsWords}
+use Rattle.image_format.specs.Write.{allValid, validRows, groupSize}
+use Rattle.image_format.specs.Read.{mergesAt, checkSlots, checkGroups, checkFour, checkFours, readGroup, readGroups, afterGroups, readFours, afterFours, readRows}
 use Rattle.word.proofs.Laws.{both}
 use Rattle.image.proofs.Rows.{with-length, with-before, with-counts, with-merge, with-after, merges-from}
 use Rattle.image.proofs.Accepting.{passed, below-is, group-is}

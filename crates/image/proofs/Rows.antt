@@ -10,26 +10,26 @@ use lib.Dec.{eqb}
 use borrow.Author.Tests.{eqb-false}
 use lib.ListN.{length, getD, take, drop, set, length-append, length-drop, length-set, List·getD-append, take-append-drop}
 use lib.Seq.{getD-take, getD-drop, getD-append-add, getD-set-same, getD-set-other, ext-getD, length-take-le}
-use Rattle.counts.proofs.Bytes.{Bytes}
-use Rattle.layout.specs.Layout.{valid}
+use Rattle.laws.proofs.Lists.{Bytes}
+use Rattle.group_layout.specs.Layout.{valid}
 use Rattle.group.specs.declared.Group.{Group}
-use Rattle.codes.specs.declared.Unpacked.{Unpacked}
-use Rattle.codes.specs.Pack.{fourCode, packed, unpacked}
-use Rattle.codes.proofs.Packing.{unpack-pack}
+use Rattle.group_codes.specs.declared.Unpacked.{Unpacked}
+use Rattle.group_codes.specs.Pack.{fourCode, packed, unpacked}
+use Rattle.group_codes.proofs.Packing.{unpack-pack}
 use Rattle.group.proofs.Changing.{Good}
 use Rattle.geometry.specs.Geometry.{stride}
 use Rattle.geometry.specs.Rows.{groupAt, withGroup}
 use Rattle.geometry.proofs.Lists.{bytes-drop, bytes-take}
 use Rattle.word.specs.declared.Step.{Step}
 use Rattle.word.specs.Word.{go, next, payload}
-use Rattle.format.specs.Image.{word, layoutKind, layoutAt, groupWords, groupsWords, fourWords, rowWords, rowsWords}
-use Rattle.format.specs.Write.{allValid, validRows, groupSize}
-use Rattle.format.specs.Read.{mergesAt, checkGroups, checkFour, checkFours, readGroups, afterGroups, readFours, afterFours, readRows}
+use Rattle.image_format.specs.Image.{word, layoutKind, layoutAt, groupWords, groupsWords, fourWords, rowWords, rowsWords}
+use Rattle.image_format.specs.Write.{allValid, validRows, groupSize}
+use Rattle.image_format.specs.Read.{mergesAt, checkGroups, checkFour, checkFours, readGroups, afterGroups, readFours, afterFours, readRows}
 use Rattle.word.proofs.Laws.{both}
-use Rattle.writer.proofs.Laws.{layout-lt}
-use Rattle.reader.proofs.Digits.{here, payload-here, below-here}
-use Rattle.format.proofs.Laws.{by-test}
-use Rattle.reader.proofs.Restoring.{group-restored}
+use Rattle.image_writer.proofs.Laws.{layout-lt}
+use Rattle.image_reader.proofs.Digits.{here, payload-here, below-here}
+use Rattle.image_format.proofs.Laws.{by-test}
+use Rattle.image_reader.proofs.Restoring.{group-restored}
 
 -- a row that is another up to group g
 pub record Same (w g : ℕ) (row source : List ℕ) : Type 0 where

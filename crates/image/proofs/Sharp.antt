@@ -10,13 +10,13 @@ use lib.Dec.{eqb, ltb}
 use lib.ListN.{length, getD, take, length-take}
 use lib.Seq.{getD-take}
 use Rattle.group.specs.Status.{badPayload}
-use Rattle.codes.specs.Pack.{unpacked}
+use Rattle.group_codes.specs.Pack.{unpacked}
 use Rattle.word.specs.declared.Step.{Step}
 use Rattle.word.specs.Word.{headKind, endKind, go, stop, badWord, next, payload, isDue, tested, below}
-use Rattle.format.specs.Image.{headPayload, layoutKind, countKind, wordsOf, levelAt, isFirst}
-use Rattle.format.specs.Read.{otherMeter, checkHead, checkEnd, checked, firstBits, checkParts, checkSlot, checkSlots, checkGroups, mergesAt, checkFour, checkFours}
+use Rattle.image_format.specs.Image.{headPayload, layoutKind, countKind, wordsOf, levelAt, isFirst}
+use Rattle.image_format.specs.Read.{otherMeter, checkHead, checkEnd, checked, firstBits, checkParts, checkSlot, checkSlots, checkGroups, mergesAt, checkFour, checkFours}
 use Rattle.word.proofs.Laws.{both, due-in}
-use Rattle.format.proofs.Laws.{by-test}
+use Rattle.image_format.proofs.Laws.{by-test}
 use Rattle.image.proofs.Accepting.{below-is}
 
 -- a test of all words, from position p on, and the same of the words before position q

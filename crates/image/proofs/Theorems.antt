@@ -12,19 +12,19 @@ use lib.Dec.{eqb, ltb}
 use lib.ListN.{length, take, drop, length-drop, length-append, drop-of-length-le}
 use lib.Pow.{pow-add, pow-pos}
 use lib.Seq.{take-append-seam}
-use Rattle.counts.proofs.Bytes.{Bytes}
+use Rattle.laws.proofs.Lists.{Bytes}
 use Rattle.group.specs.Status.{badPayload, accepted}
 use Rattle.geometry.specs.Geometry.{validWidth}
 use Rattle.geometry.specs.Order.{badShape, Done}
 use Rattle.geometry.proofs.Widths.{width-is}
 use Rattle.word.specs.declared.Step.{Step}
 use Rattle.word.specs.Word.{headKind, endKind, go, stop, badWord, next, payload, tested, below}
-use Rattle.format.specs.Image.{word, logFrom, logWidth, headPayload, rowsWords, body, endWord, image}
-use Rattle.format.specs.Write.{validRows, written}
-use Rattle.format.specs.Read.{otherMeter, checkHead, checkFours, checkEnd, checked, readRows, taken}
+use Rattle.image_format.specs.Image.{word, logFrom, logWidth, headPayload, rowsWords, body, endWord, image}
+use Rattle.image_format.specs.Write.{validRows, written}
+use Rattle.image_format.specs.Read.{otherMeter, checkHead, checkFours, checkEnd, checked, readRows, taken}
 use Rattle.image.proofs.Calls.{Sound, sound-call, write-done, read-call, read-faulty, read-done}
-use Rattle.reader.proofs.Digits.{payload-here, due-here, below-here}
-use Rattle.format.proofs.Laws.{by-test}
+use Rattle.image_reader.proofs.Digits.{payload-here, due-here, below-here}
+use Rattle.image_format.proofs.Laws.{by-test}
 use Rattle.image.proofs.Accepting.{passed, tested-is}
 use Rattle.image.proofs.Exact.{rows-are}
 use Rattle.image.proofs.Sharp.{sharp-at}

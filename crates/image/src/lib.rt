@@ -1,8 +1,8 @@
 // The image of a meter: 32-bit words that hold its depth, its width, and every counter at its layout.
 use group::Answer;
 ghost use mathlib.Core.Path.{_≡_};
-ghost use Rattle.format.specs.Write.{written};
-ghost use Rattle.format.specs.Read.{taken};
+ghost use Rattle.image_format.specs.Write.{written};
+ghost use Rattle.image_format.specs.Read.{taken};
 
 // Fills `words` with the image of a meter.
 pub fn write(d: usize, w: usize, memory: &[u8], words: &mut [u32]) -> Answer
@@ -13,20 +13,20 @@ pub fn write(d: usize, w: usize, memory: &[u8], words: &mut [u32]) -> Answer
     if status != 0 {
         return rejected(status, 0);
     }
-    if !writer::rows_valid(memory, d, w) {
+    if !image_writer::rows_valid(memory, d, w) {
         return rejected(group::INVALID_MERGE, 0);
     }
-    let n = writer::table_size(memory, w);
-    let sizes = format::size_table(n);
-    let count = writer::rows_size(memory, d, w, &sizes[0..n]) + 2;
+    let n = image_writer::table_size(memory, w);
+    let sizes = image_format::size_table(n);
+    let count = image_writer::rows_size(memory, d, w, &sizes[0..n]) + 2;
     if words.len() < count {
-        return rejected(format::TOO_FEW_WORDS, 0);
+        return rejected(image_format::TOO_FEW_WORDS, 0);
     }
-    let codes = format::code_table(n);
+    let codes = image_format::code_table(n);
     // all layout codes or none, as with the merge bytes
     let m = n * 26 / 128;
-    let fields = format::field_table(m);
-    writer::put_image(words, memory, d, w, &codes[0..n], &fields[0..17 * m]);
+    let fields = image_format::field_table(m);
+    image_writer::put_image(words, memory, d, w, &codes[0..n], &fields[0..17 * m]);
     accepted(count)
 }
 
@@ -39,14 +39,14 @@ pub fn read(d: usize, w: usize, memory: &mut [u8], words: &[u32]) -> Answer
     if status != 0 {
         return rejected(status, 0);
     }
-    let n = reader::table_size(words.len(), d, w);
-    let layouts = reader::layout_table(n);
-    let fields = format::field_table(n);
-    let s = reader::check(words, d, w, &layouts[0..n], &fields[0..17 * n]);
+    let n = image_reader::table_size(words.len(), d, w);
+    let layouts = image_reader::layout_table(n);
+    let fields = image_format::field_table(n);
+    let s = image_reader::check(words, d, w, &layouts[0..n], &fields[0..17 * n]);
     if s.status != 0 {
         return rejected(s.status, s.position);
     }
-    reader::read_rows(memory, d, w, words, &layouts[0..n], &fields[0..17 * n]);
+    image_reader::read_rows(memory, d, w, words, &layouts[0..n], &fields[0..17 * n]);
     accepted(s.position)
 }
 

@@ -12,7 +12,7 @@ use Rattle.hash.specs.Hash.{basis}
 use Rattle.geometry.specs.Geometry.{stride, size, RowsIn}
 use Rattle.geometry.specs.Order.{firstOf, earliest, badDepth, badWidth, badLength, badShape, badKey, answerOf, finish}
 use Rattle.geometry.specs.Rows.{mapRows, ofRows, least, largest}
-use Rattle.row.specs.Row.{updateStatus, updateRow}
+use Rattle.meter_row.specs.Row.{updateStatus, updateRow}
 use Rattle.geometry.proofs.Widths.{shape-good, first-rest, first-part, first-one}
 use Rattle.meter.specs.Meter.{badCall, cleared, updated, readStatus, readValue, estimated, rowStatus, rowLevel, widest, sourceStatus, sourceAdded, united}
 use Rattle.meter.proofs.Gather.{first-stop, first-skip, answer-bad, rejecting, accepting}

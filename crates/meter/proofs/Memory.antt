@@ -10,7 +10,7 @@ use borrow.Author.Tests.{eqb-true}
 use lib.Dec.{eqb}
 use lib.ListN.{length, getD, take, drop, replicate, length-replicate}
 use lib.Seq.{drop-drop, getD-take, getD-drop}
-use Rattle.layout.specs.Layout.{valid, ones}
+use Rattle.group_layout.specs.Layout.{valid, ones}
 use lib.Bits.{bitXor}
 use Rattle.hash.specs.Hash.{basis, fnv, fnvStep}
 use Rattle.hash.proofs.Hashing.{slot-lt}
@@ -18,12 +18,12 @@ use Rattle.group.proofs.Outcomes.{added-eight, added-valid, united-valid}
 use Rattle.geometry.specs.Geometry.{validWidth, stride, size, RowsIn}
 use Rattle.geometry.specs.Order.{firstOf, earlier, earliest, unless, badLength, badShape, answerOf, finish}
 use Rattle.geometry.specs.Rows.{mapRows, ofRows, ofGroups, groupAt}
-use Rattle.keys.specs.Keys.{keySlot}
-use Rattle.row.specs.Row.{addedIn, updateStatus, updateRow, unitedAt, unitedStatus, uniteStatus, uniteRow}
+use Rattle.meter_keys.specs.Keys.{keySlot}
+use Rattle.meter_row.specs.Row.{addedIn, updateStatus, updateRow, unitedAt, unitedStatus, uniteStatus, uniteRow}
 use Rattle.geometry.proofs.Widths.{shape-good, wide, stride-is, slot-in, group-in, first-one}
 use Rattle.geometry.proofs.Lists.{one-row, row-length}
 use Rattle.geometry.proofs.Groups.{row-mapped, length-mapped, length-with, group-same, group-other, eight-at}
-use Rattle.row.proofs.Unions.{length-united, united-from}
+use Rattle.meter_row.proofs.Unions.{length-united, united-from}
 use Rattle.meter.specs.Meter.{badCall, rowOf, cleared, updated, sourceStatus, sourceAdded, united}
 use Rattle.meter.specs.Valid.{Valid}
 use Rattle.meter.proofs.Calls.{call-good, cleared-good, updated-good, united-good}

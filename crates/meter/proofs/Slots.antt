@@ -12,8 +12,8 @@ use Rattle.hash.specs.Hash.{basis}
 use Rattle.geometry.specs.Geometry.{stride, size}
 use Rattle.geometry.specs.Order.{earliest}
 use Rattle.geometry.specs.Rows.{mapRows, ofRows, groupAt, withGroup, leastOr, least}
-use Rattle.keys.specs.Keys.{keySlot}
-use Rattle.row.specs.Row.{addedIn, updateStatus, updateRow, readRow}
+use Rattle.meter_keys.specs.Keys.{keySlot}
+use Rattle.meter_row.specs.Row.{addedIn, updateStatus, updateRow, readRow}
 use Rattle.geometry.proofs.Widths.{earlier-none}
 use Rattle.meter.specs.Meter.{rowOf, readStatus, readValue}
 

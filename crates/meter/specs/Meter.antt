@@ -7,7 +7,7 @@ use Rattle.hash.specs.Hash.{basis}
 use Rattle.geometry.specs.Geometry.{stride}
 use Rattle.geometry.specs.Order.{firstOf, earliest, badDepth, badWidth, badLength, badShape, badKey, answerOf, Done, finish}
 use Rattle.geometry.specs.Rows.{mapRows, ofRows, least, largest}
-use Rattle.row.specs.Row.{updateStatus, updateRow, readRow, widestStatus, widestRow, uniteStatus, uniteRow}
+use Rattle.meter_row.specs.Row.{updateStatus, updateRow, readRow, widestStatus, widestRow, uniteStatus, uniteRow}
 
 -- Clearing reads nothing and sets every byte to 0.
 unfoldable pub cleared : ℕ → ℕ → List ℕ → Done

@@ -4,7 +4,7 @@ use mathlib.Core.Path.{_≡_}
 use mathlib.Core.Bool.{true}
 use mathlib.Core.List.{List}
 use lib.ListN.{length}
-use Rattle.layout.specs.Layout.{valid}
+use Rattle.group_layout.specs.Layout.{valid}
 use Rattle.geometry.specs.Geometry.{RowsIn}
 use Rattle.geometry.specs.Rows.{groupAt}
 use Rattle.meter.specs.Meter.{rowOf}

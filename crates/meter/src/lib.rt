@@ -9,8 +9,8 @@ use geometry::row_at;
 use group::Answer;
 use group::Group;
 use hash::Hash;
-use keys::key_slots;
-use keys::row_slot;
+use meter_keys::key_slots;
+use meter_keys::row_slot;
 ghost use mathlib.Core.Path.{_≡_};
 ghost use mathlib.Core.Bool.{cond};
 ghost use mathlib.Core.List.{List};
@@ -23,7 +23,7 @@ ghost use Rattle.geometry.specs.Geometry.{RowsIn};
 ghost use Rattle.geometry.specs.Geometry as geometry;
 ghost use Rattle.geometry.specs.Order.{earliest};
 ghost use Rattle.geometry.specs.Rows.{mapRows, ofRows, groupAt, withGroup, least, largest};
-ghost use Rattle.row.specs.Row.{addedIn};
+ghost use Rattle.meter_row.specs.Row.{addedIn};
 ghost use Rattle.meter.specs.Meter.{rowOf, cleared, badCall, updated, estimated, rowStatus, rowLevel, sourceStatus, sourceAdded};
 ghost use Rattle.meter.specs.Meter as spec;
 
@@ -123,7 +123,7 @@ fn update_rows(d: usize, w: usize, memory: &mut [u8], slots: &[usize; 8], amount
     for r in 0..d {
         let a = r * stride;
         let e = a + stride;
-        row::update_row(&mut memory[a..e], w, slots[r], t.groups[r]);
+        meter_row::update_row(&mut memory[a..e], w, slots[r], t.groups[r]);
     }
     0
 }
@@ -137,7 +137,7 @@ pub fn update_checked(d: usize, w: usize, memory: &mut [u8], key: &[u8], amount:
     let bytes = whole(key);
     if d == 1 {
         let slot = row_slot(Hash::start(), w, bytes, 0);
-        return answer(row::update_one(memory, w, slot, amount), 0);
+        return answer(meter_row::update_one(memory, w, slot, amount), 0);
     }
     let slots = key_slots(Hash::start(), w, bytes, d);
     answer(update_rows(d, w, memory, &slots, amount), 0)
@@ -167,11 +167,11 @@ fn read_rows(d: usize, w: usize, memory: &[u8], slots: &[usize; 8]) -> Answer
     ensures { λ a. ⌜ a .status ≡ earliest (ofRows (λ (r : ℕ) (row : List ℕ). read (groupAt w row (getD (now (slots .entry)) r 0 / 8)) (getD (now (slots .entry)) r 0) .status) (geometry.stride w) d 0 (now (memory .entry))) ⌝ }
     ensures { λ a. ⌜ a .value ≡ least (ofRows (λ (r : ℕ) (row : List ℕ). read (groupAt w row (getD (now (slots .entry)) r 0 / 8)) (getD (now (slots .entry)) r 0) .value) (geometry.stride w) d 0 (now (memory .entry))) ⌝ }
 {
-    let first = row::read_row(row_at(w, memory, 0), w, slots[0]);
+    let first = meter_row::read_row(row_at(w, memory, 0), w, slots[0]);
     let mut status = first.status;
     let mut value = first.value;
     for r in 1..d {
-        let c = row::read_row(row_at(w, memory, r), w, slots[r]);
+        let c = meter_row::read_row(row_at(w, memory, r), w, slots[r]);
         status = earlier(status, c.status);
         value = smaller(value, c.value);
     }
@@ -189,7 +189,7 @@ pub fn estimate_checked(d: usize, w: usize, memory: &[u8], key: &[u8]) -> Answer
 {
     let bytes = whole(key);
     if d == 1 {
-        let c = row::read_row(memory, w, row_slot(Hash::start(), w, bytes, 0));
+        let c = meter_row::read_row(memory, w, row_slot(Hash::start(), w, bytes, 0));
         return answer(c.status, c.value);
     }
     let slots = key_slots(Hash::start(), w, bytes, d);
@@ -223,7 +223,7 @@ fn widest_rows(d: usize, w: usize, memory: &[u8]) -> Answer
     let mut status = 0u8;
     let mut value = 0u64;
     for r in 0..d {
-        let c = row::widest_row(row_at(w, memory, r), w);
+        let c = meter_row::widest_row(row_at(w, memory, r), w);
         status = earlier(status, c.status);
         value = larger(value, c.value);
     }
@@ -253,7 +253,7 @@ fn unite_status(d: usize, w: usize, memory: &[u8], source: &[u8]) -> u8
 {
     let mut status = 0u8;
     for r in 0..d {
-        let next = row::unite_status(row_at(w, memory, r), row_at(w, source, r), w);
+        let next = meter_row::unite_status(row_at(w, memory, r), row_at(w, source, r), w);
         status = earlier(status, next);
     }
     status
@@ -268,7 +268,7 @@ fn unite_rows(d: usize, w: usize, memory: &mut [u8], source: &[u8])
     for r in 0..d {
         let start = r * stride;
         let end = start + stride;
-        row::unite_row(&mut memory[start..end], row_at(w, source, r), w);
+        meter_row::unite_row(&mut memory[start..end], row_at(w, source, r), w);
     }
 }
 

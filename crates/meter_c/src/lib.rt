@@ -1,10 +1,10 @@
 // The calls exported to C and Rust. Each passes its arguments to the proved call and hands its answer out; include/meter.h declares them.
 use group::Answer;
 ghost use mathlib.Core.Path.{_≡_};
-ghost use Rattle.codes.specs.Pack.{packed, unpacked};
+ghost use Rattle.group_codes.specs.Pack.{packed, unpacked};
 ghost use Rattle.meter.specs.Meter.{cleared, updated, estimated, widest, united};
-ghost use Rattle.format.specs.Write.{written};
-ghost use Rattle.format.specs.Read.{taken};
+ghost use Rattle.image_format.specs.Write.{written};
+ghost use Rattle.image_format.specs.Read.{taken};
 ghost use Rattle.feed.specs.Answers.{recordAnswer};
 ghost use Rattle.feed.specs.Head.{headed};
 ghost use Rattle.feed.specs.Record.{recorded};
@@ -115,7 +115,7 @@ pub extern "C" fn meter_pack(
     ensures { λ _. ⌜ now (place .exit) ≡ packed m0 m1 m2 m3 .position ⌝ }
     ensures { λ _. ⌜ now (figure .exit) ≡ packed m0 m1 m2 m3 .value ⌝ }
 {
-    give(codes::pack(m0, m1, m2, m3), place, figure)
+    give(group_codes::pack(m0, m1, m2, m3), place, figure)
 }
 
 #[no_mangle]
@@ -130,7 +130,7 @@ pub extern "C" fn meter_unpack(
     ensures { λ _. ⌜ now (figure .exit) ≡ unpacked code .answer .value ⌝ }
     ensures { λ _. ⌜ now (merges .exit) ≡ unpacked code .merges ⌝ }
 {
-    let u = codes::unpack(code);
+    let u = group_codes::unpack(code);
     let bytes = u.merges;
     *merges = bytes;
     give(u.answer, place, figure)

@@ -2,12 +2,12 @@
 mod input;
 mod output;
 
+use feed_lines::Line;
 use input::Input;
-use lines::Line;
 ghost use mathlib.Core.Path.{_≡_};
 ghost use Prim.Native.Nat.{_+_, _*_, _^_, _≤_, _<_};
 ghost use lib.ListN.{length};
-ghost use Rattle.lines.specs.Line.{Bounded};
+ghost use Rattle.feed_lines.specs.Line.{Bounded};
 ghost use Rattle.run_feed.specs.Buffers.{Within};
 
 // The most bytes that the program lends to a meter: 8 rows of 4,096 slots.
@@ -47,7 +47,7 @@ fn carry(memory: &mut [u8], d: usize, w: usize, words: &[u32], before: u64, reco
     ensures { λ r. ⌜ r .taken ≤ length (now (words .entry)) ⌝ }
 {
     let r = feed::record(d, w, memory, before, words);
-    let line = lines::line_of(r, before, records);
+    let line = feed_lines::line_of(r, before, records);
     Done {
         line,
         taken: least(feed::words_taken(words), words.len()),
@@ -60,7 +60,7 @@ fn next(memory: &mut [u8], d: usize, w: usize, bytes: &[u8], before: u64, record
     ensures { λ r. ⌜ r .taken ≤ 25 ⌝ }
 {
     let mut words = [0u32; WORDS];
-    let n = lines::assemble(bytes, &mut words);
+    let n = feed_lines::assemble(bytes, &mut words);
     carry(memory, d, w, &words[..n], before, records)
 }
 
@@ -85,14 +85,14 @@ fn step(
     let done = next(memory, d, w, &input[start..end], s.words, s.records);
     let line = done.line;
     let taken = done.taken;
-    let out = output::put(output, s.out, lines::text_of(line));
+    let out = output::put(output, s.out, feed_lines::text_of(line));
     State {
         input: input::after(i, 4 * taken),
         words: s.words + taken as u64,
         records: s.records + 1,
         out,
-        runs: lines::continues(line),
-        ended: lines::is_end(line),
+        runs: feed_lines::continues(line),
+        ended: feed_lines::is_end(line),
     }
 }
 
@@ -137,7 +137,7 @@ fn after_end(input: &mut [u8], output: &mut [u8], s: State) -> usize
         status: word::BAD_WORD,
         index: s.words,
     };
-    output::put(output, s.out, lines::text_of(line))
+    output::put(output, s.out, feed_lines::text_of(line))
 }
 
 // The head's line, from the bytes at hand.
@@ -145,8 +145,8 @@ fn head(bytes: &[u8]) -> Line
     ensures { λ l. ⌜ Bounded l ⌝ }
 {
     let mut words = [0u32; 1];
-    let n = lines::assemble(bytes, &mut words);
-    lines::head_line(feed::head(&words[..n]))
+    let n = feed_lines::assemble(bytes, &mut words);
+    feed_lines::head_line(feed::head(&words[..n]))
 }
 
 // The memory that a meter takes, of the bytes at hand. An accepted head has at most 8 rows, and then they are enough.
@@ -203,7 +203,7 @@ fn run(memory: &mut [u8], input: &mut [u8], output: &mut [u8]) -> usize
     let start = i.start;
     let end = i.end;
     let line = head(&input[start..end]);
-    let out = output::put(output, 0, lines::text_of(line));
+    let out = output::put(output, 0, feed_lines::text_of(line));
     let Line::Geometry { d, w } = line else {
         return out;
     };

@@ -1,11 +1,11 @@
 // Standard output, gathered and written in blocks.
+use feed_lines::Text;
 use libc::STDOUT_FILENO;
-use lines::Text;
 ghost use mathlib.Core.Path.{_≡_};
 ghost use mathlib.Core.List.{_++_};
 ghost use Prim.Native.Nat.{_+_, _≤_};
 ghost use lib.ListN.{length, take};
-ghost use Rattle.lines.specs.Text.{content};
+ghost use Rattle.feed_lines.specs.Text.{content};
 
 // The text behind the first bytes of the buffer. Gives the number of bytes that are now to be written.
 fn append(out: &mut [u8], at: usize, t: Text) -> usize

@@ -8,9 +8,9 @@ use native.Mathlib.Omega.{arith}
 use borrow.Author.Tests.{eq-eqb, le-leb}
 use lib.ListN.{length}
 use lib.Pow.{pow-pos, shl-shr}
-use Rattle.layout.specs.Layout as layouts
-use Rattle.layout.proofs.Laws.{layout-marks, widest-le}
-use Rattle.block.specs.Block.{Block, shape, counterAt}
+use Rattle.group_layout.specs.Layout as layouts
+use Rattle.group_layout.proofs.Laws.{layout-marks, widest-le}
+use Rattle.group_block.specs.Block.{Block, shape, counterAt}
 use Rattle.group.specs.declared.Answer.{Answer}
 use Rattle.group.specs.declared.Reading.{Reading}
 use Rattle.group.specs.Status.{accepted}
@@ -20,8 +20,8 @@ use Rattle.group.proofs.Laws.{decode-encode, encode-valid}
 use Rattle.geometry.specs.Geometry.{validDepth, validWidth, stride, size}
 use Rattle.geometry.specs.Order.{firstOf, earliest, badShape, badKey, answerOf}
 use Rattle.geometry.specs.Rows.{ofRows, ofGroups, least, largest, groupAt}
-use Rattle.keys.specs.Keys.{keySlot}
-use Rattle.row.specs.Row.{readRow, levelStatus, levelAt, widestStatus, widestRow}
+use Rattle.meter_keys.specs.Keys.{keySlot}
+use Rattle.meter_row.specs.Row.{readRow, levelStatus, levelAt, widestStatus, widestRow}
 use Rattle.geometry.proofs.Widths.{depth-in, slot-in, group-in}
 use Rattle.meter.specs.Meter.{rowOf, readStatus, readValue, estimated, rowStatus, rowLevel, widest}
 use Rattle.meter.proofs.Calls.{call-key, estimated-good, widest-good}

@@ -10,11 +10,11 @@ use borrow.Author.Tests.{lt-ltb, le-ltb}
 use lib.Dec.{ltb}
 use lib.ListN.{length, getD, take, drop, length-drop, List·getD-eq-default}
 use lib.Seq.{getD-take, getD-drop, drop-drop, ext-getD, length-take-le}
-use Rattle.counts.specs.Bytes.{bytes}
-use Rattle.counts.proofs.Bytes.{Bytes}
-use Rattle.layout.specs.Layout.{valid, marks}
-use Rattle.layout.proofs.Laws.{marks-in}
-use Rattle.block.specs.Block.{Block, shape, word}
+use Rattle.group_bytes.specs.Bytes.{bytes}
+use Rattle.laws.proofs.Lists.{Bytes}
+use Rattle.group_layout.specs.Layout.{valid, marks}
+use Rattle.group_layout.proofs.Laws.{marks-in}
+use Rattle.group_block.specs.Block.{Block, shape, word}
 use Rattle.group.specs.declared.Group.{Group}
 use Rattle.group.specs.Group.{encode}
 use Rattle.group.proofs.Laws.{encode-valid}
@@ -22,7 +22,7 @@ use Rattle.geometry.specs.Geometry.{validWidth, stride, size}
 use Rattle.geometry.specs.Rows.{ofGroups, groupAt}
 use Rattle.geometry.proofs.Widths.{wide, stride-is}
 use Rattle.meter.specs.Meter.{rowOf}
-use Rattle.format.specs.Write.{allValid, validRows}
+use Rattle.image_format.specs.Write.{allValid, validRows}
 use Rattle.traffic.specs.Traffic.{Pair, blockTotal}
 use Rattle.traffic.specs.Canon.{canon, Holds, byteIn, byteAt, memoryOf}
 

@@ -10,10 +10,10 @@ use native.Mathlib.Omega.{arith}
 use borrow.Author.Tests.{lt-ltb, le-ltb, ltb-true, eq-eqb, ne-eqb}
 use lib.Dec.{ltb, eqb}
 use lib.Pow.{pow-pos, mod-pow-add, shr-shr}
-use Rattle.layout.specs.Layout.{widest}
-use Rattle.block.specs.Block.{Block, counter, split, cap, Fits, shape, counterAt, total}
-use Rattle.block.specs.Sum.{Sum, fits, over, sumTotal, held, join, add, unite}
-use Rattle.block.proofs.Laws.{cap-double}
+use Rattle.group_layout.specs.Layout.{widest}
+use Rattle.group_block.specs.Block.{Block, counter, split, cap, Fits, shape, counterAt, total}
+use Rattle.group_block.specs.Sum.{Sum, fits, over, sumTotal, held, join, add, unite}
+use Rattle.group_block.proofs.Laws.{cap-double}
 use Rattle.traffic.specs.Canon.{small, canon}
 
 -- a block's total is the sum of its halves'

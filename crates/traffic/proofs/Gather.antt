@@ -10,7 +10,7 @@ use Rattle.geometry.specs.Geometry.{stride}
 use Rattle.geometry.specs.Order.{earlier, earliest}
 use Rattle.geometry.specs.Rows.{ofRows, ofGroups, leastOr, least, largest}
 use Rattle.meter.specs.Meter.{rowOf}
-use Rattle.writer.proofs.Laws.{drop-row}
+use Rattle.image_writer.proofs.Laws.{drop-row}
 
 -- what is read of rows, by the rows' numbers
 by-number : (f : ℕ → List ℕ → ℕ) (s n r : ℕ) (memory : List ℕ)

@@ -13,9 +13,9 @@ use Rattle.word.specs.Word.{endKind, payload, isDue}
 use Rattle.feed.specs.declared.Recorded.{Recorded}
 use Rattle.feed.specs.declared.Recorded.the-variants as case
 use Rattle.feed.specs.Answers.{recordAnswer}
-use Rattle.records.specs.Words.{updateKind, queryKind, opensKey, opened, keyOf, amountOf, updateStep, queryStep, bodyOf, updateBody, queryBody}
+use Rattle.feed_records.specs.Words.{updateKind, queryKind, opensKey, opened, keyOf, amountOf, updateStep, queryStep, bodyOf, updateBody, queryBody}
 use Rattle.feed.specs.Record.{Carried, outcomeOf, carriedUpdate, queried, carried, carriedAfter, recorded}
-use Rattle.format.proofs.Laws.{by-test}
+use Rattle.image_format.proofs.Laws.{by-test}
 
 module _ (d w : ℕ) (memory : List ℕ) (before : ℕ) (words : List ℕ) where
   abbrev key : List ℕ

@@ -10,12 +10,12 @@ use lib.ListN.{length}
 use Rattle.geometry.specs.Order.{badShape, Done, finish}
 use Rattle.meter.specs.Meter.{cleared, updated, united}
 use Rattle.meter.proofs.Memory.{status-is}
-use Rattle.format.specs.Read.{checked, taken}
+use Rattle.image_format.specs.Read.{checked, taken}
 use Rattle.image.proofs.Calls.{read-call, read-faulty, read-done}
 use Rattle.word.specs.Word.{payload}
 use Rattle.feed.specs.declared.Recorded.the-variants as case
 use Rattle.feed.specs.Answers.{recordAnswer}
-use Rattle.records.specs.Words.{keyOf, amountOf}
+use Rattle.feed_records.specs.Words.{keyOf, amountOf}
 use Rattle.feed.specs.Record.{recorded}
 use Rattle.traffic.specs.Calls.{Call, clear, update, estimate, widest, unite, write, read, feed, done, wordsOf}
 use Rattle.traffic.proofs.Records.{record-cases, outcome-status}

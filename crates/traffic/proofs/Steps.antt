@@ -7,9 +7,9 @@ use native.Mathlib.Nat.{zero-sub, sub-zero, suc-sub-suc}
 use native.Mathlib.Decide.{ℕ-discrete}
 use native.Mathlib.Omega.{arith}
 use lib.ListN.{length, take, drop, replicate, length-replicate, getD-replicate}
-use Rattle.counts.specs.Bytes.{bytes}
-use Rattle.layout.specs.Layout.{marks, ones}
-use Rattle.block.specs.Block.{cap, shape, word}
+use Rattle.group_bytes.specs.Bytes.{bytes}
+use Rattle.group_layout.specs.Layout.{marks, ones}
+use Rattle.group_block.specs.Block.{cap, shape, word}
 use Rattle.group.specs.declared.Group.{Group}
 use Rattle.hash.specs.Hash.{basis}
 use Rattle.group.specs.Group.{encode, settle, added}
@@ -17,8 +17,8 @@ use Rattle.group.specs.Group as group
 use Rattle.group.proofs.Laws.{decode-encode, encode-valid}
 use Rattle.geometry.specs.Geometry.{validDepth, validWidth, stride, size, RowsIn}
 use Rattle.geometry.specs.Rows.{groupAt}
-use Rattle.keys.specs.Keys.{keySlot}
-use Rattle.row.specs.Row.{addedIn, unitedAt}
+use Rattle.meter_keys.specs.Keys.{keySlot}
+use Rattle.meter_row.specs.Row.{addedIn, unitedAt}
 use Rattle.geometry.proofs.Widths.{depth-in, group-in}
 use Rattle.geometry.proofs.Lists.{row-in}
 use Rattle.meter.specs.Meter.{rowOf, updated, united}

@@ -13,15 +13,15 @@ use Rattle.geometry.specs.Geometry.{validDepth, validWidth, size}
 use Rattle.geometry.specs.Order.{badKey}
 use Rattle.meter.specs.Meter.{cleared, updated, estimated}
 use Rattle.meter.proofs.Calls.{cleared-good, call-key, estimated-bad}
-use Rattle.format.specs.Image.{image}
-use Rattle.format.specs.Write.{written}
-use Rattle.format.specs.Read.{taken}
+use Rattle.image_format.specs.Image.{image}
+use Rattle.image_format.specs.Write.{written}
+use Rattle.image_format.specs.Read.{taken}
 use Rattle.image.proofs.Calls.{write-done}
 use Rattle.image.proofs.Theorems.{restored}
 use Rattle.word.specs.Word.{payload, isDue}
 use Rattle.feed.specs.declared.Recorded.the-variants as case
 use Rattle.feed.specs.Answers.{recordAnswer}
-use Rattle.records.specs.Words.{updateKind, keyOf, amountOf}
+use Rattle.feed_records.specs.Words.{updateKind, keyOf, amountOf}
 use Rattle.feed.specs.Record.{recorded}
 use Rattle.traffic.specs.Traffic.{Pair}
 use Rattle.traffic.specs.Calls.{Call, clear, update, estimate, widest, unite, write, read, feed, Source, from, raw, Calls, none, then, recordPair, traffic, after, behind, run, done, bytesOf, wordsOf, Faithful, Listed, LeftBy}

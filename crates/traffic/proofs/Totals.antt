@@ -9,10 +9,10 @@ use native.Mathlib.Omega.{arith}
 use borrow.Author.Tests.{leb-true, le-leb, eqb-true, eq-eqb, ne-eqb}
 use lib.Dec.{leb, eqb}
 use lib.Pow.{shr-shr}
-use Rattle.layout.proofs.Laws.{or-cases}
-use Rattle.block.specs.Block.{cap}
+use Rattle.laws.proofs.Tests.{or-cases}
+use Rattle.group_block.specs.Block.{cap}
 use Rattle.hash.specs.Hash.{basis}
-use Rattle.keys.specs.Keys.{keySlot}
+use Rattle.meter_keys.specs.Keys.{keySlot}
 use Rattle.traffic.specs.Traffic.{Pair, sumOf, sameKey, keyTotal, blockOf, blockTotal, anyBelow, overflows, levelUpTo}
 use Rattle.traffic.proofs.Canon.{Adds, half}
 

@@ -9,12 +9,12 @@ use Rattle.geometry.specs.Geometry.{size}
 use Rattle.geometry.specs.Order.{Done}
 use Rattle.meter.specs.Meter.{cleared, updated, estimated, united}
 use Rattle.meter.specs.Meter as meter
-use Rattle.format.specs.Image.{image}
-use Rattle.format.specs.Write.{written}
-use Rattle.format.specs.Read.{taken}
+use Rattle.image_format.specs.Image.{image}
+use Rattle.image_format.specs.Write.{written}
+use Rattle.image_format.specs.Read.{taken}
 use Rattle.word.specs.Word.{payload, isDue}
 use Rattle.feed.specs.Answers.{recordAnswer}
-use Rattle.records.specs.Words.{updateKind, keyOf, amountOf}
+use Rattle.feed_records.specs.Words.{updateKind, keyOf, amountOf}
 use Rattle.feed.specs.Record.{recorded}
 use Rattle.traffic.specs.Traffic.{Pair}
 

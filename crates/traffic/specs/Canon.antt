@@ -5,7 +5,7 @@ use mathlib.Core.Bool.{Bool, cond, _&&_}
 use mathlib.Core.List.{List}
 use lib.Dec.{ltb}
 use lib.ListN.{length, getD}
-use Rattle.block.specs.Block.{Block, counter, split, cap}
+use Rattle.group_block.specs.Block.{Block, counter, split, cap}
 use Rattle.group.specs.declared.Group.{Group}
 use Rattle.group.specs.Group.{encode}
 use Rattle.geometry.specs.Geometry.{stride, size}

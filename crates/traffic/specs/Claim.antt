@@ -9,7 +9,7 @@ use Rattle.geometry.specs.Geometry.{validDepth, validWidth}
 use Rattle.meter.specs.Meter.{estimated, widest}
 use Rattle.word.specs.Word.{payload}
 use Rattle.feed.specs.declared.Recorded.the-variants as case
-use Rattle.records.specs.Words.{keyOf}
+use Rattle.feed_records.specs.Words.{keyOf}
 use Rattle.feed.specs.Record.{recorded}
 use Rattle.traffic.specs.Traffic.{Pair, lower, upper, level}
 use Rattle.traffic.specs.Calls.{Calls, traffic, run, Faithful}

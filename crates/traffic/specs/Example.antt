@@ -8,7 +8,7 @@ use lib.ListN.{replicate}
 use Rattle.group.specs.Status.{accepted}
 use Rattle.meter.specs.Meter.{estimated}
 use Rattle.meter.specs.Meter as meter
-use Rattle.format.specs.Read.{taken}
+use Rattle.image_format.specs.Read.{taken}
 use Rattle.traffic.specs.Traffic.{level, lower, upper}
 use Rattle.traffic.specs.Calls.{Call, Calls, none, then, clear, update, estimate, widest, unite, write, read, feed, from, raw, traffic, run, Faithful}
 

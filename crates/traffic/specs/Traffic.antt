@@ -3,9 +3,9 @@ use Prim.Native.Nat.{ℕ, zero, suc, _+_, _/_, _^_}
 use mathlib.Core.Bool.{Bool, true, false, cond, _&&_, _||_}
 use mathlib.Core.List.{List, [], _∷_}
 use lib.Dec.{leb, eqb}
-use Rattle.block.specs.Block.{cap}
+use Rattle.group_block.specs.Block.{cap}
 use Rattle.hash.specs.Hash.{basis}
-use Rattle.keys.specs.Keys.{keySlot}
+use Rattle.meter_keys.specs.Keys.{keySlot}
 use Rattle.geometry.specs.Rows.{ofGroups, least}
 
 -- The traffic, which document 01's book holds, is a list of pairs of key and amount.

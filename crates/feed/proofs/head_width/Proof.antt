@@ -1,7 +1,7 @@
 use Prim.Native.Nat.{_/_, _%_}
 use native.Mathlib.Omega.{arith}
 use Rattle.feed.specs.Head.{headWidth}
-use Rattle.records.proofs.Laws.{one-shl}
+use Rattle.laws.proofs.Shifts.{one-shl}
 use borrow.Author.Needs.{needs}
 use Rattle.feed.proofs.head_width.Statement.{statement}
 use Rattle.feed.proofs.head_width.Tie as tie

@@ -1,5 +1,5 @@
 use Rattle.feed.proofs.Places.{all-of}
-use Rattle.records.proofs.Laws.{is-end, badKeyIn, opened-good}
+use Rattle.feed_records.proofs.Laws.{is-end, badKeyIn, opened-good}
 use Rattle.feed.proofs.Laws.{record-good, record-bad}
 use mathlib.Core.Path.{_≡_, refl, sym, ap, _∙_}
 use lib.ListN.{length}

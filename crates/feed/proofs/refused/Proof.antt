@@ -1,6 +1,6 @@
 use mathlib.Core.Path.{_∙_, sym, ap}
 use Rattle.feed.specs.Record.{rejection}
-use Rattle.records.proofs.Laws.{sound-answer}
+use Rattle.feed_records.proofs.Laws.{sound-answer}
 use borrow.Author.Needs.{needs}
 use Rattle.feed.proofs.refused.Statement.{statement}
 use Rattle.feed.proofs.refused.Tie as tie

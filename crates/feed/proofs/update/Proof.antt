@@ -6,12 +6,12 @@ use borrow.Author.Needs.{needs}
 use Rattle.group.specs.declared.Answer.{Answer}
 use Rattle.geometry.specs.Order.{Done}
 use Rattle.meter.specs.Meter.{updated}
-use Rattle.records.specs.declared.Body.{Body}
+use Rattle.feed_records.specs.declared.Body.{Body}
 use Rattle.feed.specs.declared.Recorded.the-variants as case
-use Rattle.records.specs.Answers.{bodyAnswer}
-use Rattle.records.specs.Words.{updateBody, keyOf}
+use Rattle.feed_records.specs.Answers.{bodyAnswer}
+use Rattle.feed_records.specs.Words.{updateBody, keyOf}
 use Rattle.feed.specs.Record.{Carried, rejection, outcomeOf, carriedUpdate}
-use Rattle.records.proofs.Laws.{key-short}
+use Rattle.feed_records.proofs.Laws.{key-short}
 use Rattle.feed.proofs.Laws.{lent, call-passes, outcome-rejected, outcome-accepted, update-refused}
 use Rattle.feed.proofs.update.Statement.{statement}
 use Rattle.feed.proofs.update.Tie as tie

@@ -5,10 +5,10 @@ use native.Mathlib.Nat.{mod-eq-of-lt, mod-lt}
 use native.Mathlib.Omega.{arith}
 use borrow.Author.Tests.{not-true, not-false, lt-ltb, le-ltb}
 use lib.Dec.{ltb}
-use Rattle.counts.specs.Bytes.{bytes}
-use Rattle.layout.specs.Layout.{valid}
-use Rattle.block.specs.Block.{cap}
-use Rattle.block.proofs.Laws.{cap-pos}
+use Rattle.group_bytes.specs.Bytes.{bytes}
+use Rattle.group_layout.specs.Layout.{valid}
+use Rattle.group_block.specs.Block.{cap}
+use Rattle.group_block.proofs.Laws.{cap-pos}
 use Rattle.group.specs.declared.Outcome.{Outcome}
 use Rattle.group.specs.Group.{decode, stored, added, holds}
 use Rattle.group.proofs.Laws.{holds-invalid, holds-valid}

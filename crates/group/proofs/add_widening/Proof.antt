@@ -3,12 +3,12 @@ use mathlib.Core.Bool.{true}
 use Prim.Native.Nat.{ℕ, _+_, _%_, _^_, _≤_, _<_}
 use native.Mathlib.Omega.{arith}
 use borrow.Author.Tests.{not-true, not-false}
-use Rattle.counts.specs.Bytes.{number}
-use Rattle.layout.specs.Layout.{valid}
-use Rattle.block.specs.Block.{cap, total, block, counterAt}
-use Rattle.block.specs.Sum.{summed, add}
-use Rattle.block.proofs.Laws.{block-fits}
-use Rattle.block.proofs.Slots.{whole-total, halves-total}
+use Rattle.group_bytes.specs.Bytes.{number}
+use Rattle.group_layout.specs.Layout.{valid}
+use Rattle.group_block.specs.Block.{cap, total, block, counterAt}
+use Rattle.group_block.specs.Sum.{summed, add}
+use Rattle.group_block.proofs.Laws.{block-fits}
+use Rattle.group_block.proofs.Slots.{whole-total, halves-total}
 use Rattle.group.specs.Group.{decode, stored, added}
 use Rattle.group.proofs.Laws.{cap-three, not-held, added-invalid, added-full, added-stored}
 use borrow.Author.Needs.{needs}

@@ -4,8 +4,8 @@ use mathlib.Core.List.{List}
 use Prim.Native.Nat.{ℕ}
 use native.Mathlib.Omega.{arith}
 use borrow.Author.Tests.{not-true, not-false}
-use Rattle.counts.specs.Bytes.{bytes}
-use Rattle.layout.specs.Layout.{valid}
+use Rattle.group_bytes.specs.Bytes.{bytes}
+use Rattle.group_layout.specs.Layout.{valid}
 use Rattle.group.specs.Group.{decode, changed}
 use borrow.Author.Needs.{needs}
 use Rattle.group.proofs.change.Statement.{statement}

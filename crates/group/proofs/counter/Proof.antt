@@ -3,8 +3,8 @@ use mathlib.Core.Bool.{true, false}
 use Prim.Native.Nat.{ℕ, _%_, _<_}
 use native.Mathlib.Omega.{arith}
 use borrow.Author.Tests.{not-true, not-false}
-use Rattle.layout.specs.Layout.{valid}
-use Rattle.block.specs.Block.{cap}
+use Rattle.group_layout.specs.Layout.{valid}
+use Rattle.group_block.specs.Block.{cap}
 use Rattle.group.specs.Group.{read, reading, decode}
 use Rattle.group.proofs.Places.{counter-at}
 use borrow.Author.Needs.{needs}

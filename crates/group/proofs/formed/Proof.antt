@@ -4,7 +4,7 @@ use native.Mathlib.Nat.{one-mul, mod-eq-of-lt}
 use native.Mathlib.Omega.{arith}
 use lib.Bits.{or-disjoint}
 use lib.Pow.{pow-pos, pow-mono, pow-add}
-use Rattle.layout.proofs.Laws.{one-shl}
+use Rattle.laws.proofs.Shifts.{one-shl}
 use Rattle.group.proofs.Tables.{bits-formed}
 use borrow.Author.Needs.{needs}
 use Rattle.group.proofs.formed.Statement.{statement}
@@ -33,7 +33,7 @@ returns c = let a = c .args in
     let x = a .first + 2 ^ a .level - 1 in
     let e : x ≡ 2 ^ a .level - 1 + a .first = omega (arith, pow-pos (a .level)) in
     let q = c .pre .1 .1 .1 .1 in
-    rw (size-is c, one-shl x (omega (arith, c .pre .1 .1 .0)))
+    rw (size-is c, one-shl 8 x (omega (arith, c .pre .1 .1 .0)))
     (or-disjoint (a .merge) (2 ^ x) (bits-formed (a .merge) (a .first) (a .level) (omega arith) (c .pre .0) (omega (arith, c .pre .1 .1 .0)) (omega arith) (c .pre .1 .1 .1 .0) (q .0) (q .1))
     ∙ ap (λ (y : ℕ). a .merge + y) (ap (λ (y : ℕ). 2 ^ y) e ∙ pow-add 2 (2 ^ a .level - 1) (a .first)))
 

@@ -1,7 +1,7 @@
 use mathlib.Core.Path.{_≡_, ap}
 use Prim.Native.Nat.{ℕ, _*_, _/_, _%_, _^_, _≤_}
 use native.Mathlib.Omega.{arith}
-use Rattle.block.specs.Block.{cap}
+use Rattle.group_block.specs.Block.{cap}
 use Rattle.group.proofs.Places.{field-le}
 use borrow.Author.Needs.{needs}
 use Rattle.group.proofs.put.Statement.{statement}

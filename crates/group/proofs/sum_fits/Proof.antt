@@ -2,7 +2,7 @@ use mathlib.Core.Path.{sym}
 use Prim.Native.Nat.{_+_, _^_}
 use native.Mathlib.Omega.{arith}
 use borrow.Author.Tests.{lt-ltb}
-use Rattle.block.specs.Block.{cap, block, total}
+use Rattle.group_block.specs.Block.{cap, block, total}
 use Rattle.group.proofs.Places.{bit-total, both-clear, room-test}
 use borrow.Author.Needs.{needs}
 use Rattle.group.proofs.sum_fits.Statement.{statement}

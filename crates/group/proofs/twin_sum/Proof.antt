@@ -3,8 +3,8 @@ use Prim.Native.Nat.{ℕ, _+_, _/_, _%_, _^_, _<_}
 use native.Mathlib.Nat.{mod-lt}
 use native.Mathlib.Numerals.{add-one}
 use native.Mathlib.Omega.{arith}
-use Rattle.block.specs.Block.{cap}
-use Rattle.block.proofs.Laws.{cap-pos, cap-below, high-lt}
+use Rattle.group_block.specs.Block.{cap}
+use Rattle.group_block.proofs.Laws.{cap-pos, cap-below, high-lt}
 use borrow.Author.Needs.{needs}
 use Rattle.group.proofs.twin_sum.Statement.{statement}
 use Rattle.group.proofs.twin_sum.Tie as tie

@@ -6,11 +6,9 @@ use native.Mathlib.Omega.{arith}
 use borrow.Author.Tests.{eqb-true}
 use lib.Pow.{pow-mono}
 use borrow.Author.Needs.{needs}
+use Rattle.laws.proofs.Shifts.{one-shl}
 use Rattle.group.proofs.twins.Statement.{statement}
 use Rattle.group.proofs.twins.Tie as tie
-
-one-shl : (c : tie.Start) → 1 * 2 ^ c .args .level % 2 ^ 64 ≡ 2 ^ c .args .level
-one-shl c = rw (one-mul (2 ^ c .args .level)) (mod-eq-of-lt {n = 2 ^ c .args .level} {m = 2 ^ 64} (omega (arith, pow-mono {i = c .args .level} {j = 2} (c .pre .1 .0))))
 
 level-at-requires : tie.Need-level-at-requires
 level-at-requires c κs = search needs
@@ -29,7 +27,7 @@ level-at-requires-2 c κs = search needs
 
 returns-2 : tie.Need-returns-2
 returns-2 c = λ e w. let i = c .before in
-    (i .before .level-at .ensures .0 w ∙ i .if1 .left, rw (one-shl (i .before .before)) at (c .level-at2 .ensures .0 w) ∙ eqb-true _ _ e)
+    (i .before .level-at .ensures .0 w ∙ i .if1 .left, rw (one-shl 64 (i .before .before .args .level) (omega (arith, i .before .before .pre .1 .0))) at (c .level-at2 .ensures .0 w) ∙ eqb-true _ _ e)
 
 pub twins-spec : {M : Type 1} → statement M
 twins-spec =

@@ -3,9 +3,9 @@ use mathlib.Core.Bool.{true}
 use Prim.Native.Nat.{ℕ, _<_}
 use native.Mathlib.Omega.{arith}
 use borrow.Author.Tests.{ltb-true, ltb-false, not-true, not-false}
-use Rattle.counts.specs.Bytes.{number}
-use Rattle.layout.specs.Layout.{valid}
-use Rattle.block.specs.Block.{cap}
+use Rattle.group_bytes.specs.Bytes.{number}
+use Rattle.group_layout.specs.Layout.{valid}
+use Rattle.group_block.specs.Block.{cap}
 use Rattle.group.specs.declared.Outcome.{Outcome}
 use Rattle.group.specs.Group.{decode, stored}
 use Rattle.group.proofs.Laws.{united-invalid, united-source-invalid, united-full, united-stored}

@@ -1,6 +1,6 @@
 use Prim.Native.Nat.{_*_, _/_, _^_}
 use lib.Bits.{and-mask}
-use Rattle.block.specs.Block.{cap}
+use Rattle.group_block.specs.Block.{cap}
 use borrow.Author.Needs.{needs}
 use Rattle.group.proofs.value_at.Statement.{statement}
 use Rattle.group.proofs.value_at.Tie as tie

@@ -5,8 +5,8 @@ use native.Mathlib.Nat.{mul-mod-left}
 use native.Mathlib.Numerals.{add-one}
 use native.Mathlib.Omega.{arith}
 use borrow.Author.Tests.{not-false}
-use Rattle.block.specs.Block.{cap, block, counterAt}
-use Rattle.block.proofs.Laws.{cap-pos}
+use Rattle.group_block.specs.Block.{cap, block, counterAt}
+use Rattle.group_block.proofs.Laws.{cap-pos}
 use Rattle.group.proofs.Widening.{second-in, put-in, put-is}
 use borrow.Author.Needs.{needs}
 use Rattle.group.proofs.widened.Statement.{statement}

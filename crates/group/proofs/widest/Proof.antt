@@ -1,7 +1,7 @@
 use mathlib.Core.Path.{_≡_, sym, ap, _∙_}
 use mathlib.Core.Bool.{true, false}
 use borrow.Author.Tests.{not-true, not-false}
-use Rattle.layout.specs.Layout.{valid}
+use Rattle.group_layout.specs.Layout.{valid}
 use Rattle.group.specs.Status.{accepted}
 use Rattle.group.specs.Group.{widestOf}
 use borrow.Author.Needs.{needs}

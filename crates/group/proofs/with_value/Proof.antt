@@ -2,7 +2,7 @@ use mathlib.Core.Path.{_≡_, ap, _∙_}
 use Prim.Native.Nat.{_*_, _%_, _^_, _<_}
 use native.Mathlib.Omega.{arith}
 use lib.Bits.{bitAnd, and-mask}
-use Rattle.block.specs.Block.{cap}
+use Rattle.group_block.specs.Block.{cap}
 use Rattle.group.proofs.Places.{value-in, value-put}
 use borrow.Author.Needs.{needs}
 use Rattle.group.proofs.with_value.Statement.{statement}

@@ -3,10 +3,10 @@ use mathlib.Core.Path.{_≡_, sym, ap, _∙_}
 use native.Mathlib.Omega.{arith}
 use lib.ListN.{length, getD, take}
 use Rattle.image.proofs.Calls.{Sound, sound-call, read-call, read-faulty, read-done}
-use Rattle.codes.specs.Pack.{codeMerge}
-use Rattle.format.specs.Fields.{Fields}
-use Rattle.format.proofs.Sizes.{table-part}
-use Rattle.format.proofs.Fields.{fields-part}
+use Rattle.group_codes.specs.Pack.{codeMerge}
+use Rattle.image_format.specs.Fields.{Fields}
+use Rattle.image_format.proofs.Sizes.{table-part}
+use Rattle.image_format.proofs.Fields.{fields-part}
 use Rattle.geometry.specs.Order.{Done}
 use borrow.Author.Needs.{needs}
 use Rattle.image.proofs.read.Statement.{statement}

@@ -4,7 +4,7 @@ use Prim.Native.Nat.{ℕ, _<_}
 use Rattle.group.specs.declared.Reading.{Reading}
 use Rattle.geometry.specs.Order.{answerOf}
 use lib.ListN.{getD}
-use Rattle.keys.specs.Keys.{keySlot}
+use Rattle.meter_keys.specs.Keys.{keySlot}
 use Rattle.meter.proofs.Calls.{call-rows, estimated-good}
 use Rattle.meter.proofs.Slots.{read-status-by-key, read-value-by-key, one-long, one-read-status, one-read-value}
 use borrow.Author.Needs.{needs}

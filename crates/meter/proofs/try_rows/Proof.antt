@@ -13,7 +13,7 @@ use Rattle.geometry.specs.Geometry.{stride}
 use Rattle.geometry.specs.Order.{earlier, earliest}
 use Rattle.geometry.specs.Rows.{groupAt, ofRows}
 use Rattle.geometry.proofs.Widths.{slot-in, group-in, earlier-none}
-use Rattle.row.specs.Row.{addedIn}
+use Rattle.meter_row.specs.Row.{addedIn}
 use Rattle.meter.specs.Meter.{rowOf}
 use Rattle.meter.proofs.Gather.{status-turn, status-end, rows-start}
 use Rattle.geometry.proofs.Lists.{one-row, filled-more}

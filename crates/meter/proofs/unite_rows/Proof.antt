@@ -5,7 +5,7 @@ use borrow.Author.Needs.{needs}
 use mathlib.Core.List.{List}
 use lib.ListN.{length}
 use Rattle.geometry.specs.Rows.{mapRows}
-use Rattle.row.specs.Row.{uniteRow}
+use Rattle.meter_row.specs.Row.{uniteRow}
 use Rattle.meter.specs.Meter.{rowOf, sourceAdded}
 use Rattle.geometry.proofs.Lists.{one-row, lent, rowsFrom, rows-start, rows-turn, rows-end}
 use Rattle.meter.proofs.unite_rows.Statement.{statement}

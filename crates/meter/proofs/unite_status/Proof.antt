@@ -8,7 +8,7 @@ use Rattle.meter.specs.Meter.{rowOf, sourceStatus}
 use lib.ListN.{drop}
 use Rattle.geometry.specs.Order.{earlier, earliest}
 use Rattle.geometry.specs.Rows.{ofRows}
-use Rattle.row.specs.Row.{uniteStatus}
+use Rattle.meter_row.specs.Row.{uniteStatus}
 use Rattle.geometry.proofs.Lists.{one-row}
 use Rattle.meter.proofs.Gather.{status-turn, status-end, rows-start}
 use Rattle.meter.proofs.unite_status.Statement.{statement}

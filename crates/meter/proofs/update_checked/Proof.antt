@@ -4,7 +4,7 @@ use mathlib.Core.List.{List}
 use Prim.Native.Nat.{ℕ, _<_}
 use lib.Dec.{eqb}
 use lib.ListN.{getD}
-use Rattle.keys.specs.Keys.{keySlot}
+use Rattle.meter_keys.specs.Keys.{keySlot}
 use Rattle.meter.proofs.Calls.{call-rows, updated-rows}
 use Rattle.meter.proofs.Slots.{status-by-key, added-by-key, one-long, one-status, one-added}
 use borrow.Author.Needs.{needs}

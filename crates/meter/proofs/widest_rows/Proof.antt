@@ -7,7 +7,7 @@ use Rattle.meter.specs.Meter.{rowOf, rowStatus, rowLevel}
 use lib.ListN.{drop}
 use Rattle.geometry.specs.Order.{earlier, earliest}
 use Rattle.geometry.specs.Rows.{ofRows, largest}
-use Rattle.row.specs.Row.{widestStatus, widestRow}
+use Rattle.meter_row.specs.Row.{widestStatus, widestRow}
 use Rattle.geometry.proofs.Lists.{one-row}
 use Rattle.meter.proofs.Gather.{status-turn, status-end, level-turn, level-end, rows-start, levels-start}
 use Rattle.meter.proofs.widest_rows.Statement.{statement}

@@ -5,7 +5,7 @@ use Rattle.meter_c.proofs.meter_pack.Statement.{statement}
 use Rattle.meter_c.proofs.meter_pack.Tie as tie
 use Rattle.meter_c.proofs.meter_pack.Reads as reads
 use Rattle.meter_c.proofs.meter_pack.Lts as lts
-use Rattle.codes.proofs.pack.Reads as pack-reads
+use Rattle.group_codes.proofs.pack.Reads as pack-reads
 use Rattle.meter_c.proofs.give.Reads as give-reads
 
 -- src/lib.rt:74:10

@@ -1,11 +1,11 @@
 use borrow.Author.Needs.{needs}
 use mathlib.Core.Path.{ap, _∙_}
-use Rattle.codes.specs.declared.Unpacked.{Unpacked}
+use Rattle.group_codes.specs.declared.Unpacked.{Unpacked}
 use Rattle.meter_c.proofs.meter_unpack.Statement.{statement}
 use Rattle.meter_c.proofs.meter_unpack.Tie as tie
 use Rattle.meter_c.proofs.meter_unpack.Reads as reads
 use Rattle.meter_c.proofs.meter_unpack.Lts as lts
-use Rattle.codes.proofs.unpack.Reads as unpack-reads
+use Rattle.group_codes.proofs.unpack.Reads as unpack-reads
 use Rattle.meter_c.proofs.give.Reads as give-reads
 
 -- src/lib.rt:84:9

@@ -1,4 +1,4 @@
-use Rattle.lines.proofs.Laws.{append-turn}
+use Rattle.feed_lines.proofs.Laws.{append-turn}
 use mathlib.Core.Path.{_≡_, refl, _∙_}
 use mathlib.Core.List.{_++_, append-nil}
 use Prim.Native.Nat.{_+_, _-_, _≤_}

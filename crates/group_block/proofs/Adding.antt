@@ -1,0 +1,180 @@
+-- Laws of adding and uniting, for any level.
+use mathlib.Core.Path.{_≡_, refl, ap}
+use mathlib.Core.Bool.{Bool, true, false, cond, true≢false}
+use Prim.Native.Nat.{ℕ, suc, _+_, _-_, _^_, _≤_, _<_}
+use native.Mathlib.Omega.{arith}
+use borrow.Author.Tests.{lt-ltb, ltb-true, ltb-false}
+use lib.Dec.{ltb}
+use Rattle.group_layout.specs.Layout.{Layout, merged, halves}
+use Rattle.group_block.specs.declared.Counter.{Counter}
+use Rattle.group_block.specs.Block.{Block, counter, split, cap, Fits, shape, counterAt, total}
+use Rattle.group_block.specs.Sum.{Sum, fits, over, held, join, add, unite, sumTotal, Sound}
+use Rattle.group_block.specs.Least.{together}
+
+-- the two cases of a sum that is tried
+pub held-cases : (n s : ℕ) (P : Sum n → Type 0) → (s < cap n → P (fits (counter s))) → (cap n ≤ s → P (over s)) → P (held n s)
+unfolding held
+held-cases n s P f g = go (ltb s (cap n)) refl
+  where
+    go : (b : Bool) → ltb s (cap n) ≡ b → P (cond b (fits (counter s)) (over s))
+    go true e = f (ltb-true s (cap n) e)
+    go false e = g (ltb-false s (cap n) e)
+
+pub held-total : (n s : ℕ) → sumTotal (held n s) ≡ s
+unfolding sumTotal total
+held-total n s = held-cases n s (λ x. sumTotal x ≡ s) (λ h. refl) (λ h. refl)
+
+held-sound : (n s : ℕ) → Sound (held n s)
+unfolding Sound Fits
+held-sound n s = held-cases n s Sound (λ h. h) (λ h. h)
+
+join-total : {n : ℕ} (x y : Sum n) → sumTotal (join x y) ≡ sumTotal x + sumTotal y
+unfolding join sumTotal total
+join-total (fits l) (fits r) = refl
+join-total {n} (fits l) (over t) = held-total (suc n) (total l + t)
+join-total {n} (over s) y = held-total (suc n) (s + sumTotal y)
+
+pub join-sound : {n : ℕ} (x y : Sum n) → Sound x → Sound y → Sound (join x y)
+unfolding join Sound Fits
+join-sound (fits l) (fits r) f g = (f, g)
+join-sound {n} (fits l) (over t) f g = held-sound (suc n) (total l + t)
+join-sound {n} (over s) y f g = held-sound (suc n) (s + sumTotal y)
+
+-- the two cases of an addition to two halves
+pub add-halves : {n : ℕ} (l r : Block n) (k a : ℕ) (P : Sum (suc n) → Type 0)
+    → (ltb k (2 ^ n) ≡ true → P (join (add l k a) (fits r)))
+    → (ltb k (2 ^ n) ≡ false → P (join (fits l) (add r (k - 2 ^ n) a)))
+    → P (add (split l r) k a)
+unfolding add
+add-halves {n} l r k a P f g = go (ltb k (2 ^ n)) refl
+  where
+    go : (b : Bool) → ltb k (2 ^ n) ≡ b → P (cond b (join (add l k a) (fits r)) (join (fits l) (add r (k - 2 ^ n) a)))
+    go true e = f e
+    go false e = g e
+
+-- an addition adds its amount to the total
+pub add-total : {n : ℕ} (b : Block n) (k a : ℕ) → sumTotal (add b k a) ≡ total b + a
+unfolding add sumTotal total
+add-total {n} (counter v) k a = held-total n (v + a)
+add-total (split {n} l r) k a =
+    add-halves l r k a (λ x. sumTotal x ≡ total l + total r + a)
+    (λ e. omega (arith, join-total (add l k a) (fits r), add-total l k a))
+    (λ e. omega (arith, join-total (fits l) (add r (k - 2 ^ n) a), add-total r (k - 2 ^ n) a))
+
+pub add-sound : {n : ℕ} (b : Block n) (k a : ℕ) → Fits b → Sound (add b k a)
+unfolding add Fits Sound
+add-sound {n} (counter v) k a f = held-sound n (v + a)
+add-sound (split {n} l r) k a f =
+    add-halves l r k a Sound
+    (λ e. join-sound (add l k a) (fits r) (add-sound l k a (f .0)) (f .1))
+    (λ e. join-sound (fits l) (add r (k - 2 ^ n) a) (f .0) (add-sound r (k - 2 ^ n) a (f .1)))
+
+-- a union adds the totals
+pub unite-total : {n : ℕ} (x y : Block n) → sumTotal (unite x y) ≡ total x + total y
+unfolding unite sumTotal total
+unite-total {n} (counter u) y = held-total n (u + total y)
+unite-total (split {n} l r) (counter v) = held-total (suc n) (total l + total r + v)
+unite-total (split l r) (split l′ r′) = omega (arith, join-total (unite l l′) (unite r r′), unite-total l l′, unite-total r r′)
+
+pub unite-sound : {n : ℕ} (x y : Block n) → Fits x → Fits y → Sound (unite x y)
+unfolding unite Fits
+unite-sound {n} (counter u) y f g = held-sound n (u + total y)
+unite-sound (split {n} l r) (counter v) f g = held-sound (suc n) (total l + total r + v)
+unite-sound (split l r) (split l′ r′) f g =
+    join-sound (unite l l′) (unite r r′) (unite-sound l l′ (f .0) (g .0)) (unite-sound r r′ (f .1) (g .1))
+
+-- a sum that its level can hold is a block
+pub no-over : {n : ℕ} (x : Sum n) → Sound x → sumTotal x < cap n → (b : Block n) × (x ≡ fits b)
+unfolding Sound sumTotal
+no-over (fits b) f h = (b, refl)
+no-over (over s) f h = absurd (omega arith)
+
+-- What a Sum keeps of a block: each slot that is not touched reads as before. What is touched goes by the layout that is left.
+abbrev Touch : ℕ → Type 0
+Touch n = Layout n → ℕ → Bool
+
+Keeps : {n : ℕ} → Block n → Touch n → Sum n → Type 0
+Keeps b t (fits b′) = (j : ℕ) → t (shape b′) j ≡ false → counterAt b′ j ≡ counterAt b j
+Keeps b t (over s) = Unit
+
+-- what is touched in two halves; all of a block that was formed
+halfwise : {n : ℕ} → Touch n → Touch n → Touch (suc n)
+halfwise t u merged j = true
+halfwise {n} t u (halves l r) j = cond (ltb j (2 ^ n)) (t l j) (u r (j - 2 ^ n))
+
+held-keeps : {n : ℕ} (b : Block (suc n)) (t u : Touch n) (s : ℕ) → Keeps b (halfwise t u) (held (suc n) s)
+unfolding Keeps halfwise shape
+held-keeps {n} b t u s = held-cases (suc n) s (Keeps b (halfwise t u)) (λ h j e. absurd (true≢false e)) (λ h. tt)
+
+join-keeps : {n : ℕ} (l r : Block n) (t u : Touch n) (x y : Sum n) → Keeps l t x → Keeps r u y → Keeps (split l r) (halfwise t u) (join x y)
+unfolding Keeps halfwise join shape counterAt
+join-keeps {n} l r t u (fits l′) (fits r′) f g = λ j. go j (ltb j (2 ^ n))
+  where
+    go : (j : ℕ) (b : Bool) → cond b (t (shape l′) j) (u (shape r′) (j - 2 ^ n)) ≡ false
+        → cond b (counterAt l′ j) (counterAt r′ (j - 2 ^ n)) ≡ cond b (counterAt l j) (counterAt r (j - 2 ^ n))
+    go j true e = f j e
+    go j false e = g (j - 2 ^ n) e
+join-keeps l r t u (fits l′) (over s) f g = held-keeps (split l r) t u (total l′ + s)
+join-keeps l r t u (over s) y f g = held-keeps (split l r) t u (s + sumTotal y)
+
+-- fewer slots are kept where more are touched
+keeps-fewer : {n : ℕ} (b : Block n) (t u : Touch n) (x : Sum n) → ((L : Layout n) (j : ℕ) → u L j ≡ false → t L j ≡ false) → Keeps b t x → Keeps b u x
+unfolding Keeps
+keeps-fewer b t u (fits b′) h f = λ j e. f j (h (shape b′) j e)
+keeps-fewer b t u (over s) h f = tt
+
+abbrev with-slot : {n : ℕ} → ℕ → Touch n
+with-slot k L j = together L k j
+
+abbrev none : {n : ℕ} → Touch n
+none L j = false
+
+left-touch : {n : ℕ} (k : ℕ) → ltb k (2 ^ n) ≡ true → (L : Layout (suc n)) (j : ℕ) → together L k j ≡ false → halfwise {n = n} (with-slot k) none L j ≡ false
+unfolding halfwise together
+left-touch k h merged j e = e
+left-touch k h (halves l r) j e = rw h at e
+
+right-touch : {n : ℕ} (k : ℕ) → ltb k (2 ^ n) ≡ false → (L : Layout (suc n)) (j : ℕ) → together L k j ≡ false → halfwise {n = n} none (with-slot (k - 2 ^ n)) L j ≡ false
+unfolding halfwise together
+right-touch k h merged j e = e
+right-touch k h (halves l r) j e = rw h at e
+
+add-keeps-others : {n : ℕ} (b : Block n) (k a : ℕ) → Keeps b (with-slot k) (add b k a)
+unfolding add Keeps together shape
+add-keeps-others {n} (counter v) k a = held-cases n (v + a) (Keeps (counter v) (with-slot k)) (λ h j e. absurd (true≢false e)) (λ h. tt)
+add-keeps-others (split {n} l r) k a =
+    add-halves l r k a (Keeps (split l r) (with-slot k))
+    (λ e.
+    keeps-fewer (split l r) (halfwise (with-slot k) none) (with-slot k) (join (add l k a) (fits r)) (left-touch k e)
+    (join-keeps l r (with-slot k) none (add l k a) (fits r) (add-keeps-others l k a) (λ j e. refl)))
+    (λ e.
+    keeps-fewer (split l r) (halfwise none (with-slot (k - 2 ^ n))) (with-slot k) (join (fits l) (add r (k - 2 ^ n) a)) (right-touch k e)
+    (join-keeps l r none (with-slot (k - 2 ^ n)) (fits l) (add r (k - 2 ^ n) a) (λ j e. refl) (add-keeps-others r (k - 2 ^ n) a)))
+
+-- an addition leaves every counter but the one that its slot is in then as it was
+pub add-other : {n : ℕ} (b b′ : Block n) (k j a : ℕ) → add b k a ≡ fits b′ → together (shape b′) k j ≡ false → counterAt b′ j ≡ counterAt b j
+unfolding Keeps
+add-other b b′ k j a e = (rw e at (add-keeps-others b k a)) j
+
+-- an addition that its counter can hold changes the counter's value and nothing of the layout
+abbrev pub Stays : {n : ℕ} → Block n → ℕ → ℕ → Type 0
+Stays {n} b k a = (b′ : Block n) × (add b k a ≡ fits b′) × (shape b′ ≡ shape b) × (counterAt b′ k ≡ record { value = counterAt b k .value + a; level = counterAt b k .level })
+
+pub add-stays : {n : ℕ} (b : Block n) (k a : ℕ) → counterAt b k .value + a < cap (counterAt b k .level) → Stays b k a
+unfolding add join shape counterAt held
+add-stays {n} (counter v) k a h = (counter (v + a), rw (lt-ltb (v + a) (cap n) h), refl, refl)
+add-stays (split {n} l r) k a h = go (ltb k (2 ^ n)) refl h (λ h. add-stays l k a h) (λ h. add-stays r (k - 2 ^ n) a h)
+  where
+    at : Bool → Counter
+    at b = cond b (counterAt l k) (counterAt r (k - 2 ^ n))
+
+    go : (b : Bool) → ltb k (2 ^ n) ≡ b → at b .value + a < cap (at b .level)
+        → (counterAt l k .value + a < cap (counterAt l k .level) → Stays l k a)
+        → (counterAt r (k - 2 ^ n) .value + a < cap (counterAt r (k - 2 ^ n) .level) → Stays r (k - 2 ^ n) a)
+        → Stays (split l r) k a
+    go true e h p q =
+        let s = p h in
+        (split (s .0) r, rw (e, s .1), ap (λ (L : Layout n). halves L (shape r)) (s .2), rw e (s .3))
+    go false e h p q =
+        let s = q h in
+        (split l (s .0), rw (e, s .1), ap (λ (L : Layout n). halves (shape l) L) (s .2), rw e (s .3))

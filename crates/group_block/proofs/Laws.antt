@@ -1,0 +1,118 @@
+-- Laws of blocks, for any level.
+use mathlib.Core.Path.{_≡_, refl, ap, ap₂, _∙_}
+use mathlib.Core.Bool.{true, false}
+use Prim.Native.Nat.{ℕ, suc, _+_, _*_, _/_, _%_, _^_, _≤_, _<_}
+use native.Mathlib.Nat.{mod-lt, div-eq-of-lt, le-div-iff-mul-le, div-lt-iff-lt-mul, div-add-mod', mul-le-mul-left}
+use native.Mathlib.Omega.{arith}
+use native.Mathlib.Decide.{decLt}
+use borrow.Author.Tests.{ne-eqb, lt-ltb, le-ltb}
+use lib.Dec.{eqb, ltb}
+use lib.Arith.{digits-lt, digits-div, digits-mod}
+use lib.Pow.{pow-pos, pow-mono, pow-add}
+use Rattle.group_layout.specs.Layout.{Layout, merged, halves, isMerged, marks, layout, valid}
+use Rattle.group_layout.proofs.Laws.{layout-marks, marks-layout, is-merged, layout-suc}
+use Rattle.group_block.specs.Block.{Block, counter, split, cap, Fits, shape, word, fill, block, total}
+
+pub cap-pos : (n : ℕ) → 0 < cap n
+unfolding cap
+cap-pos n = pow-pos (8 * 2 ^ n)
+
+-- a block holds as many bits as its halves
+pub cap-square : (n : ℕ) → cap (suc n) ≡ cap n * cap n
+unfolding cap
+cap-square n = ap (λ (k : ℕ). 2 ^ k) (omega arith) ∙ pow-add 2 (8 * 2 ^ n) (8 * 2 ^ n)
+
+-- two halves that fit make a sum that fits
+pub cap-double : (n : ℕ) → cap n + cap n ≤ cap (suc n)
+unfolding cap
+cap-double n =
+    let two : 2 ≤ cap n = pow-mono {i = 1} {j = 8 * 2 ^ n} (omega (arith, pow-pos n)) in
+    rw (cap-square n) (omega (arith, mul-le-mul-left (cap n) two))
+
+pub cap-mono : (m n : ℕ) → m ≤ n → cap m ≤ cap n
+unfolding cap
+cap-mono m n h = pow-mono {i = 8 * 2 ^ m} {j = 8 * 2 ^ n} (omega (arith, pow-mono {i = m} {j = n} h))
+
+-- the halves of a number are below the halves' cap
+pub high-lt : (n w : ℕ) → w < cap (suc n) → w / cap n < cap n
+high-lt n w h = div-lt-iff-lt-mul {k = cap n} {x = w} {y = cap n} (cap-pos n) .1 (omega (arith, cap-square n))
+
+-- and make no larger a sum than the number
+pub halves-le : (n w : ℕ) → w % cap n + w / cap n ≤ w
+halves-le n w = omega (arith, div-add-mod' w (cap n), mul-le-mul-left {m = 1} {n = cap n} (w / cap n) (cap-pos n))
+
+pub fill-fits : {n : ℕ} (L : Layout n) (w : ℕ) → w < cap n → Fits (fill L w)
+unfolding fill Fits
+fill-fits merged w h = h
+fill-fits (halves {n} l r) w h = (fill-fits l (w % cap n) (mod-lt w (cap-pos n)), fill-fits r (w / cap n) (high-lt n w h))
+
+pub word-fill : {n : ℕ} (L : Layout n) (w : ℕ) → w < cap n → word (fill L w) ≡ w
+unfolding fill word
+word-fill merged w h = refl
+word-fill (halves {n} l r) w h =
+    rw (word-fill l (w % cap n) (mod-lt w (cap-pos n)), word-fill r (w / cap n) (high-lt n w h)) (div-add-mod' w (cap n))
+
+pub shape-fill : {n : ℕ} (L : Layout n) (w : ℕ) → shape (fill L w) ≡ L
+unfolding fill shape
+shape-fill merged w = refl
+shape-fill (halves {n} l r) w = ap₂ halves (shape-fill l (w % cap n)) (shape-fill r (w / cap n))
+
+pub word-lt : {n : ℕ} (b : Block n) → Fits b → word b < cap n
+unfolding word Fits
+word-lt (counter v) f = f
+word-lt (split {n} l r) f = rw (cap-square n) (digits-lt (word-lt r (f .1)) (word-lt l (f .0)))
+
+pub fill-word : {n : ℕ} (b : Block n) → Fits b → fill (shape b) (word b) ≡ b
+unfolding fill shape word Fits
+fill-word (counter v) f = refl
+fill-word (split {n} l r) f =
+    rw (
+      digits-mod (word r) (word-lt l (f .0)),
+      digits-div (word r) (word-lt l (f .0)),
+      fill-word l (f .0),
+      fill-word r (f .1),
+    )
+
+-- count bytes and merge bits are those of the block that they stand for, and a block is the one that its bytes and bits stand for
+pub block-is : {n : ℕ} (b : Block n) → Fits b → block n (word b) (marks (shape b)) ≡ b
+unfolding block
+block-is b f = rw (layout-marks (shape b)) (fill-word b f)
+
+pub word-block : (n w m : ℕ) → w < cap n → word (block n w m) ≡ w
+unfolding block
+word-block n w m h = word-fill (layout n m) w h
+
+pub marks-block : (n w m : ℕ) → valid n m ≡ true → marks (shape (block n w m)) ≡ m
+unfolding block
+marks-block n w m v = rw (shape-fill (layout n m) w) (marks-layout n m v)
+
+pub block-fits : (n w m : ℕ) → w < cap n → Fits (block n w m)
+unfolding block
+block-fits n w m h = fill-fits (layout n m) w h
+
+pub total-lt : {n : ℕ} (b : Block n) → Fits b → total b < cap n
+unfolding total Fits
+total-lt (counter v) f = f
+total-lt (split {n} l r) f = omega (arith, cap-double n, total-lt l (f .0), total-lt r (f .1))
+
+-- a number is below the cap where nothing is above it
+pub zero-high : (n w : ℕ) → eqb (w / cap n) 0 ≡ ltb w (cap n)
+zero-high n w = elim (decLt w (cap n)) [
+  | yes h ↦ rw (div-eq-of-lt {n = w} {m = cap n} h, lt-ltb w (cap n) h)
+  | no h ↦ rw (le-ltb w (cap n) (omega arith)) (ne-eqb (w / cap n) 0 (λ e. omega (arith, le-div-iff-mul-le {k = cap n} {x = 1} {y = w} (cap-pos n) .1 (omega arith))))
+]
+
+-- what the recursions on the level meet
+pub block-merged : (n w m : ℕ) → isMerged (layout n m) ≡ true → block n w m ≡ counter w
+unfolding block fill
+block-merged n w m e = rw (is-merged (layout n m) e)
+
+pub block-suc : (n w m : ℕ) → isMerged (layout (suc n) m) ≡ false
+    → block (suc n) w m ≡ split (block n (w % cap n) (m % 2 ^ (2 ^ n))) (block n (w / cap n) (m / 2 ^ (2 ^ n)))
+unfolding block fill
+block-suc n w m e = rw (layout-suc n m e)
+
+-- the cap of a half of a group
+pub cap-below : (n : ℕ) → n ≤ 2 → cap n ≤ 2 ^ 32
+unfolding cap
+cap-below n h = cap-mono n 2 h

@@ -1,0 +1,12 @@
+pub mod Laws
+pub mod Adding
+pub mod Halves
+pub mod Steps
+pub mod Least
+pub mod Changing
+pub mod Slots
+pub mod Places
+pub mod Carries
+pub mod Starts
+pub mod Twins
+pub mod Pairs

@@ -1,0 +1,103 @@
+-- What the code's addition and union ask of their recursive calls and of `join`, and what these give, in a block of two halves.
+use mathlib.Core.Path.{_≡_, refl, sym, _∙_}
+use mathlib.Core.Bool.{true, false}
+use Prim.Native.Nat.{ℕ, _+_, _-_, _^_, _≤_, _<_}
+use native.Mathlib.Omega.{arith}
+use lib.Dec.{ltb}
+use Rattle.group_block.specs.declared.Summed.{Summed}
+use Rattle.group_block.specs.Block.{Block, counter, split, block, total}
+use Rattle.group_block.specs.Sum.{fits, held, join, add, unite, summed, sumOf, sumTotal, Sound, Sane, Apt}
+use Rattle.group_block.proofs.Adding.{add-total, add-sound, unite-total, unite-sound}
+use Rattle.group_block.proofs.Halves.{Apart, both-apart, join-asks, join-gives, apart-is, left-sane, right-sane, left-is, right-is, left-fits, right-fits, total-apart}
+
+-- what the code's recursive calls ask of halves, and its join of two results
+abbrev pub Asked : ℕ → Summed → ℕ → Type 0
+Asked n s a = (n ≤ 3) × (Sane n (s .word) (s .merge) × (total (block n (s .word) (s .merge)) + a < 2 ^ 64))
+
+abbrev pub BothAsked : ℕ → Summed → Summed → Type 0
+BothAsked n s t =
+    (n ≤ 3)
+    × (Sane n (s .word) (s .merge)
+    × (Sane n (t .word) (t .merge) × (total (block n (s .word) (s .merge)) + total (block n (t .word) (t .merge)) < 2 ^ 64)))
+
+abbrev pub JoinAsked : ℕ → Summed → Summed → Type 0
+JoinAsked n s t = (n ≤ 2) × (Apt n s × (Apt n t × (sumTotal (sumOf n s) + sumTotal (sumOf n t) < 2 ^ 64)))
+
+module _ {n w m : ℕ} {l r : Summed} (p : Apart n w m l r) (level : n ≤ 3) (h : Sane n w m) (k a : ℕ) (sum : total (block n w m) + a < 2 ^ 64) where
+  pub left-asked : Asked (n - 1) l a
+  left-asked = (omega arith, (left-sane p h, omega (arith, total-apart p)))
+
+  pub right-asked : Asked (n - 1) r a
+  right-asked = (omega arith, (right-sane p h, omega (arith, total-apart p)))
+
+  module _ (s : Summed) (s-is : s ≡ summed (add (block (n - 1) (l .word) (l .merge)) k a)) where
+    left-sound : Sound (add (block (n - 1) (l .word) (l .merge)) k a)
+    left-sound = add-sound (block (n - 1) (l .word) (l .merge)) k a (left-fits p (h .0))
+
+    pub left-join : JoinAsked (n - 1) s r
+    unfolding Sound sumTotal
+    left-join =
+        join-asks _ (fits (block (n - 1) (r .word) (r .merge))) left-sound (right-fits p (h .0)) s r s-is (right-is p h) (omega arith)
+        (omega (arith, add-total (block (n - 1) (l .word) (l .merge)) k a, total-apart p))
+
+    pub left-sum : ltb k (2 ^ (n - 1)) ≡ true → summed (join (sumOf (n - 1) s) (sumOf (n - 1) r)) ≡ summed (add (block n w m) k a)
+    unfolding Sound add
+    left-sum e =
+        join-gives _ (fits (block (n - 1) (r .word) (r .merge))) left-sound (right-fits p (h .0)) s r s-is (right-is p h)
+        ∙ sym (apart-is p (λ j b. summed (add b k a)) ∙ rw e)
+
+  module _ (s : Summed) (s-is : s ≡ summed (add (block (n - 1) (r .word) (r .merge)) (k - 2 ^ (n - 1)) a)) where
+    right-sound : Sound (add (block (n - 1) (r .word) (r .merge)) (k - 2 ^ (n - 1)) a)
+    right-sound = add-sound (block (n - 1) (r .word) (r .merge)) (k - 2 ^ (n - 1)) a (right-fits p (h .0))
+
+    pub right-join : JoinAsked (n - 1) l s
+    unfolding Sound sumTotal
+    right-join =
+        join-asks (fits (block (n - 1) (l .word) (l .merge))) _ (left-fits p (h .0)) right-sound l s (left-is p h) s-is (omega arith)
+        (omega (arith, add-total (block (n - 1) (r .word) (r .merge)) (k - 2 ^ (n - 1)) a, total-apart p))
+
+    pub right-sum : ltb k (2 ^ (n - 1)) ≡ false → summed (join (sumOf (n - 1) l) (sumOf (n - 1) s)) ≡ summed (add (block n w m) k a)
+    unfolding Sound add
+    right-sum e =
+        join-gives (fits (block (n - 1) (l .word) (l .merge))) _ (left-fits p (h .0)) right-sound l s (left-is p h) s-is
+        ∙ sym (apart-is p (λ j b. summed (add b k a)) ∙ rw e)
+
+-- a union with one counter
+pub unite-counter : {n : ℕ} (x : Block n) (v : ℕ) → unite x (counter v) ≡ held n (total x + v)
+unfolding unite total
+unite-counter (counter u) v = refl
+unite-counter (split l r) v = refl
+
+module _ {n w m w′ m′ : ℕ} {l r l′ r′ : Summed} (p : Apart n w m l r) (q : Apart n w′ m′ l′ r′) (level : n ≤ 3) (h : Sane n w m) (h′ : Sane n w′ m′)
+    (sum : total (block n w m) + total (block n w′ m′) < 2 ^ 64) where
+  pub lefts-asked : BothAsked (n - 1) l l′
+  lefts-asked = (omega arith, (left-sane p h, (left-sane q h′, omega (arith, total-apart p, total-apart q))))
+
+  pub rights-asked : BothAsked (n - 1) r r′
+  rights-asked = (omega arith, (right-sane p h, (right-sane q h′, omega (arith, total-apart p, total-apart q))))
+
+  module _ (s t : Summed)
+      (s-is : s ≡ summed (unite (block (n - 1) (l .word) (l .merge)) (block (n - 1) (l′ .word) (l′ .merge))))
+      (t-is : t ≡ summed (unite (block (n - 1) (r .word) (r .merge)) (block (n - 1) (r′ .word) (r′ .merge)))) where
+    lefts-sound : Sound (unite (block (n - 1) (l .word) (l .merge)) (block (n - 1) (l′ .word) (l′ .merge)))
+    lefts-sound = unite-sound (block (n - 1) (l .word) (l .merge)) (block (n - 1) (l′ .word) (l′ .merge)) (left-fits p (h .0)) (left-fits q (h′ .0))
+
+    rights-sound : Sound (unite (block (n - 1) (r .word) (r .merge)) (block (n - 1) (r′ .word) (r′ .merge)))
+    rights-sound = unite-sound (block (n - 1) (r .word) (r .merge)) (block (n - 1) (r′ .word) (r′ .merge)) (right-fits p (h .0)) (right-fits q (h′ .0))
+
+    pub both-join : JoinAsked (n - 1) s t
+    both-join =
+        join-asks _ _ lefts-sound rights-sound s t s-is t-is (omega arith)
+        (omega (
+          arith,
+          unite-total (block (n - 1) (l .word) (l .merge)) (block (n - 1) (l′ .word) (l′ .merge)),
+          unite-total (block (n - 1) (r .word) (r .merge)) (block (n - 1) (r′ .word) (r′ .merge)),
+          total-apart p,
+          total-apart q,
+        ))
+
+    pub both-sum : summed (join (sumOf (n - 1) s) (sumOf (n - 1) t)) ≡ summed (unite (block n w m) (block n w′ m′))
+    unfolding unite
+    both-sum =
+        join-gives _ _ lefts-sound rights-sound s t s-is t-is
+        ∙ sym (both-apart p q (λ j b c. summed (unite b c)))

@@ -1,0 +1,53 @@
+-- What a meter's calls do in one row of w slots. Document 01, 'Where a key lands' and 'Updating, asking, uniting'.
+use Prim.Native.Nat.{ℕ, zero, suc, _+_, _/_}
+use mathlib.Core.List.{List}
+use Rattle.group.specs.declared.Outcome.{Outcome}
+use Rattle.group.specs.declared.Reading.{Reading}
+use Rattle.group.specs.Group.{read, added, united, widestOf}
+use Rattle.meter_keys.specs.Keys.{keySlot}
+use Rattle.geometry.specs.Order.{earliest}
+use Rattle.geometry.specs.Rows.{groupAt, withGroup, ofGroups, largest}
+
+-- an update adds an amount in the group of the key's slot
+unfoldable pub addedIn : ℕ → List ℕ → ℕ → ℕ → Outcome
+addedIn w row slot amount = added (groupAt w row (slot / 8)) slot amount
+
+unfoldable pub updateStatus : ℕ → ℕ → List ℕ → ℕ → ℕ → List ℕ → ℕ
+updateStatus state w key amount r row = addedIn w row (keySlot state w key r) amount .status
+
+unfoldable pub updateRow : ℕ → ℕ → List ℕ → ℕ → ℕ → List ℕ → List ℕ
+updateRow state w key amount r row = withGroup w row (keySlot state w key r / 8) (addedIn w row (keySlot state w key r) amount .group)
+
+-- an estimate reads the counter of the key's slot
+unfoldable pub readRow : ℕ → ℕ → List ℕ → ℕ → List ℕ → Reading
+readRow state w key r row = read (groupAt w row (keySlot state w key r / 8)) (keySlot state w key r)
+
+-- the widest level looks at every group
+unfoldable pub levelStatus : ℕ → List ℕ → ℕ → ℕ
+levelStatus w row g = widestOf (groupAt w row g .merge) .status
+
+unfoldable pub levelAt : ℕ → List ℕ → ℕ → ℕ
+levelAt w row g = widestOf (groupAt w row g .merge) .value
+
+unfoldable pub widestStatus : ℕ → List ℕ → ℕ
+widestStatus w row = earliest (ofGroups (levelStatus w row) (w / 8) 0)
+
+unfoldable pub widestRow : ℕ → List ℕ → ℕ
+widestRow w row = largest (ofGroups (levelAt w row) (w / 8) 0)
+
+-- a union adds each group of a source row to the same group of the row
+unfoldable pub unitedAt : ℕ → List ℕ → List ℕ → ℕ → Outcome
+unitedAt w source row g = united (groupAt w row g) (groupAt w source g)
+
+unfoldable pub unitedStatus : ℕ → List ℕ → List ℕ → ℕ → ℕ
+unitedStatus w source row g = unitedAt w source row g .status
+
+unfoldable pub uniteStatus : ℕ → List ℕ → List ℕ → ℕ
+uniteStatus w source row = earliest (ofGroups (unitedStatus w source row) (w / 8) 0)
+
+unfoldable pub uniteGroups : ℕ → List ℕ → ℕ → ℕ → List ℕ → List ℕ
+uniteGroups w source zero g row = row
+uniteGroups w source (suc n) g row = uniteGroups w source n (g + 1) (withGroup w row g (unitedAt w source row g .group))
+
+unfoldable pub uniteRow : ℕ → List ℕ → List ℕ → List ℕ
+uniteRow w source row = uniteGroups w source (w / 8) 0 row
