@@ -104,16 +104,18 @@ module _ {K : Kind} {m : ℕ} (d : ℕ) (joined : SumOf K m → SumOf K (suc m))
   climb-in zero n i j s e k q =
       let en : n ≡ m = omega arith in
       let ej : j ≡ d = omega (arith, q) in
+      let side : totalAt b n (sibling j) ≡ total y = rw (en, ej) (h .beside) in
       try (ltb (K .size s) (K .bound n)) _ _ _ _
       (ap fits (h .form-in n 0 i j s e k q) ∙ sym (h .joined-fits (formAt x n i s)))
-      (rw (en, ej, h .beside) (climb-whole b (d / 2) (K .plus s (total y)) ∙ sym (h .joined-over s)))
+      (ap (λ (z : K .Value). climb b 0 (suc n) (j / 2) (K .plus s z)) side ∙ rw en (climb-whole b (j / 2) (K .plus s (total y))) ∙ sym (h .joined-over s))
   climb-in (suc f) n i j s e k q =
-      let sib : sibling j ≡ d * 2 ^ suc f + sibling i = ap sibling q ∙ sibling-in (d) f i in
-      let up : j / 2 ≡ d * 2 ^ f + i / 2 = ap (λ (z : ℕ). z / 2) q ∙ parent-in (d) f i in
+      let sib : sibling j ≡ d * 2 ^ suc f + sibling i = ap sibling q ∙ sibling-in d f i in
+      let up : j / 2 ≡ d * 2 ^ f + i / 2 = ap (λ (z : ℕ). z / 2) q ∙ parent-in d f i in
+      let side : totalAt b n (sibling j) ≡ totalAt x n (sibling i) = h .total-in n (suc f) (sibling i) (sibling j) e (sibling-lt f i k) sib in
       try (ltb (K .size s) (K .bound n)) _ _ _ _
       (ap fits (h .form-in n (suc f) i j s e k q) ∙ sym (h .joined-fits (formAt x n i s)))
-      (rw (h .total-in n (suc f) (sibling i) (sibling j) e (sibling-lt f i k) sib)
-      (climb-in f (suc n) (i / 2) (j / 2) (K .plus s (totalAt x n (sibling i))) (omega (arith, e)) (parent-lt f i k) up))
+      (ap (λ (z : K .Value). climb b (suc f) (suc n) (j / 2) (K .plus s z)) side
+      ∙ climb-in f (suc n) (i / 2) (j / 2) (K .plus s (totalAt x n (sibling i))) (omega (arith, e)) (parent-lt f i k) up)
 
 -- the level of a slot's counter is at most the block's
 level-le : {K : Kind} {m : ℕ} (b : BlockOf K m) (k : ℕ) → levelAt b k ≤ m
@@ -144,7 +146,7 @@ from-in {K} {m} {d} {joined} {b} {x} {y} h k j a p q el ev =
     let g : m ≡ m - n + n = omega arith in
     rw (el, ev, f)
     (climb-in d joined b x y h (m - n) n (k / 2 ^ n) (j / 2 ^ n) (K .plus (valueAt x k) a) e
-    (shr-lt (m - n) n (rw (← g) p)) (ap (λ (z : ℕ). z / 2 ^ n) q ∙ slot-in (d) m n k le))
+    (shr-lt (m - n) n (rw (← g) p)) (ap (λ (z : ℕ). z / 2 ^ n) q ∙ slot-in d m n k le))
 
 counter-climbs : (K : Kind) (m : ℕ) (v : K .Value) (k : ℕ) (a : K .Value) → climbFrom {K = K} {m = m} (counter v) k a ≡ held m (K .plus v a)
 unfolding climbFrom levelAt valueAt
