@@ -9,7 +9,7 @@ ghost use Rattle.group_layout.specs.Layout as layout_spec;
 ghost use Rattle.group_block.specs.Block.{cap, block, counterAt};
 ghost use Rattle.group_block.specs.Block as block_spec;
 ghost use Rattle.group_block.specs.Change as change_spec;
-ghost use Rattle.group_block.specs.Sum.{summed};
+ghost use Rattle.group_block.specs.Passed.{summed};
 ghost use Rattle.group_block.specs.Sum as sum_spec;
 ghost use Rattle.group.specs.Group.{read, stored, holds, added, united, widestOf, changed};
 ghost use Rattle.group.specs.Group as spec;

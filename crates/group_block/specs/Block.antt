@@ -1,4 +1,4 @@
--- A block and its counters. Document 01, 'Rows, groups and blocks'.
+-- A block and its counters. Document 01, 'Rows, groups and blocks'. Cited by contracts and theorems.
 use Prim.Native.Nat.{ℕ, suc, _+_, _-_, _*_, _/_, _%_, _^_, _<_}
 unfoldable pub use Rattle.group_block.specs.Kind.{cap}
 use Rattle.group_block.specs.Kind.{Kind, ordinary}

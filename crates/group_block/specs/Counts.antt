@@ -1,4 +1,4 @@
--- What a block's counters hold: the totals of their blocks.
+-- What a block's counters hold: the totals of their blocks. Cited by theorems.
 use Prim.Native.Nat.{ℕ, suc, _+_, _-_, _*_, _^_}
 use mathlib.Core.Path.{_≡_}
 use mathlib.Core.Bool.{cond}

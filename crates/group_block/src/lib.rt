@@ -14,7 +14,8 @@ ghost use Rattle.group_layout.specs.Layout.{merged, halves, marks};
 ghost use Rattle.group_block.specs.Block.{cap, block};
 ghost use Rattle.group_block.specs.Block as spec;
 ghost use Rattle.group_block.specs.Sum as sum_spec;
-ghost use Rattle.group_block.specs.Sum.{summed, sumOf, sumTotal, leftHalf, rightHalf, Sane, Apt};
+ghost use Rattle.group_block.specs.Sum.{sumTotal};
+ghost use Rattle.group_block.specs.Passed.{summed, sumOf, leftHalf, rightHalf, Sane, Apt};
 
 // A counter that was read.
 pub struct Counter {

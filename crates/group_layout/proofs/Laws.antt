@@ -11,7 +11,8 @@ use lib.Arith.{digits-lt}
 use lib.Dec.{eqb}
 use lib.Pow.{pow-pos, pow-lt, pow-add, ones-lt, ones-split, high, low, split}
 use Rattle.laws.proofs.Tests.{or-cases}
-use Rattle.group_layout.specs.Layout.{Layout, merged, halves, isMerged, bit, ones, marks, layout, valid, widest}
+use Rattle.group_layout.specs.Layout.{Layout, merged, halves, bit, ones, marks, layout, valid, widest}
+use Rattle.group_layout.specs.Merged.{isMerged}
 
 -- the bits of two halves and the bit between them
 pub twice : (n : ℕ) → 2 ^ n - 1 + 2 ^ n ≡ 2 ^ suc n - 1

@@ -6,7 +6,8 @@ use borrow.Author.Tests.{not-true, not-false}
 use Rattle.group_bytes.specs.Bytes.{number}
 use Rattle.group_layout.specs.Layout.{valid}
 use Rattle.group_block.specs.Block.{cap, total, block, counterAt}
-use Rattle.group_block.specs.Sum.{summed, add}
+use Rattle.group_block.specs.Sum.{add}
+use Rattle.group_block.specs.Passed.{summed}
 use Rattle.group_block.proofs.Laws.{block-fits}
 use Rattle.group_block.proofs.Slots.{whole-total, halves-total}
 use Rattle.group.specs.Group.{decode, stored, added}
