@@ -1,9 +1,9 @@
 -- A union's counters are the totals of both sides in their blocks, and a union is the only block with these counters and the least
 -- layout that suits both, for any kind of counter and any level.
 use mathlib.Core.Path.{_≡_, refl, sym, ap, ap₂, _∙_}
-use Prim.Native.Nat.{ℕ, suc}
+use Prim.Native.Nat.{ℕ}
 use native.Mathlib.Omega.{arith}
-use Rattle.group_block.specs.Kind.{Kind, ordinary}
+use Rattle.group_block.specs.Kind.{Kind}
 use Rattle.group_block.specs.Block.{BlockOf, Block, counter, split, cap, shape, total}
 use Rattle.group_block.specs.Sum.{SumOf, fits, over, held, join, unite, sumTotal}
 use Rattle.group_block.specs.Least.{Inside, Least}

@@ -1,15 +1,15 @@
 -- Laws of merge bits, for any level.
 use mathlib.Core.Path.{_≡_, refl, sym, ap, _∙_}
-use mathlib.Core.Bool.{Bool, true, false, cond, _&&_, _||_, or-true, and-eq-true-iff, true≢false}
-use mathlib.Core.Logic.{_⊎_, inl, inr, ⊎-elim}
+use mathlib.Core.Bool.{Bool, true, false, cond, _&&_, or-true, and-eq-true-iff, true≢false}
+use mathlib.Core.Logic.{⊎-elim}
 use Prim.Native.Nat.{ℕ, zero, suc, _+_, _-_, _*_, _/_, _%_, _^_, _≤_, _<_}
-use native.Mathlib.Nat.{mul-assoc, mul-comm, pow-suc, mul-mod-left, one-mul, mod-eq-of-lt}
+use native.Mathlib.Nat.{mul-assoc, mul-comm, pow-suc, mul-mod-left}
 use native.Mathlib.Numerals.{sub-one}
 use native.Mathlib.Omega.{arith}
 use borrow.Author.Tests.{eq-eqb, ne-eqb, eqb-true}
 use lib.Arith.{digits-lt}
 use lib.Dec.{eqb}
-use lib.Pow.{pow-pos, pow-lt, pow-add, ones-lt, ones-split, high, low, split}
+use lib.Pow.{pow-pos, pow-add, ones-lt, ones-split, high, low, split}
 use Rattle.laws.proofs.Tests.{or-cases}
 use Rattle.group_layout.specs.Layout.{Layout, merged, halves, bit, ones, marks, layout, valid, widest}
 use Rattle.group_layout.specs.Merged.{isMerged}
