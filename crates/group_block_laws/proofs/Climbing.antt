@@ -1,17 +1,17 @@
 -- An addition is the climb from its slot, for any kind of counter and any level.
 use mathlib.Core.Path.{_≡_, refl, sym, ap, _∙_}
 use mathlib.Core.Bool.{Bool, true, false, cond}
-use Prim.Native.Nat.{ℕ, zero, suc, _+_, _-_, _*_, _/_, _^_, _≤_, _<_}
-use native.Mathlib.Nat.{sub-self, mul-assoc, mul-add-div-right, pow-suc}
+use Prim.Native.Nat.{ℕ, zero, suc, _+_, _-_, _*_, _/_, _%_, _^_, _≤_, _<_}
+use native.Mathlib.Nat.{mod-lt, sub-self, mul-assoc, mul-add-div-right, pow-suc}
 use native.Mathlib.Decide.{decLt}
 use native.Mathlib.Omega.{arith}
 use borrow.Author.Tests.{lt-ltb, le-ltb}
 use lib.Dec.{ltb}
 use lib.Pow.{pow-pos, pow-add, shr-lt}
 use Rattle.group_block.specs.Kind.{Kind}
-use Rattle.group_block.specs.Block.{BlockOf, counter, split, counterValue, counterLevel, total}
+use Rattle.group_block.specs.Block.{BlockOf, Block, counter, split, counterValue, counterLevel, total}
 use Rattle.group_block.specs.Sum.{SumOf, fits, over, held, join, add, sumTotal}
-use Rattle.group_block.proofs.Sums.{Sums}
+use Rattle.group_block.proofs.Sums.{Sums, ordinary-sums}
 use Rattle.group_block_laws.specs.Climb.{sibling, totalAt, formAt, climb, climbFrom}
 
 -- the whole block
@@ -166,3 +166,7 @@ add-climbs {K} S (split {n = m} l r) k a h = elim (decLt k (2 ^ m)) [
       (ap (λ (z : SumOf K m). join (fits l) z) (add-climbs S r (k - 2 ^ m) a q)
       ∙ sym (from-in (right S l r) (k - 2 ^ m) k a q (omega arith) (rw t) (rw t)))
 ]
+
+-- so of a group, in which a slot number counts by its remainder by 8
+pub group-climbs : (b : Block 3) (k a : ℕ) → add b (k % 8) a ≡ climbFrom b (k % 8) a
+group-climbs b k a = add-climbs ordinary-sums b (k % 8) a (mod-lt k (omega arith))
