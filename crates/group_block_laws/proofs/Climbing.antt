@@ -58,18 +58,28 @@ record Half {K : Kind} {m : ℕ} (d : ℕ) (joined : SumOf K m → SumOf K (suc 
   joined-fits : (z : BlockOf K m) → joined (fits z) ≡ fits (put z)
   joined-over : (s : K .Value) → joined (over s) ≡ held (suc m) (K .plus s (total y))
 
+-- the half that has a block, of two
+in-left : {A : Type 0} (m n f i j : ℕ) (w l r : A) → n + f ≡ m → i < 2 ^ f → j ≡ 0 * 2 ^ f + i → cond (ltb m n) w (cond (ltb j (2 ^ (m - n))) l r) ≡ l
+in-left m n f i j w l r e h q =
+    let u : m - n ≡ f = omega arith in
+    rw (le-ltb m n (omega arith), u, lt-ltb j (2 ^ f) (omega (arith, q)))
+
+in-right : {A : Type 0} (m n f i j : ℕ) (w l r : A) → n + f ≡ m → i < 2 ^ f → j ≡ 1 * 2 ^ f + i → cond (ltb m n) w (cond (ltb j (2 ^ (m - n))) l r) ≡ r
+in-right m n f i j w l r e h q =
+    let u : m - n ≡ f = omega arith in
+    rw (le-ltb m n (omega arith), u, le-ltb j (2 ^ f) (omega (arith, q)))
+
+index-right : (m n f i j : ℕ) → n + f ≡ m → j ≡ 1 * 2 ^ f + i → j - 2 ^ (m - n) ≡ i
+index-right m n f i j e q =
+    let u : m - n ≡ f = omega arith in
+    rw u (omega (arith, q))
+
 left : {K : Kind} {m : ℕ} (l r : BlockOf K m) → Half 0 (λ z. join z (fits r)) (split l r) l r
 unfolding totalAt formAt sibling join sumTotal
 left {K} {m} l r = record {
   put = λ z. split z r;
-  total-in = λ n f i j e h q.
-      let u : m - n ≡ f = omega arith in
-      let p : j ≡ i = omega (arith, q) in
-      rw (p, le-ltb m n (omega arith), u, lt-ltb i (2 ^ f) h);
-  form-in = λ n f i j v e h q.
-      let u : m - n ≡ f = omega arith in
-      let p : j ≡ i = omega (arith, q) in
-      rw (p, le-ltb m n (omega arith), u, lt-ltb i (2 ^ f) h);
+  total-in = λ n f i j e h q. in-left m n f i j _ _ _ e h q ∙ ap (totalAt l n) (omega (arith, q));
+  form-in = λ n f i j v e h q. in-left m n f i j _ _ _ e h q ∙ ap (λ (z : ℕ). split (formAt l n z v) r) (omega (arith, q));
   beside = rw (le-ltb m m (omega arith), sub-self m) (total-whole r 0);
   joined-fits = λ z. refl;
   joined-over = λ s. refl;
@@ -79,14 +89,8 @@ right : {K : Kind} (S : Sums K) {m : ℕ} (l r : BlockOf K m) → Half 1 (λ z. 
 unfolding totalAt formAt sibling join sumTotal
 right {K} S {m} l r = record {
   put = λ z. split l z;
-  total-in = λ n f i j e h q.
-      let u : m - n ≡ f = omega arith in
-      let p : j - 2 ^ f ≡ i = omega (arith, q) in
-      rw (le-ltb m n (omega arith), u, le-ltb j (2 ^ f) (omega (arith, q)), p);
-  form-in = λ n f i j v e h q.
-      let u : m - n ≡ f = omega arith in
-      let p : j - 2 ^ f ≡ i = omega (arith, q) in
-      rw (le-ltb m n (omega arith), u, le-ltb j (2 ^ f) (omega (arith, q)), p);
+  total-in = λ n f i j e h q. in-right m n f i j _ _ _ e h q ∙ ap (totalAt r n) (index-right m n f i j e q);
+  form-in = λ n f i j v e h q. in-right m n f i j _ _ _ e h q ∙ ap (λ (z : ℕ). split l (formAt r n z v)) (index-right m n f i j e q);
   beside = rw (le-ltb m m (omega arith), sub-self m) (total-whole l 0);
   joined-fits = λ z. refl;
   joined-over = λ s. ap (held (suc m)) (S .comm (total l) s);
