@@ -27,11 +27,11 @@ use Rattle.meter.specs.Meter.{rowOf, readStatus, readValue, estimated, rowStatu
 use Rattle.meter.proofs.Calls.{call-key, estimated-good, widest-good}
 use Rattle.meter.proofs.Memory.{key-in}
 use Rattle.traffic.specs.Traffic.{Pair, blockOf, blockTotal, levelUpTo, level, lower, landingTotal, upper}
-use Rattle.traffic.specs.Canon.{canon, Holds}
+use Rattle.traffic.proofs.Holds.{canon, Holds}
 use Rattle.traffic.specs.Claim.{Between}
 use Rattle.traffic.proofs.Canon.{canon-fits, counter-is, widest-cause, wider, level-le}
 use Rattle.traffic.proofs.Totals.{key-le, wider-le, overflow-some, some-overflow, level-least, level-cause}
-use Rattle.traffic.proofs.Gather.{rows-are, none-earliest, largest-le, le-largest, le-least, least-le}
+use Rattle.traffic.proofs.Gather.{rows-are, none-earliest, largest-le, le-largest, le-least, least-le, le-least-below}
 
 pub good-shape : (d w n : ℕ) → validDepth d ≡ true → validWidth w ≡ true → n ≡ size d w → badShape d w n ≡ 0
 unfolding firstOf
@@ -163,6 +163,6 @@ module _ (d w : ℕ) (vd : validDepth d ≡ true) (vw : validWidth w ≡ true) (
         let f : ℕ → ℕ = λ r. readValue w key r (rowOf w memory r) in
         rw (rows-are (readValue w key) d w memory) (
           le-least f (lower ps key) d 0 (depth-in d vd .0) (λ r h q. value-low r (omega arith)),
-          le-least (landingTotal w (level d w ps) ps key) (least (ofGroups f d 0)) d 0 (depth-in d vd .0)
-              (λ r h q. omega (arith, least-le f d 0 r h q, value-high r (omega arith))),
+          le-least-below (landingTotal w (level d w ps) ps key) (least (ofGroups f d 0)) d (depth-in d vd .0)
+              (λ r q. omega (arith, least-le f d 0 r (omega arith) (omega arith), value-high r q)),
         )

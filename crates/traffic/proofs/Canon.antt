@@ -14,7 +14,7 @@ use Rattle.group_layout.specs.Layout.{widest}
 use Rattle.group_block.specs.Block.{Block, counter, split, cap, Fits, shape, counterAt, total}
 use Rattle.group_block.specs.Sum.{Sum, fits, over, sumTotal, held, join, add, unite}
 use Rattle.group_block.proofs.Laws.{cap-double}
-use Rattle.traffic.specs.Canon.{small, canon}
+use Rattle.traffic.proofs.Holds.{small, canon}
 
 -- a block's total is the sum of its halves'
 abbrev pub Adds : (ℕ → ℕ → ℕ) → Type 0
@@ -23,6 +23,13 @@ Adds t = (n i : ℕ) → t (suc n) i ≡ t n (2 * i) + t n (2 * i + 1)
 -- a half is too large
 abbrev pub Large : (ℕ → ℕ → ℕ) → ℕ → ℕ → Type 0
 Large t n i = t n (2 * i) < cap n → t n (2 * i + 1) < cap n → ⊥
+
+-- totals that agree leave the same block
+pub canon-same : (t u : ℕ → ℕ → ℕ) → ((n i : ℕ) → t n i ≡ u n i) → (n i : ℕ) → canon t n i ≡ canon u n i
+unfolding canon small
+canon-same t u e zero i = ap counter (e 0 i)
+canon-same t u e (suc n) i =
+    rw (e n (2 * i), e n (2 * i + 1), e (suc n) i, canon-same t u e n (2 * i), canon-same t u e n (2 * i + 1))
 
 -- what an addition or a union should leave of a block with these totals
 unfoldable pub canonSum : (ℕ → ℕ → ℕ) → (n : ℕ) → ℕ → Sum n

@@ -1,4 +1,4 @@
-pub mod Example
+pub mod Holds
 pub mod Canon
 pub mod Totals
 pub mod Gather

@@ -24,7 +24,7 @@ use Rattle.geometry.proofs.Lists.{row-in}
 use Rattle.meter.specs.Meter.{rowOf, updated, united}
 use Rattle.meter.proofs.Memory.{Updated, update-accepted, update-group, update-other, United, unite-accepted, unite-group, rows-long}
 use Rattle.traffic.specs.Traffic.{Pair, sumOf, blockTotal}
-use Rattle.traffic.specs.Canon.{small, canon, Holds}
+use Rattle.traffic.proofs.Holds.{small, canon, Holds}
 use Rattle.traffic.proofs.Canon.{canonSum, sum-cases, canon-fits, plus-off, canon-off, add-canon, unite-canon}
 use Rattle.traffic.proofs.Totals.{totals-add, totals-more, totals-append}
 

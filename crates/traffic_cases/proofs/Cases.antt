@@ -23,10 +23,10 @@ use Rattle.image_format.specs.Write as writing
 use Rattle.image_format.specs.Read as reading
 use Rattle.feed_records.specs.Words as records
 use Rattle.feed.specs.Record as carrying
 use Rattle.traffic.specs.Traffic as totals
 use Rattle.traffic.specs.Calls as calls
 use Rattle.traffic.specs.Calls.{Faithful}
-use Rattle.traffic.specs.Example.{other, mixed, fed, every, cases, AllMeet, handMade, ByHand}
+use Rattle.traffic_cases.specs.Cases.{other, mixed, fed, every, cases, AllMeet, handMade, ByHand}
 
 -- a call that was told the meter's depth and width, and one that was refused
 took : {A : Type 0} → A → true ≡ true → (_≡_ {A = ℕ} 1 1) × (_≡_ {A = ℕ} 32 32) × A
@@ -38,7 +38,7 @@ no e = absurd (true≢false (sym e))
 pub cases-meet : AllMeet cases
 unfolding calls.recordPair calls.traffic calls.after calls.behind calls.run calls.done calls.bytesOf calls.wordsOf calls.Faithful
     calls.Listed calls.LeftBy totals.sumOf totals.sameKey totals.keyTotal totals.blockOf totals.blockTotal totals.anyBelow
-    totals.overflows totals.levelUpTo totals.level totals.lower totals.landingTotal totals.upper layouts.bit layouts.ones
+    totals.overflows totals.levelUpTo totals.level totals.lower totals.leastBelow totals.landingTotal totals.upper layouts.bit layouts.ones
     layouts.marks layouts.layout layouts.valid layouts.widest codes.layouts codes.mergedCode codes.code codes.uncode blocks.cap
     blocks.shape blocks.word blocks.fill blocks.block blocks.counterAt blocks.total changes.change sums.sumTotal sums.held sums.join
     sums.add sums.unite hashes.fnvStep hashes.fnv hashes.slotOf bytes.number bytes.bytes groups.decode groups.encode groups.reading

@@ -1,4 +1,4 @@
--- The block that totals leave, whatever the order of the calls that added them up.
+-- The block that totals leave, whatever the order of the calls that added them up, and a memory of such blocks: the proof's own terms.
 use Prim.Native.Nat.{ℕ, zero, suc, _+_, _-_, _*_, _/_, _%_, _<_}
 use mathlib.Core.Path.{_≡_}
 use mathlib.Core.Bool.{Bool, cond, _&&_}
@@ -9,7 +9,7 @@ use Rattle.group_block.specs.Block.{Block, counter, split, cap}
 use Rattle.group.specs.declared.Group.{Group}
 use Rattle.group.specs.Group.{encode}
 use Rattle.geometry.specs.Geometry.{stride, size}
-use Rattle.geometry.specs.Rows.{ofGroups, groupAt}
+use Rattle.geometry.specs.Rows.{groupAt}
 use Rattle.meter.specs.Meter.{rowOf}
 use Rattle.traffic.specs.Traffic.{Pair, blockTotal}
 
@@ -29,13 +29,9 @@ pub record Holds (d w : ℕ) (memory : List ℕ) (pairs : List Pair) : Type 0 wh
   pub fits : (r g : ℕ) → r < d → g < w / 8 → blockTotal w r pairs 3 g < cap 3
   pub groups : (r g : ℕ) → r < d → g < w / 8 → groupAt w (rowOf w memory r) g ≡ encode (canon (blockTotal w r pairs) 3 g)
 
--- Byte j of a row of w slots with these groups, byte i of a memory that holds a traffic, and that memory; `ofGroups f n 0` is f 0 to
--- f (n - 1).
+-- byte j of a row of w slots with these groups, and byte i of a memory that holds a traffic
 unfoldable pub byteIn : ℕ → (ℕ → Group) → ℕ → ℕ
 byteIn w groups j = cond (ltb j w) (getD (groups (j / 8) .counts) (j % 8) 0) (groups (j - w) .merge)
 
 unfoldable pub byteAt : ℕ → List Pair → ℕ → ℕ
 byteAt w pairs i = byteIn w (λ g. encode (canon (blockTotal w (i / stride w) pairs) 3 g)) (i % stride w)
-
-unfoldable pub memoryOf : ℕ → ℕ → List Pair → List ℕ
-memoryOf d w pairs = ofGroups (byteAt w pairs) (size d w) 0
