@@ -8,3 +8,4 @@ pub mod Bytes
 pub mod Records
 pub mod Refused
 pub mod Theorem
+pub mod Corollaries
