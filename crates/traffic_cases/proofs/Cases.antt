@@ -26,17 +26,21 @@ use Rattle.feed.specs.Record as carrying
 use Rattle.traffic.specs.Traffic as totals
 use Rattle.traffic.specs.Calls as calls
 use Rattle.traffic.specs.Calls.{Faithful}
-use Rattle.traffic_cases.specs.Cases.{other, mixed, fed, every, cases, AllMeet, handMade, ByHand}
+use Rattle.traffic_cases.specs.Cases.{other, mixed, fed, every, numbers, cases, AllMeet, handMade, ByHand}
 
 -- a call that was told the meter's depth and width, and one that was refused
-took : {A : Type 0} → A → true ≡ true → (_≡_ {A = ℕ} 1 1) × (_≡_ {A = ℕ} 32 32) × A
+pub took : {A : Type 0} {d w : ℕ} → A → true ≡ true → (d ≡ d) × (w ≡ w) × A
 took l e = (refl, refl, l)
 
 no : {A : Type 0} → false ≡ true → A
 no e = absurd (true≢false (sym e))
 
+infixr 20 _&_
+pub _&_ : {A B : Type 0} → A → B → A × B
+a & b = (a, b)
+
 pub cases-meet : AllMeet cases
-unfolding calls.recordPair calls.traffic calls.after calls.behind calls.run calls.done calls.bytesOf calls.wordsOf calls.Faithful
+unfolding numbers calls.recordPair calls.traffic calls.after calls.behind calls.run calls.done calls.bytesOf calls.wordsOf calls.Faithful
     calls.Listed calls.LeftBy totals.sumOf totals.sameKey totals.keyTotal totals.blockOf totals.blockTotal totals.anyBelow
     totals.overflows totals.levelUpTo totals.level totals.lower totals.leastBelow totals.landingTotal totals.upper layouts.bit layouts.ones
     layouts.marks layouts.layout layouts.valid layouts.widest codes.layouts codes.mergedCode codes.code codes.uncode blocks.cap
@@ -64,22 +68,16 @@ cases-meet =
     let mixed-is : Faithful 1 32 mixed
     = ((((((tt, refl, took tt), refl, took tt), refl, took tt), refl, took tt), refl, took other-is), refl, took other-is) in
     let fed-is : Faithful 1 32 fed = ((((mixed-is, refl, no), refl, took tt), refl, took tt), refl, took tt) in
-    let every-is : Faithful 1 32 every = ((((((fed-is, refl, no), refl, took tt), refl, took tt), refl, no), refl, no), refl, no) in (
-      (tt, refl, refl, refl, refl),
-      (
-        (((((tt, refl, took tt), refl, took tt), refl, took tt)), refl, refl, refl, refl),
-        (
-          (((tt, refl, took tt), refl, took tt), refl, refl, refl, refl),
-          (
-            (((((tt, refl, took tt), refl, took tt), refl, took tt), refl, took tt), refl, refl, refl, refl),
-            (
-              ((((tt, refl, took tt), refl, took tt), refl, took tt), refl, refl, refl, refl),
-              ((every-is, refl, refl, refl, refl), tt),
-            ),
-          ),
-        ),
-      ),
-    )
+    let every-is : Faithful 1 32 every = ((((((fed-is, refl, no), refl, took tt), refl, took tt), refl, no), refl, no), refl, no) in
+    (tt, refl, refl, refl, refl, refl)
+    & (((((tt, refl, took tt), refl, took tt), refl, took tt)), refl, refl, refl, refl, refl)
+    & (((tt, refl, took tt), refl, took tt), refl, refl, refl, refl, refl)
+    & (((((tt, refl, took tt), refl, took tt), refl, took tt), refl, took tt), refl, refl, refl, refl, refl)
+    & ((((tt, refl, took tt), refl, took tt), refl, took tt), refl, refl, refl, refl, refl)
+    & ((((((tt, refl, took tt), refl, took tt), refl, took tt), refl, no), refl, took tt), refl, refl, refl, refl, refl)
+    & (every-is, refl, refl, refl, refl, refl)
+    & (((tt, refl, took tt), refl, took tt), refl, refl, refl, refl, refl)
+    & tt
 
 pub by-hand : ByHand handMade
 unfolding totals.sumOf totals.blockTotal totals.anyBelow totals.overflows totals.levelUpTo totals.level layouts.bit layouts.ones
