@@ -16,7 +16,7 @@ use Rattle.meter_keys.specs.Keys.{keySlot}
 use Rattle.traffic.specs.Traffic.{Pair, sumOf, sameKey, keyTotal, blockOf, blockTotal, anyBelow, overflows, levelUpTo}
 use Rattle.traffic.proofs.Canon.{Adds, half}
 
-sum-append : (f : List ℕ → Bool) (xs ys : List Pair) → sumOf f (xs ++ ys) ≡ sumOf f xs + sumOf f ys
+pub sum-append : (f : List ℕ → Bool) (xs ys : List Pair) → sumOf f (xs ++ ys) ≡ sumOf f xs + sumOf f ys
 unfolding sumOf
 sum-append f [] ys = omega arith
 sum-append f (p ∷ xs) ys = omega (arith, sum-append f xs ys)

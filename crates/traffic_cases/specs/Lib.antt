@@ -1,2 +1,3 @@
 pub mod Cases
 pub mod Refusals
+pub mod Full
