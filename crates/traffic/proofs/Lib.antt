@@ -1,5 +1,4 @@
 pub mod Holds
-pub mod Canon
 pub mod Totals
 pub mod Gather
 pub mod Answers

@@ -132,6 +132,7 @@ module _ (d w : ℕ) (vd : validDepth d ≡ true) (vw : validWidth w ≡ true) w
     estimates key e = answers key (sound-key key e) .1
 
     claim : Claim d w calls
+    unfolding done
     claim =
         record {
           accepts = λ key p q. answers key (good-key (length key) p q) .0;

@@ -69,11 +69,6 @@ unfoldable mutual
   behind (from calls) = traffic calls
   behind (raw content) = []
 
--- what a record's or the end's call answers, by number, place and figure, and leaves
-abbrev pub fed : ℕ → ℕ → List ℕ → ℕ → List ℕ → Done
-fed d w memory before words =
-    record { answer = recordAnswer (recorded d w memory before words .outcome); memory = recorded d w memory before words .memory }
-
 -- The memory that a list leaves, of a meter of d rows of w slots: it starts cleared, and each call gets the memory that the last one
 -- left. What a call answers and leaves is by the definitions that its contract cites; d′ and w′ are what it was told.
 unfoldable mutual
@@ -89,7 +84,8 @@ unfoldable mutual
   done d w d′ w′ (unite source) memory = united d′ w′ memory (bytesOf d w source)
   done d w d′ w′ (write words) memory = record { answer = written d′ w′ memory words .answer; memory = memory }
   done d w d′ w′ (read source) memory = taken d′ w′ memory (wordsOf d w source)
-  done d w d′ w′ (feed before words) memory = fed d′ w′ memory before words
+  done d w d′ w′ (feed before words) memory =
+      record { answer = recordAnswer (recorded d′ w′ memory before words .outcome); memory = recorded d′ w′ memory before words .memory }
 
   -- a union's source
   pub bytesOf : ℕ → ℕ → Source → List ℕ
