@@ -8,10 +8,17 @@ use borrow.Author.Tests.{eqb-true}
 use lib.Dec.{eqb}
 use Rattle.group.specs.declared.Answer.{Answer}
 use Rattle.geometry.specs.Geometry.{validDepth, validWidth}
+use Rattle.word.specs.Word.{payload}
+use Rattle.feed_records.specs.Words.{keyOf}
+use Rattle.feed.specs.declared.Recorded.{Recorded}
+use Rattle.feed.specs.declared.Recorded.the-variants as case
+use Rattle.feed.specs.Answers.{recordAnswer}
+use Rattle.feed.specs.Record.{recorded}
 use Rattle.traffic.specs.Traffic.{Pair, sumOf, blockOf, blockTotal}
 use Rattle.traffic.specs.Calls.{Call, clear, update, estimate, widest, unite, write, read, feed, Source, from, raw, Calls, none, then, traffic, run, done, Faithful, Listed, LeftBy}
-use Rattle.traffic.specs.Claim.{Claim}
+use Rattle.traffic.specs.Claim.{Between, Claim}
 use Rattle.traffic.specs.Corollaries.{EveryAnswer, Answered, EveryBehind, Within, Reordered, AnyOrder}
+use Rattle.traffic.proofs.Records.{only-queries}
 use Rattle.traffic.proofs.Theorem.{demand-3, same-totals}
 
 module _ (d w : ℕ) (vd : validDepth d ≡ true) (vw : validWidth w ≡ true) where
@@ -47,6 +54,14 @@ module _ (d w : ℕ) (vd : validDepth d ≡ true) (vw : validWidth w ≡ true) w
 -- Demand 3 of every answer within a list.
 pub within : Within
 within = every
+
+-- The record clause once more, by the case of the enum: only an asking record gives it.
+pub outcomes : (d w : ℕ) → validDepth d ≡ true → validWidth w ≡ true → (calls : Calls) → Faithful d w calls → (before : ℕ) (words : List ℕ) (value : ℕ)
+    → recorded d w (run d w calls) before words .outcome ≡ case.Estimate value → Between d w (traffic calls) (keyOf (payload words 0) words) value
+unfolding done
+outcomes d w vd vw calls f before words value e =
+    let due = only-queries d w (run d w calls) before words value e in
+    rw e at (demand-3 d w vd vw calls f .records before words due (ap (λ (x : Recorded). recordAnswer x .status) e))
 
 -- what a pair adds to a sum
 abbrev counted : (List ℕ → Bool) → Pair → ℕ
