@@ -8,15 +8,12 @@ use native.Mathlib.Omega.{arith}
 use borrow.Author.Tests.{eq-eqb, le-leb}
 use lib.ListN.{length}
 use lib.Pow.{pow-pos, shl-shr}
-use Rattle.group_layout.specs.Layout as layouts
-use Rattle.group_layout.proofs.Laws.{layout-marks, widest-le}
-use Rattle.group_block.specs.Block.{Block, shape, counterAt}
-use Rattle.group.specs.declared.Answer.{Answer}
+use Rattle.group.specs.declared.Group.{Group}
 use Rattle.group.specs.declared.Reading.{Reading}
 use Rattle.group.specs.Status.{accepted}
 use Rattle.hash.specs.Hash.{basis}
-use Rattle.group.specs.Group.{encode, read, reading, widestOf}
-use Rattle.group.proofs.Laws.{decode-encode, encode-valid}
+use Rattle.group.specs.Group.{read, widestOf}
+use Rattle.group_totals.proofs.Groups.{groupOf, widest-status, widest-most, widest-cause, read-status, read-level, read-value, wider}
 use Rattle.geometry.specs.Geometry.{validDepth, validWidth, stride, size}
 use Rattle.geometry.specs.Order.{firstOf, earliest, badShape, badKey, answerOf}
 use Rattle.geometry.specs.Rows.{ofRows, ofGroups, least, largest, groupAt}
@@ -27,11 +24,10 @@ use Rattle.meter.specs.Meter.{rowOf, readStatus, readValue, estimated, rowStatu
 use Rattle.meter.proofs.Calls.{call-key, estimated-good, widest-good}
 use Rattle.meter.proofs.Memory.{key-in}
 use Rattle.traffic.specs.Traffic.{Pair, blockOf, blockTotal, levelUpTo, level, lower, landingTotal, upper}
-use Rattle.traffic.specs.Canon.{canon, Holds}
+use Rattle.traffic.proofs.Holds.{Holds}
 use Rattle.traffic.specs.Claim.{Between}
-use Rattle.traffic.proofs.Canon.{canon-fits, counter-is, widest-cause, wider, level-le}
 use Rattle.traffic.proofs.Totals.{key-le, wider-le, overflow-some, some-overflow, level-least, level-cause}
-use Rattle.traffic.proofs.Gather.{rows-are, none-earliest, largest-le, le-largest, le-least, least-le}
+use Rattle.traffic.proofs.Gather.{rows-are, none-earliest, largest-le, le-largest, le-least, least-le, le-least-below}
 
 pub good-shape : (d w n : ℕ) → validDepth d ≡ true → validWidth w ≡ true → n ≡ size d w → badShape d w n ≡ 0
 unfolding firstOf
@@ -41,30 +37,20 @@ pub good-key : (n : ℕ) → 1 ≤ n → n ≤ 64 → badKey n ≡ 0
 good-key n p q = rw (le-leb 1 n p, le-leb n 64 q)
 
 module _ (d w : ℕ) (vd : validDepth d ≡ true) (vw : validWidth w ≡ true) (memory : List ℕ) (ps : List Pair) (holds : Holds d w memory ps) where
-  block-at : ℕ → ℕ → Block 3
-  block-at r g = canon (blockTotal w r ps) 3 g
-
-  -- a group of the memory reads as its block
-  read-is : (r g slot : ℕ) → r < d → g < w / 8 → read (groupAt w (rowOf w memory r) g) slot ≡ reading (counterAt (block-at r g) (slot % 8))
-  unfolding read block-at
-  read-is r g slot p q =
-      rw (holds .groups r g p q, encode-valid (canon (blockTotal w r ps) 3 g), decode-encode (canon (blockTotal w r ps) 3 g) (canon-fits (blockTotal w r ps) 3 g (holds .fits r g p q)))
-
-  level-is : (r g : ℕ) → r < d → g < w / 8 → widestOf (groupAt w (rowOf w memory r) g .merge) ≡ accepted (layouts.widest (shape (block-at r g)))
-  unfolding widestOf block-at encode
-  level-is r g p q =
-      rw (holds .groups r g p q, encode-valid (canon (blockTotal w r ps) 3 g), layout-marks (shape (canon (blockTotal w r ps) 3 g)))
+  row-level : (r : ℕ) → r < d → (g : ℕ) → g < w / 8 → levelAt w (rowOf w memory r) g ≡ widestOf (groupOf (blockTotal w r ps) g .merge) .value
+  unfolding levelAt
+  row-level r p g q = ap (λ (x : Group). widestOf (x .merge) .value) (holds .groups r g p q)
 
   -- the widest level of each group is at most L, and of some group it is L
-  group-le : (r g : ℕ) → r < d → g < w / 8 → layouts.widest (shape (block-at r g)) ≤ level d w ps
-  unfolding level block-at
-  group-le r g p q = go (layouts.widest (shape (canon (blockTotal w r ps) 3 g))) refl
+  group-le : (r g : ℕ) → r < d → g < w / 8 → widestOf (groupOf (blockTotal w r ps) g .merge) .value ≤ level d w ps
+  unfolding level
+  group-le r g p q = go (widestOf (groupOf (blockTotal w r ps) g .merge) .value) refl
     where
-      go : (n : ℕ) → layouts.widest (shape (canon (blockTotal w r ps) 3 g)) ≡ n → n ≤ levelUpTo d w ps 3
+      go : (n : ℕ) → widestOf (groupOf (blockTotal w r ps) g .merge) .value ≡ n → n ≤ levelUpTo d w ps 3
       go zero e = omega arith
       go (suc j) e =
-          let c = widest-cause (blockTotal w r ps) 3 g j w (omega (arith, group-in w g vw q)) e in
-          level-least d w ps 3 j (omega (arith, widest-le (shape (canon (blockTotal w r ps) 3 g))))
+          let c = widest-cause (blockTotal w r ps) g j w (omega (arith, group-in w g vw q)) e in
+          level-least d w ps 3 j (omega (arith, widest-most (blockTotal w r ps) g))
           (some-overflow d w ps j
           (record {
             row = r;
@@ -74,10 +60,6 @@ module _ (d w : ℕ) (vd : validDepth d ≡ true) (vw : validWidth w ≡ true) (
             large = c .large;
           }))
 
-  row-level : (r : ℕ) → r < d → (g : ℕ) → g < w / 8 → levelAt w (rowOf w memory r) g ≡ layouts.widest (shape (block-at r g))
-  unfolding levelAt
-  row-level r p g q = ap (λ (x : Answer). x .value) (level-is r g p q)
-
   rows-le : (r : ℕ) → r < d → rowLevel w r (rowOf w memory r) ≤ level d w ps
   unfolding widestRow
   rows-le r p =
@@ -85,7 +67,7 @@ module _ (d w : ℕ) (vd : validDepth d ≡ true) (vw : validWidth w ≡ true) (
       (λ g h q. rw (row-level r p g (omega arith)) (group-le r g p (omega arith)))
 
   le-rows : (n : ℕ) → level d w ps ≡ n → n ≤ largest (ofGroups (λ r. rowLevel w r (rowOf w memory r)) d 0)
-  unfolding level widestRow block-at
+  unfolding level widestRow
   le-rows zero e = omega arith
   le-rows (suc j) e =
       let c = level-cause d w ps 3 j e in
@@ -94,14 +76,15 @@ module _ (d w : ℕ) (vd : validDepth d ≡ true) (vw : validWidth w ≡ true) (
       let s = o .index * 2 ^ j in
       let whole : suc (o .index) * 2 ^ j ≤ w = le-div-iff-mul-le {k = 2 ^ j} {x = suc (o .index)} {y = w} (pow-pos j) .0 (o .index-in) in
       let g : s / 8 < w / 8 = slot-in w s vw (omega (arith, whole, pow-pos j)) in
-      let wide = wider (blockTotal w r ps) 3 s j (c .0) (rw (shl-shr (o .index) j) (o .large)) in
+      let wide = wider (blockTotal w r ps) s j (c .0) (rw (shl-shr (o .index) j) (o .large)) in
       let in-row = le-largest (levelAt w (rowOf w memory r)) (w / 8) 0 (s / 8) (omega arith) (omega arith) in
       let in-rows = le-largest (λ r. rowLevel w r (rowOf w memory r)) d 0 r (omega arith) (omega (arith, o .row-in)) in
       omega (arith, wide, row-level r (o .row-in) (s / 8) g, in-row, in-rows)
 
   level-none : (r : ℕ) → r < d → rowStatus w r (rowOf w memory r) ≡ 0
   unfolding widestStatus levelStatus
-  level-none r p = none-earliest (levelStatus w (rowOf w memory r)) (w / 8) 0 (λ g h q. ap (λ (x : Answer). x .status) (level-is r g p (omega arith)))
+  level-none r p = none-earliest (levelStatus w (rowOf w memory r)) (w / 8) 0
+      (λ g h q. ap (λ (x : Group). widestOf (x .merge) .status) (holds .groups r g p (omega arith)) ∙ widest-status (blockTotal w r ps) g)
 
   shape-is : badShape d w (length memory) ≡ 0
   shape-is = good-shape d w (length memory) vd vw (holds .long)
@@ -126,29 +109,31 @@ module _ (d w : ℕ) (vd : validDepth d ≡ true) (vw : validWidth w ≡ true) (
       unfolding slot
       group = slot-in w (keySlot basis w key r) vw (key-in w key r vw)
 
-      row-is : readRow basis w key r (rowOf w memory r) ≡ reading (counterAt (block-at r (slot / 8)) (slot % 8))
+      abbrev there : Group
+      there = groupOf (blockTotal w r ps) (slot / 8)
+
+      row-is : readRow basis w key r (rowOf w memory r) ≡ read there slot
       unfolding readRow slot
-      row-is = read-is r (slot / 8) slot p group
+      row-is = ap (λ (x : Group). read x slot) (holds .groups r (slot / 8) p group)
 
       status-none : readStatus w key r (rowOf w memory r) ≡ 0
-      unfolding readStatus reading
-      status-none = ap (λ (x : Reading). x .status) row-is
+      unfolding readStatus
+      status-none = ap (λ (x : Reading). x .status) row-is ∙ read-status (blockTotal w r ps) (slot / 8) (holds .fits r (slot / 8) p group) slot
 
       -- the value is a block's total
-      value-is : readValue w key r (rowOf w memory r)
-          ≡ blockTotal w r ps (counterAt (block-at r (slot / 8)) (slot % 8) .level) (slot / 2 ^ counterAt (block-at r (slot / 8)) (slot % 8) .level)
-      unfolding readValue reading block-at
-      value-is = ap (λ (x : Reading). x .value) row-is ∙ counter-is (blockTotal w r ps) 3 (slot / 8) slot refl
+      value-is : readValue w key r (rowOf w memory r) ≡ blockTotal w r ps (read there slot .level) (slot / 2 ^ read there slot .level)
+      unfolding readValue
+      value-is = ap (λ (x : Reading). x .value) row-is ∙ read-value (blockTotal w r ps) (slot / 8) (holds .fits r (slot / 8) p group) slot refl
 
       value-low : lower ps key ≤ readValue w key r (rowOf w memory r)
       unfolding lower slot
-      value-low = omega (arith, value-is, key-le w r ps key (counterAt (block-at r (slot / 8)) (slot % 8) .level))
+      value-low = omega (arith, value-is, key-le w r ps key (read there slot .level))
 
       value-high : readValue w key r (rowOf w memory r) ≤ landingTotal w (level d w ps) ps key r
-      unfolding landingTotal blockOf slot block-at
+      unfolding landingTotal blockOf slot
       value-high =
-          let b = block-at r (slot / 8) in
-          rw value-is (wider-le w r ps slot (counterAt b (slot % 8) .level) (level d w ps) (omega (arith, level-le b (slot % 8), group-le r (slot / 8) p group)))
+          let l = read-level (blockTotal w r ps) (slot / 8) (holds .fits r (slot / 8) p group) slot in
+          rw value-is (wider-le w r ps slot (read there slot .level) (level d w ps) (omega (arith, l, group-le r (slot / 8) p group)))
 
     pub estimate-holds : badKey (length key) ≡ 0 → estimated d w memory key ≡ accepted (least (ofRows (readValue w key) (stride w) d 0 memory))
     unfolding answerOf
@@ -163,6 +148,6 @@ module _ (d w : ℕ) (vd : validDepth d ≡ true) (vw : validWidth w ≡ true) (
         let f : ℕ → ℕ = λ r. readValue w key r (rowOf w memory r) in
         rw (rows-are (readValue w key) d w memory) (
           le-least f (lower ps key) d 0 (depth-in d vd .0) (λ r h q. value-low r (omega arith)),
-          le-least (landingTotal w (level d w ps) ps key) (least (ofGroups f d 0)) d 0 (depth-in d vd .0)
-              (λ r h q. omega (arith, least-le f d 0 r h q, value-high r (omega arith))),
+          le-least-below (landingTotal w (level d w ps) ps key) (least (ofGroups f d 0)) d (depth-in d vd .0)
+              (λ r q. omega (arith, least-le f d 0 r (omega arith) (omega arith), value-high r q)),
         )

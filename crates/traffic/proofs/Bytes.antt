@@ -1,4 +1,4 @@
--- A memory that holds a traffic, byte by byte: its bytes are bytes, its merge bytes are valid, and it is one memory.
+-- A memory that holds a traffic, byte by byte: its bytes are bytes, its merge bytes are valid, and its traffic's totals alone decide it.
 use mathlib.Core.Path.{_≡_, refl, sym, ap, _∙_}
 use mathlib.Core.Bool.{Bool, true, false, cond}
 use mathlib.Core.List.{List, [], _∷_}
@@ -10,40 +10,17 @@ use borrow.Author.Tests.{lt-ltb, le-ltb}
 use lib.Dec.{ltb}
 use lib.ListN.{length, getD, take, drop, length-drop, List·getD-eq-default}
 use lib.Seq.{getD-take, getD-drop, drop-drop, ext-getD, length-take-le}
-use Rattle.group_bytes.specs.Bytes.{bytes}
 use Rattle.laws.proofs.Lists.{Bytes}
-use Rattle.group_layout.specs.Layout.{valid, marks}
-use Rattle.group_layout.proofs.Laws.{marks-in}
-use Rattle.group_block.specs.Block.{Block, shape, word}
+use Rattle.group_layout.specs.Layout.{valid}
 use Rattle.group.specs.declared.Group.{Group}
-use Rattle.group.specs.Group.{encode}
-use Rattle.group.proofs.Laws.{encode-valid}
+use Rattle.group_totals.proofs.Groups.{groupOf, group-same, count-lt, merge-lt, merge-valid}
 use Rattle.geometry.specs.Geometry.{validWidth, stride, size}
-use Rattle.geometry.specs.Rows.{ofGroups, groupAt}
+use Rattle.geometry.specs.Rows.{groupAt}
 use Rattle.geometry.proofs.Widths.{wide, stride-is}
 use Rattle.meter.specs.Meter.{rowOf}
 use Rattle.image_format.specs.Write.{allValid, validRows}
 use Rattle.traffic.specs.Traffic.{Pair, blockTotal}
-use Rattle.traffic.specs.Canon.{canon, Holds, byteIn, byteAt, memoryOf}
-
--- the bytes of a group that a block makes
-byte-lt : (n v i : ℕ) → getD (bytes n v) i 0 < 256
-unfolding bytes
-byte-lt zero v i = omega arith
-byte-lt (suc n) v zero = mod-lt v (omega arith)
-byte-lt (suc n) v (suc i) = byte-lt n (v / 256) i
-
--- bytes that depend on their places
-each-at : (f : ℕ → ℕ) (n k i : ℕ) → i < n → getD (ofGroups f n k) i 0 ≡ f (k + i)
-unfolding ofGroups
-each-at f zero k i h = absurd (omega arith)
-each-at f (suc n) k zero h = ap f (omega arith)
-each-at f (suc n) k (suc i) h = each-at f n (k + 1) i (omega arith) ∙ ap f (omega arith)
-
-each-length : (f : ℕ → ℕ) (n k : ℕ) → length (ofGroups f n k) ≡ n
-unfolding ofGroups
-each-length f zero k = refl
-each-length f (suc n) k = ap suc (each-length f n (k + 1))
+use Rattle.traffic.proofs.Holds.{Holds, byteIn, byteAt}
 
 -- byte j of a row, by its groups
 in-row : (w : ℕ) (row : List ℕ) (groups : ℕ → Group) → validWidth w ≡ true → ((g : ℕ) → g < w / 8 → groupAt w row g ≡ groups g)
@@ -80,31 +57,43 @@ module _ (d w : ℕ) (vw : validWidth w ≡ true) (memory : List ℕ) (ps : List
       ap (λ (k : ℕ). getD memory k 0) (sym (div-add-mod' i s))
       ∙ sym (getD-drop (r * s) memory j 0)
       ∙ sym (getD-take s (drop (r * s) memory) j 0 l)
-      ∙ in-row w (rowOf w memory r) (λ g. encode (canon (blockTotal w r ps) 3 g)) vw (λ g q. holds .groups r g p q) j l
+      ∙ in-row w (rowOf w memory r) (groupOf (blockTotal w r ps)) vw (λ g q. holds .groups r g p q) j l
 
-  pub memory-is : memory ≡ memoryOf d w ps
-  unfolding memoryOf
-  memory-is =
-      ext-getD 0 memory (ofGroups (byteAt w ps) (size d w) 0) (holds .long ∙ sym (each-length (byteAt w ps) (size d w) 0))
-      (λ i h.
-      let k : i < size d w = omega (arith, holds .long) in
-      byte-is i k ∙ ap (byteAt w ps) (omega arith) ∙ sym (each-at (byteAt w ps) (size d w) 0 i k))
-
-  in-lt : (b : ℕ → Block 3) (j : ℕ) → byteIn w (λ g. encode (b g)) j < 256
-  unfolding byteIn encode
-  in-lt b j = go (ltb j w)
+  in-lt : (t : ℕ → ℕ → ℕ) (j : ℕ) → byteIn w (groupOf t) j < 256
+  unfolding byteIn
+  in-lt t j = go (ltb j w)
     where
-      go : (c : Bool) → cond c (getD (bytes 8 (word (b (j / 8)))) (j % 8) 0) (marks (shape (b (j - w)))) < 256
-      go true = byte-lt 8 (word (b (j / 8))) (j % 8)
-      go false = marks-in (shape (b (j - w)))
+      go : (c : Bool) → cond c (getD (groupOf t (j / 8) .counts) (j % 8) 0) (groupOf t (j - w) .merge) < 256
+      go true = count-lt t (j / 8) (j % 8)
+      go false = merge-lt t (j - w)
 
   pub all-bytes : Bytes memory
   unfolding byteAt
   all-bytes i =
       elim (decLt i (size d w)) [
-        | yes h ↦ rw (byte-is i h) (in-lt (λ g. canon (blockTotal w (i / stride w) ps) 3 g) (i % stride w))
+        | yes h ↦ rw (byte-is i h) (in-lt (blockTotal w (i / stride w) ps) (i % stride w))
         | no h ↦ rw (List·getD-eq-default memory 0 {n = i} (omega (arith, holds .long))) (omega arith)
       ]
+
+-- A memory that holds a traffic holds any other with the same totals, and is the only one.
+abbrev pub SameTotals : ℕ → ℕ → List Pair → List Pair → Type 0
+SameTotals d w ps qs = (r : ℕ) → r < d → (n i : ℕ) → blockTotal w r ps n i ≡ blockTotal w r qs n i
+
+pub holds-too : (d w : ℕ) (memory : List ℕ) (ps qs : List Pair) → SameTotals d w ps qs → Holds d w memory ps → Holds d w memory qs
+holds-too d w memory ps qs same holds =
+    record {
+      long = holds .long;
+      fits = λ r g p q. rw (same r p 3 g) at (holds .fits r g p q);
+      groups = λ r g p q. holds .groups r g p q ∙ group-same (blockTotal w r ps) (blockTotal w r qs) (same r p) g;
+    }
+
+pub one-memory : (d w : ℕ) → validWidth w ≡ true → (memory other : List ℕ) (ps qs : List Pair) → SameTotals d w ps qs
+    → Holds d w memory ps → Holds d w other qs → memory ≡ other
+one-memory d w vw memory other ps qs same holds held =
+    ext-getD 0 memory other (holds .long ∙ sym (held .long))
+    (λ i h.
+    let k : i < size d w = omega (arith, holds .long) in
+    byte-is d w vw memory qs (holds-too d w memory ps qs same holds) i k ∙ sym (byte-is d w vw other qs held i k))
 
 -- merge bytes that are valid group by group are valid for the image
 list-valid : (ms : List ℕ) → ((i : ℕ) → i < length ms → valid 3 (getD ms i 0) ≡ true) → allValid ms ≡ true
@@ -132,4 +121,4 @@ pub holds-valid : (d w : ℕ) (memory : List ℕ) (ps : List Pair) → Holds d w
 unfolding size
 holds-valid d w memory ps holds =
     rows-valid d w memory (omega (arith, holds .long))
-    (λ r g p q. rw (holds .groups r g p q) (encode-valid (canon (blockTotal w r ps) 3 g)))
+    (λ r g p q. rw (holds .groups r g p q) (merge-valid (blockTotal w r ps) g))

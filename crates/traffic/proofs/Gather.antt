@@ -11,6 +11,7 @@ use Rattle.geometry.specs.Order.{earlier, earliest}
 use Rattle.geometry.specs.Rows.{ofRows, ofGroups, leastOr, least, largest}
 use Rattle.meter.specs.Meter.{rowOf}
 use Rattle.image_writer.proofs.Laws.{drop-row}
+use Rattle.traffic.specs.Traffic.{leastBelow}
 
 -- what is read of rows, by the rows' numbers
 by-number : (f : ℕ → List ℕ → ℕ) (s n r : ℕ) (memory : List ℕ)
@@ -76,3 +77,9 @@ unfolding ofGroups least
 least-le f zero k i p q = absurd (omega arith)
 least-le f (suc n) k i p q =
     elim (ℕ-discrete i k) [ yes e ↦ rw e (or-le (f k) (ofGroups f n (k + 1))) | no e ↦ or-le-each f (f k) n (k + 1) i (omega arith) (omega arith) ]
+
+pub le-least-below : (f : ℕ → ℕ) (b n : ℕ) → 1 ≤ n → ((i : ℕ) → i < n → b ≤ f i) → b ≤ leastBelow n f
+unfolding leastBelow
+le-least-below f b zero h a = absurd (omega arith)
+le-least-below f b (suc zero) h a = a 0 (omega arith)
+le-least-below f b (suc (suc n)) h a = omega (arith, a (suc n) (omega arith), le-least-below f b (suc n) (omega arith) (λ i p. a i (omega arith)))

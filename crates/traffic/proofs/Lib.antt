@@ -1,5 +1,4 @@
-pub mod Example
-pub mod Canon
+pub mod Holds
 pub mod Totals
 pub mod Gather
 pub mod Answers
@@ -8,3 +7,4 @@ pub mod Bytes
 pub mod Records
 pub mod Refused
 pub mod Theorem
+pub mod Corollaries

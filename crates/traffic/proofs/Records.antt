@@ -1,11 +1,12 @@
--- What a feed's record or end call does: it is rejected, or carries out an update, a query or the end.
+-- What a feed's record or end call does: it is refused, or carries out an update, a query or the end.
 use mathlib.Core.Path.{_≡_, refl, sym, ap, _∙_}
-use mathlib.Core.Bool.{Bool, true, false, true≢false}
+use mathlib.Core.Bool.{Bool, true, false, true≢false, and-eq-true-iff}
 use mathlib.Core.List.{List}
-use Prim.Native.Nat.{ℕ, zero, suc, _%_, _^_}
-use borrow.Author.Tests.{eqb-true}
-use lib.Dec.{eqb, eqb·suc-zero}
-use lib.ListN.{length}
+use Prim.Native.Nat.{ℕ, zero, suc, _/_, _%_, _^_}
+use native.Mathlib.Omega.{arith}
+use borrow.Author.Tests.{eqb-true, eqb-false}
+use lib.Dec.{ltb, eqb, eqb·suc-zero}
+use lib.ListN.{length, getD}
 use Rattle.group.specs.declared.Answer.{Answer}
 use Rattle.geometry.specs.Order.{badShape, badKey}
 use Rattle.meter.specs.Meter.{updated, estimated}
@@ -24,12 +25,12 @@ module _ (d w : ℕ) (memory : List ℕ) (before : ℕ) (words : List ℕ) where
   abbrev amount : ℕ
   amount = amountOf (payload words 0) words
 
-  -- to prove a thing of what the call does, prove it of a rejection, an update, a query and the end
+  -- to prove a thing of what the call does, prove it of a refusal, an update, a query and the end
   module _ (P : Carried → Type 0)
       (rejects : (s p : ℕ) → eqb s 0 ≡ false → P (record { outcome = case.Rejected s p; memory = memory }))
       (updates : isDue words 0 updateKind ≡ true → P (record { outcome = outcomeOf (updated d w memory key amount .answer) case.Updated; memory = updated d w memory key amount .memory }))
-      (queries : isDue words 0 updateKind ≡ false → P (record { outcome = outcomeOf (estimated d w memory key) (case.Estimate (estimated d w memory key .value)); memory = memory }))
-      (ends : isDue words 0 updateKind ≡ false → P (record { outcome = case.Ended; memory = memory })) where
+      (queries : isDue words 0 updateKind ≡ false → isDue words 0 queryKind ≡ true → P (record { outcome = outcomeOf (estimated d w memory key) (case.Estimate (estimated d w memory key .value)); memory = memory }))
+      (ends : isDue words 0 updateKind ≡ false → isDue words 0 queryKind ≡ false → P (record { outcome = case.Ended; memory = memory })) where
     sound : P (carried d w memory words (opened before words))
     unfolding carried opened opensKey updateBody queryBody bodyOf carriedUpdate queried
     sound =
@@ -43,11 +44,11 @@ module _ (d w : ℕ) (memory : List ℕ) (before : ℕ) (words : List ℕ) where
         (by-test (isDue words 0 queryKind)
         (λ q. rw q
         (by-test (eqb (badKey n) 0)
-        (λ k. rw k (by-test (eqb (queryStep n words .status) 0) (λ s. rw s (queries u)) (λ s. rw s (rejects (queryStep n words .status) (queryStep n words .position) s))))
+        (λ k. rw k (by-test (eqb (queryStep n words .status) 0) (λ s. rw s (queries u q)) (λ s. rw s (rejects (queryStep n words .status) (queryStep n words .position) s))))
         (λ k. rw k (rejects (badKey n) 0 k))))
         (λ q. rw q
         (by-test (isDue words 0 endKind)
-        (λ e. rw e (by-test (eqb n (before % 2 ^ 28)) (λ b. rw b (ends u)) (λ b. rw b (rejects 9 0 refl))))
+        (λ e. rw e (by-test (eqb n (before % 2 ^ 28)) (λ b. rw b (ends u q)) (λ b. rw b (rejects 9 0 refl))))
         (λ e. rw e (rejects 8 0 refl))))))
 
     after : (s : ℕ) → P (carriedAfter s d w memory before words)
@@ -64,29 +65,38 @@ pub outcome-status : (a : Answer) (r : Recorded) → recordAnswer r .status ≡ 
 unfolding outcomeOf
 outcome-status a r e = by-test (eqb (a .status) 0) (λ t. rw (t, e)) (λ t. rw t t)
 
--- an estimate is told from the other outcomes
-estimates : Recorded → Bool
-estimates case.Updated = false
-estimates (case.Estimate v) = true
-estimates case.Ended = false
-estimates (case.Rejected s p) = false
+-- a word has one kind
+one-kind : (words : List ℕ) (p j k : ℕ) → isDue words p j ≡ true → isDue words p k ≡ true → j ≡ k
+unfolding isDue
+one-kind words p j k e f =
+    let there = ltb p (length words) in
+    let kind = getD words p 0 / 2 ^ 28 in
+    sym (eqb-true kind j (and-eq-true-iff there (eqb kind j) .0 e .1)) ∙ eqb-true kind k (and-eq-true-iff there (eqb kind k) .0 f .1)
 
-tell : (value : ℕ) (r : Recorded) → estimates r ≡ false → r ≡ case.Estimate value → ⊥
-unfolding estimates
-tell value r f e = true≢false (sym (ap estimates e) ∙ f)
+-- what an accepted query answers is the meter's estimate of the record's key
+pub query-is : (d w : ℕ) (memory : List ℕ) (before : ℕ) (words : List ℕ) → isDue words 0 queryKind ≡ true → recordAnswer (recorded d w memory before words .outcome) .status ≡ 0
+    → (estimated d w memory (keyOf (payload words 0) words) .status ≡ 0)
+    × (estimated d w memory (keyOf (payload words 0) words) .value ≡ recordAnswer (recorded d w memory before words .outcome) .value)
+unfolding outcomeOf
+query-is d w memory before words due =
+    let a = estimated d w memory (keyOf (payload words 0) words) in
+    record-cases d w memory before words (λ c. recordAnswer (c .outcome) .status ≡ 0 → (a .status ≡ 0) × (a .value ≡ recordAnswer (c .outcome) .value))
+    (λ s p f e. absurd (eqb-false s 0 f e))
+    (λ u e. absurd (five-not-six (one-kind words 0 updateKind queryKind u due)))
+    (λ u q. by-test (eqb (a .status) 0) (λ t. rw t (λ e. (eqb-true (a .status) 0 t, refl))) (λ t. rw t (λ e. absurd (eqb-false (a .status) 0 t e))))
+    (λ u q e. absurd (true≢false (sym due ∙ q)))
+  where
+    five-not-six : updateKind ≡ queryKind → ⊥
+    five-not-six e = omega arith
 
--- only an accepted query answers with an estimate: the meter's of the record's key
-pub query-only : (d w : ℕ) (memory : List ℕ) (before : ℕ) (words : List ℕ) (value : ℕ) → recorded d w memory before words .outcome ≡ case.Estimate value
-    → (estimated d w memory (keyOf (payload words 0) words) .status ≡ 0) × (estimated d w memory (keyOf (payload words 0) words) .value ≡ value)
-unfolding outcomeOf estimates
-query-only d w memory before words value =
-    let k = keyOf (payload words 0) words in
-    let a = estimated d w memory k in
-    let u = updated d w memory k (amountOf (payload words 0) words) .answer in
-    record-cases d w memory before words (λ c. c .outcome ≡ case.Estimate value → (a .status ≡ 0) × (a .value ≡ value))
-    (λ s p f e. absurd (tell value (case.Rejected s p) refl e))
-    (λ due e. absurd (tell value (outcomeOf u case.Updated) (by-test (eqb (u .status) 0) (λ t. rw t) (λ t. rw t)) e))
-    (λ due. by-test (eqb (a .status) 0)
-    (λ t. rw t (λ e. (eqb-true (a .status) 0 t, ap (λ (r : Recorded). recordAnswer r .value) e)))
-    (λ t. rw t (λ e. absurd (tell value (case.Rejected (a .status) (a .position)) refl e))))
-    (λ due e. absurd (tell value case.Ended refl e))
+-- only a query answers with an estimate
+pub only-queries : (d w : ℕ) (memory : List ℕ) (before : ℕ) (words : List ℕ) (value : ℕ) → recorded d w memory before words .outcome ≡ case.Estimate value
+    → isDue words 0 queryKind ≡ true
+unfolding outcomeOf
+only-queries d w memory before words value =
+    let u = updated d w memory (keyOf (payload words 0) words) (amountOf (payload words 0) words) .answer in
+    record-cases d w memory before words (λ c. c .outcome ≡ case.Estimate value → isDue words 0 queryKind ≡ true)
+    (λ s p f e. cc)
+    (λ due. by-test (eqb (u .status) 0) (λ t. rw t (λ e. cc)) (λ t. rw t (λ e. cc)))
+    (λ due q e. q)
+    (λ due q e. cc)

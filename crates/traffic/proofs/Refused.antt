@@ -45,8 +45,8 @@ record-kept d w memory before words =
     record-cases d w memory before words (λ c. eqb (recordAnswer (c .outcome) .status) 0 ≡ false → c .memory ≡ memory)
     (λ s p f e. refl)
     (λ due e. finish-kept _ _ _ _ (sym (outcome-status a case.Updated refl) ∙ e))
-    (λ due e. refl)
-    (λ due e. refl)
+    (λ due q e. refl)
+    (λ due q e. refl)
 
 -- a call of any kind
 pub kept : (d w d′ w′ : ℕ) (call : Call) (memory : List ℕ) → eqb (done d w d′ w′ call memory .answer .status) 0 ≡ false → done d w d′ w′ call memory .memory ≡ memory

@@ -25,14 +25,14 @@ use Rattle.feed_records.specs.Words.{updateKind, keyOf, amountOf}
 use Rattle.feed.specs.Record.{recorded}
 use Rattle.traffic.specs.Traffic.{Pair}
 use Rattle.traffic.specs.Calls.{Call, clear, update, estimate, widest, unite, write, read, feed, Source, from, raw, Calls, none, then, recordPair, traffic, after, behind, run, done, bytesOf, wordsOf, Faithful, Listed, LeftBy}
-use Rattle.traffic.specs.Canon.{Holds, memoryOf}
+use Rattle.traffic.proofs.Holds.{Holds}
 use Rattle.traffic.specs.Claim.{Between, Claim, Demand3}
 use Rattle.traffic.proofs.Answers.{good-shape, good-key, widest-holds, estimate-holds, estimate-between}
 use Rattle.traffic.proofs.Steps.{start-holds, update-holds, unite-holds}
-use Rattle.traffic.proofs.Records.{record-cases, outcome-status, query-only}
+use Rattle.traffic.proofs.Records.{record-cases, outcome-status, query-is}
 use Rattle.meter.proofs.Memory.{status-is}
 use Rattle.traffic.proofs.Refused.{kept}
-use Rattle.traffic.proofs.Bytes.{memory-is, all-bytes, holds-valid}
+use Rattle.traffic.proofs.Bytes.{SameTotals, all-bytes, one-memory, holds-valid}
 
 -- a clearing that is accepted leaves what a list starts from
 pub cleared-is : (d w : ℕ) (memory : List ℕ) → validDepth d ≡ true → validWidth w ≡ true → length memory ≡ size d w → cleared d w memory .memory ≡ replicate (size d w) 0
@@ -64,8 +64,8 @@ module _ (d w : ℕ) (vd : validDepth d ≡ true) (vw : validWidth w ≡ true) w
       (λ c. eqb (recordAnswer (c .outcome) .status) 0 ≡ true → Holds d w (c .memory) (cond (isDue words 0 updateKind) (recordPair words ∷ ps) ps))
       (λ s p f e. absurd (true≢false (sym e ∙ f)))
       (λ due e. rw due (update-holds d w vw vd memory ps h k a (eqb-true (m .status) 0 (sym (outcome-status m case.Updated refl) ∙ e))))
-      (λ due e. rw due h)
-      (λ due e. rw due h)
+      (λ due q e. rw due h)
+      (λ due q e. rw due h)
 
   mutual
     unfolding run done bytesOf wordsOf traffic after behind Faithful Listed LeftBy
@@ -98,12 +98,9 @@ module _ (d w : ℕ) (vd : validDepth d ≡ true) (vw : validWidth w ≡ true) w
     read-holds (from calls) memory long l = image-holds (run d w calls) memory (traffic calls) (holds calls l) long
     read-holds (raw content) memory long l = absurd l
 
-  -- The memory is a function of the traffic alone.
-  pub run-is : (calls : Calls) → Faithful d w calls → run d w calls ≡ memoryOf d w (traffic calls)
-  run-is calls f = memory-is d w vw (run d w calls) (traffic calls) (holds calls f)
-
-  pub same-traffic : (calls others : Calls) → Faithful d w calls → Faithful d w others → traffic calls ≡ traffic others → run d w calls ≡ run d w others
-  same-traffic calls others f g e = run-is calls f ∙ ap (memoryOf d w) e ∙ sym (run-is others g)
+  -- The memory is a function of the traffic's totals alone, so the order of its pairs has no part in it.
+  pub same-totals : (calls others : Calls) → Faithful d w calls → Faithful d w others → SameTotals d w (traffic calls) (traffic others) → run d w calls ≡ run d w others
+  same-totals calls others f g e = one-memory d w vw (run d w calls) (run d w others) (traffic calls) (traffic others) e (holds calls f) (holds others g)
 
   -- The image of a list is what the writer gives: it refuses no meter that a list left, if the words suffice.
   pub written-is : (calls : Calls) (lent : List ℕ) → Faithful d w calls → length (image d w (run d w calls)) ≤ length lent
@@ -135,12 +132,13 @@ module _ (d w : ℕ) (vd : validDepth d ≡ true) (vw : validWidth w ≡ true) w
     estimates key e = answers key (sound-key key e) .1
 
     claim : Claim d w calls
+    unfolding done
     claim =
         record {
           accepts = λ key p q. answers key (good-key (length key) p q) .0;
           estimates = estimates;
-          records = λ before words value e.
-              let q = query-only d w (run d w calls) before words value e in
+          records = λ before words due e.
+              let q = query-is d w (run d w calls) before words due e in
               let k = keyOf (payload words 0) words in
               subst (λ (v : ℕ). Between d w (traffic calls) k v) (q .1) (estimates k (q .0));
           widest-level = widest-holds d w vd vw (run d w calls) (traffic calls) (holds calls f);

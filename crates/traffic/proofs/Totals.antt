@@ -10,13 +10,15 @@ use borrow.Author.Tests.{leb-true, le-leb, eqb-true, eq-eqb, ne-eqb}
 use lib.Dec.{leb, eqb}
 use lib.Pow.{shr-shr}
 use Rattle.laws.proofs.Tests.{or-cases}
+use Rattle.group_block.specs.Kind.{ordinary}
 use Rattle.group_block.specs.Block.{cap}
+use Rattle.group_block.specs.Counts.{Adds}
+use Rattle.group_block.proofs.Sides.{half}
 use Rattle.hash.specs.Hash.{basis}
 use Rattle.meter_keys.specs.Keys.{keySlot}
 use Rattle.traffic.specs.Traffic.{Pair, sumOf, sameKey, keyTotal, blockOf, blockTotal, anyBelow, overflows, levelUpTo}
-use Rattle.traffic.proofs.Canon.{Adds, half}
 
-sum-append : (f : List ℕ → Bool) (xs ys : List Pair) → sumOf f (xs ++ ys) ≡ sumOf f xs + sumOf f ys
+pub sum-append : (f : List ℕ → Bool) (xs ys : List Pair) → sumOf f (xs ++ ys) ≡ sumOf f xs + sumOf f ys
 unfolding sumOf
 sum-append f [] ys = omega arith
 sum-append f (p ∷ xs) ys = omega (arith, sum-append f xs ys)
@@ -66,7 +68,7 @@ up x s m n h e =
     rw f (sym (shr-shr x m (n - m)) ∙ ap (λ (y : ℕ). y / 2 ^ (n - m)) e ∙ shr-shr s m (n - m))
 
 module _ (w r : ℕ) where
-  pub totals-add : (ps : List Pair) → Adds (blockTotal w r ps)
+  pub totals-add : (ps : List Pair) → Adds ordinary (blockTotal w r ps)
   unfolding blockTotal blockOf
   totals-add ps n i =
       sum-split (λ key. eqb (blockOf w r (suc n) key) i) (λ key. eqb (blockOf w r n key) (2 * i)) (λ key. eqb (blockOf w r n key) (2 * i + 1))

@@ -1,4 +1,4 @@
--- Lists of calls, the traffic of a list and the memory that it leaves. Document 01, 'Traffic and its two figures'.
+-- Lists of calls, the traffic of a list and the memory that it leaves. Document 01, 'Traffic and its two figures'. Cited by theorems.
 use Prim.Native.Nat.{ℕ}
 use mathlib.Core.Path.{_≡_}
 use mathlib.Core.Bool.{Bool, true, cond}

@@ -1,5 +1,4 @@
 pub mod Traffic
 pub mod Calls
-pub mod Canon
 pub mod Claim
-pub mod Example
+pub mod Corollaries

@@ -1,12 +1,12 @@
--- The traffic, and the figures that document 01 defines from it, in 'Traffic and its two figures'. Nothing here knows of a meter's memory.
-use Prim.Native.Nat.{ℕ, zero, suc, _+_, _/_, _^_}
+-- The traffic, and the figures that document 01 defines from it, in 'Traffic and its two figures'. Cited by theorems. Nothing here knows
+-- of a meter's memory.
+use Prim.Native.Nat.{ℕ, zero, suc, _+_, _/_, _^_, min}
 use mathlib.Core.Bool.{Bool, true, false, cond, _&&_, _||_}
 use mathlib.Core.List.{List, [], _∷_}
 use lib.Dec.{leb, eqb}
 use Rattle.group_block.specs.Block.{cap}
 use Rattle.hash.specs.Hash.{basis}
 use Rattle.meter_keys.specs.Keys.{keySlot}
-use Rattle.geometry.specs.Rows.{ofGroups, least}
 
 -- The traffic, which document 01's book holds, is a list of pairs of key and amount.
 pub record Pair : Type 0 where
@@ -55,8 +55,14 @@ levelUpTo d w pairs (suc m) = cond (overflows d w pairs m) (suc m) (levelUpTo d 
 unfoldable pub level : ℕ → ℕ → List Pair → ℕ
 level d w pairs = levelUpTo d w pairs 3
 
+-- the least of f 0 to f (n - 1)
+unfoldable pub leastBelow : ℕ → (ℕ → ℕ) → ℕ
+leastBelow zero f = 0
+leastBelow (suc zero) f = f 0
+leastBelow (suc (suc n)) f = min (leastBelow (suc n) f) (f (suc n))
+
 -- The two figures. The lower is the key's total. The upper is the least, over the rows, of the totals of the level L blocks that the
--- key lands in; `ofGroups f d 0` is f 0, f 1 and so on to f (d - 1).
+-- key lands in.
 unfoldable pub lower : List Pair → List ℕ → ℕ
 lower pairs key = keyTotal key pairs
 
@@ -64,4 +70,4 @@ unfoldable pub landingTotal : ℕ → ℕ → List Pair → List ℕ → ℕ →
 landingTotal w n pairs key r = blockTotal w r pairs n (blockOf w r n key)
 
 unfoldable pub upper : ℕ → ℕ → List Pair → List ℕ → ℕ
-upper d w pairs key = least (ofGroups (landingTotal w (level d w pairs) pairs key) d 0)
+upper d w pairs key = leastBelow d (landingTotal w (level d w pairs) pairs key)

@@ -1,16 +1,15 @@
--- Lists of calls on a meter of 1 row of 32 slots, with the figures after them: that the claim's premise can be met, and that its parts
--- are tight.
+-- Lists of calls with the figures after them: that the claim's premise can be met, and that its parts are tight. Cited by theorems.
 use Prim.Native.Nat.{ℕ}
 use mathlib.Core.Path.{_≡_}
-use mathlib.Core.Bool.{true, false}
+use mathlib.Core.Bool.{true, false, cond}
 use mathlib.Core.List.{List, [], _∷_, _++_}
 use lib.ListN.{replicate}
 use Rattle.group.specs.Status.{accepted}
 use Rattle.meter.specs.Meter.{estimated}
 use Rattle.meter.specs.Meter as meter
 use Rattle.image_format.specs.Read.{taken}
 use Rattle.traffic.specs.Traffic.{level, lower, upper}
-use Rattle.traffic.specs.Calls.{Call, Calls, none, then, clear, update, estimate, widest, unite, write, read, feed, from, raw, traffic, run, Faithful}
+use Rattle.traffic.specs.Calls.{Call, Calls, none, then, clear, update, estimate, widest, unite, write, read, feed, from, raw, traffic, run, done, Faithful}
 
 -- Keys of one byte that land at slots 0, 8, 10, 11 and 12.
 abbrev pub at-0 : List ℕ
@@ -62,9 +61,26 @@ fed = mixed ▹ feed 0 [] ▸ feed 1 updateWords ▸ feed 5 queryWords ▸ feed 
 abbrev pub every : Calls
 every = then fed 2 64 (update at-8 1) false ▸ widest ▸ write (replicate 40 0) ▹ write [] ▹ unite (raw []) ▹ read (raw [])
 
--- the figures of a key after a list
+-- A clearing that was accepted empties the traffic, and one that was refused, told 64 slots, does not.
+abbrev pub clearings : Calls
+clearings = then (none ▸ update at-10 300 ▸ clear ▸ update at-10 5) 1 64 clear false ▸ update at-10 6
+
+-- on a meter of 2 rows of 32 slots: the keys of bytes 65 and 122 land together in row 0 and apart in row 1
+abbrev pub twoRows : Calls
+twoRows = then (then none 2 32 (update at-10 5) true) 2 32 (update (122 ∷ []) 7) true
+
+-- the numbers of the refused calls of a list, the last first
+unfoldable pub numbers : ℕ → ℕ → Calls → List ℕ
+numbers d w none = []
+numbers d w (then calls d′ w′ call ok) =
+    cond ok (numbers d w calls) (done d w d′ w′ call (run d w calls) .answer .status ∷ numbers d w calls)
+
+-- a list of calls on a meter of d rows of w slots, and the figures of a key after it
 pub record Case : Type 0 where
+  pub d : ℕ
+  pub w : ℕ
   pub calls : Calls
+  pub refused : List ℕ
   pub key : List ℕ
   pub widest-level : ℕ
   pub low : ℕ
@@ -73,39 +89,32 @@ pub record Case : Type 0 where
 
 abbrev pub Meets : Case → Type 0
 Meets c =
-    Faithful 1 32 (c .calls)
-    × (level 1 32 (traffic (c .calls)) ≡ c .widest-level)
+    Faithful (c .d) (c .w) (c .calls)
+    × (numbers (c .d) (c .w) (c .calls) ≡ c .refused)
+    × (level (c .d) (c .w) (traffic (c .calls)) ≡ c .widest-level)
     × (lower (traffic (c .calls)) (c .key) ≡ c .low)
-    × (estimated 1 32 (run 1 32 (c .calls)) (c .key) ≡ accepted (c .value))
-    × (upper 1 32 (traffic (c .calls)) (c .key) ≡ c .high)
+    × (estimated (c .d) (c .w) (run (c .d) (c .w) (c .calls)) (c .key) ≡ accepted (c .value))
+    × (upper (c .d) (c .w) (traffic (c .calls)) (c .key) ≡ c .high)
 
 abbrev pub AllMeet : List Case → Type 0
 AllMeet [] = Unit
 AllMeet (c ∷ cs) = Meets c × AllMeet cs
 
+abbrev pub small : Calls → List ℕ → ℕ → ℕ → ℕ → ℕ → Case
+small calls refused l low value high =
+    record { d = 1; w = 32; calls = calls; refused = refused; key = at-10; widest-level = l; low = low; value = value; high = high }
+
 -- L is each of 0 to 3, and an estimate is the lower figure, the upper, or between them.
 abbrev pub cases : List Case
 cases =
-    record { calls = none; key = at-10; widest-level = 0; low = 0; value = 0; high = 0 }
-    ∷ record { calls = none ▸ update at-8 300 ▸ update at-10 5 ▸ update at-11 7; key = at-10; widest-level = 1; low = 5; value = 5; high = 12 }
-    ∷ record { calls = none ▸ update at-10 300 ▸ update at-11 7; key = at-10; widest-level = 1; low = 300; value = 307; high = 307 }
-    ∷ record {
-      calls = none ▸ update at-10 300 ▸ update at-11 7 ▸ update at-8 9 ▸ update at-0 70000;
-      key = at-10;
-      widest-level = 2;
-      low = 300;
-      value = 307;
-      high = 316;
-    }
-    ∷ record {
-      calls = none ▸ update at-10 4294967295 ▸ update at-12 9 ▸ update at-10 1;
-      key = at-10;
-      widest-level = 3;
-      low = 4294967296;
-      value = 4294967305;
-      high = 4294967305;
-    }
-    ∷ record { calls = every; key = at-10; widest-level = 2; low = 600; value = 70600; high = 70600 }
+    small none [] 0 0 0 0
+    ∷ small (none ▸ update at-8 300 ▸ update at-10 5 ▸ update at-11 7) [] 1 5 5 12
+    ∷ small (none ▸ update at-10 300 ▸ update at-11 7) [] 1 300 307 307
+    ∷ small (none ▸ update at-10 300 ▸ update at-11 7 ▸ update at-8 9 ▸ update at-0 70000) [] 2 300 307 316
+    ∷ small (none ▸ update at-10 4294967295 ▸ update at-12 9 ▸ update at-10 1) [] 3 4294967296 4294967305 4294967305
+    ∷ small clearings (3 ∷ []) 0 11 11 11
+    ∷ small every (8 ∷ 3 ∷ 7 ∷ 3 ∷ 8 ∷ []) 2 600 70600 70600
+    ∷ record { d = 2; w = 32; calls = twoRows; refused = []; key = at-10; widest-level = 0; low = 5; value = 5; high = 5 }
     ∷ []
 
 -- An image made by hand: slots 0 and 1 are merged and hold 0. It is accepted, but no traffic leaves such a meter: its widest level is 1,

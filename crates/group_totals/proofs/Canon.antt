@@ -1,28 +1,42 @@
--- Laws of the block that totals leave, for any level: what adding and uniting do to it, and what its counters are.
+-- The block that totals leave, whatever the order of the additions and unions that made them up, for any level: what adding and uniting
+-- do to it, and what its counters are. `t n i` is the total of block i of level n.
 use mathlib.Core.Path.{_≡_, refl, sym, ap, _∙_}
 use mathlib.Core.Bool.{Bool, true, false, cond, _&&_}
 use Prim.Native.Nat.{ℕ, zero, suc, _+_, _-_, _*_, _/_, _%_, _^_, _≤_, _<_, max}
-use mathlib.Core.Logic.{_⊎_, inl, inr, ⊎-elim}
-use native.Mathlib.Nat.{add-comm, mod-lt}
-use native.Mathlib.Numerals.{add-one}
+use mathlib.Core.Logic.{⊎-elim}
 use native.Mathlib.Decide.{decLt, ℕ-discrete}
 use native.Mathlib.Omega.{arith}
 use borrow.Author.Tests.{lt-ltb, le-ltb, ltb-true, eq-eqb, ne-eqb}
 use lib.Dec.{ltb, eqb}
-use lib.Pow.{pow-pos, mod-pow-add, shr-shr}
 use Rattle.group_layout.specs.Layout.{widest}
+use Rattle.group_block.specs.Kind.{ordinary}
 use Rattle.group_block.specs.Block.{Block, counter, split, cap, Fits, shape, counterAt, total}
 use Rattle.group_block.specs.Sum.{Sum, fits, over, sumTotal, held, join, add, unite}
+use Rattle.group_block.specs.Counts.{Adds, Counts}
 use Rattle.group_block.proofs.Laws.{cap-double}
-use Rattle.traffic.specs.Canon.{small, canon}
+use Rattle.group_block.proofs.Sides.{half, by-half}
+use Rattle.group_block.proofs.Counting.{total-counts}
 
--- a block's total is the sum of its halves'
-abbrev pub Adds : (ℕ → ℕ → ℕ) → Type 0
-Adds t = (n i : ℕ) → t (suc n) i ≡ t n (2 * i) + t n (2 * i + 1)
+-- whether a counter of level n holds the total of block i of that level; `totals n i` is that total
+unfoldable pub small : (ℕ → ℕ → ℕ) → ℕ → ℕ → Bool
+small totals n i = ltb (totals n i) (cap n)
+
+-- Block i of level n: one counter exactly where a half is too large. Its halves are blocks 2 × i and 2 × i + 1 of the level below.
+unfoldable pub canon : (ℕ → ℕ → ℕ) → (n : ℕ) → ℕ → Block n
+canon totals zero i = counter (totals 0 i)
+canon totals (suc n) i =
+    cond (small totals n (2 * i) && small totals n (2 * i + 1)) (split (canon totals n (2 * i)) (canon totals n (2 * i + 1))) (counter (totals (suc n) i))
 
 -- a half is too large
 abbrev pub Large : (ℕ → ℕ → ℕ) → ℕ → ℕ → Type 0
 Large t n i = t n (2 * i) < cap n → t n (2 * i + 1) < cap n → ⊥
+
+-- totals that agree leave the same block
+pub canon-same : (t u : ℕ → ℕ → ℕ) → ((n i : ℕ) → t n i ≡ u n i) → (n i : ℕ) → canon t n i ≡ canon u n i
+unfolding canon small
+canon-same t u e zero i = ap counter (e 0 i)
+canon-same t u e (suc n) i =
+    rw (e n (2 * i), e n (2 * i + 1), e (suc n) i, canon-same t u e n (2 * i), canon-same t u e n (2 * i + 1))
 
 -- what an addition or a union should leave of a block with these totals
 unfoldable pub canonSum : (ℕ → ℕ → ℕ) → (n : ℕ) → ℕ → Sum n
@@ -73,7 +87,7 @@ module _ (t : ℕ → ℕ → ℕ) where
   ]
 
   -- a merged block is one counter, or over
-  sum-merged : (n i : ℕ) → Large t n i → canonSum t (suc n) i ≡ held (suc n) (t (suc n) i)
+  sum-merged : (n i : ℕ) → Large t n i → canonSum t (suc n) i ≡ held {K = ordinary} (suc n) (t (suc n) i)
   unfolding canonSum small held
   sum-merged n i h = rw (canon-merged n i h)
 
@@ -83,12 +97,15 @@ module _ (t : ℕ → ℕ → ℕ) where
   canon-fits zero i h = h
   canon-fits (suc n) i h = canon-cases n i Fits (λ p q. (canon-fits n (2 * i) p, canon-fits n (2 * i + 1) q)) (λ l. h)
 
-  module _ (adds : Adds t) where
+  -- and the total of its block
+  canon-counts : (n i : ℕ) → Counts t i (canon t n i)
+  unfolding canon Counts
+  canon-counts zero i = refl
+  canon-counts (suc n) i = canon-cases n i (Counts t i) (λ p q. (canon-counts n (2 * i), canon-counts n (2 * i + 1))) (λ l. refl)
+
+  module _ (adds : Adds ordinary t) where
     canon-total : (n i : ℕ) → total (canon t n i) ≡ t n i
-    unfolding canon total
-    canon-total zero i = refl
-    canon-total (suc n) i =
-        canon-cases n i (λ b. total b ≡ t (suc n) i) (λ p q. omega (arith, canon-total n (2 * i), canon-total n (2 * i + 1), adds n i)) (λ l. refl)
+    canon-total n i = total-counts ordinary t adds i (canon t n i) (canon-counts n i)
 
     sum-total : (n i : ℕ) → sumTotal (canonSum t n i) ≡ t n i
     unfolding sumTotal
@@ -109,40 +126,8 @@ module _ (t : ℕ → ℕ → ℕ) where
           | no p ↦ rw (sum-over n (2 * i) (omega arith), sum-merged n i (λ p′ q. p p′), sum-total n (2 * i + 1), adds n i)
         ]
 
--- the half of a block that a slot is in
-pub half : (s n : ℕ) → s / 2 ^ suc n ≡ s / 2 ^ n / 2
-half s n = rw (← add-one n) (sym (shr-shr s n 1))
-
-low : (s n : ℕ) → s % 2 ^ suc n ≡ s / 2 ^ n % 2 * 2 ^ n + s % 2 ^ n
-low s n = rw (← add-one n, add-comm n 1) (mod-pow-add s 1 n)
-
-record InLeft (s n i : ℕ) : Type 0 where
-  is : s / 2 ^ n ≡ 2 * i
-  test : ltb (s % 2 ^ suc n) (2 ^ n) ≡ true
-  place : s % 2 ^ suc n ≡ s % 2 ^ n
-
-record InRight (s n i : ℕ) : Type 0 where
-  is : s / 2 ^ n ≡ 2 * i + 1
-  test : ltb (s % 2 ^ suc n) (2 ^ n) ≡ false
-  place : s % 2 ^ suc n - 2 ^ n ≡ s % 2 ^ n
-
-by-half : (s n i : ℕ) → s / 2 ^ suc n ≡ i → InLeft s n i ⊎ InRight s n i
-by-half s n i e =
-    let h : s / 2 ^ n / 2 ≡ i = sym (half s n) ∙ e in
-    let l : s % 2 ^ n < 2 ^ n = mod-lt s (pow-pos n) in
-    elim (decLt 0 (s / 2 ^ n % 2)) [
-      | yes p ↦
-          let odd : s / 2 ^ n % 2 ≡ 1 = omega arith in
-          let at : s % 2 ^ suc n ≡ 2 ^ n + s % 2 ^ n = rw odd at (low s n) ∙ omega arith in
-          inr (record { is = omega arith; test = le-ltb (s % 2 ^ suc n) (2 ^ n) (omega arith); place = omega arith })
-      | no p ↦
-          let even : s / 2 ^ n % 2 ≡ 0 = omega arith in
-          let at : s % 2 ^ suc n ≡ s % 2 ^ n = rw even at (low s n) ∙ omega arith in
-          inl (record { is = omega arith; test = lt-ltb (s % 2 ^ suc n) (2 ^ n) (omega arith); place = at })
-    ]
-
 -- an amount more at a slot
-module _ (t t′ : ℕ → ℕ → ℕ) (adds′ : Adds t′) (s a : ℕ) (plus : (n i : ℕ) → t′ n i ≡ cond (eqb (s / 2 ^ n) i) a 0 + t n i) where
+module _ (t t′ : ℕ → ℕ → ℕ) (adds′ : Adds ordinary t′) (s a : ℕ) (plus : (n i : ℕ) → t′ n i ≡ cond (eqb (s / 2 ^ n) i) a 0 + t n i) where
   plus-at : (n i : ℕ) → s / 2 ^ n ≡ i → t′ n i ≡ t n i + a
   plus-at n i e = plus n i ∙ rw (eq-eqb (s / 2 ^ n) i e) (omega arith)
 
@@ -179,7 +164,7 @@ module _ (t t′ : ℕ → ℕ → ℕ) (adds′ : Adds t′) (s a : ℕ) (plus 
       (sym (sum-merged t′ n i (λ p q. l (omega (arith, plus-more n (2 * i))) (omega (arith, plus-more n (2 * i + 1)))))))
 
 -- the sums of two totals
-module _ (t u v : ℕ → ℕ → ℕ) (adds-t : Adds t) (adds-u : Adds u) (adds-v : Adds v) (sum : (n i : ℕ) → v n i ≡ t n i + u n i) where
+module _ (t u v : ℕ → ℕ → ℕ) (adds-t : Adds ordinary t) (adds-u : Adds ordinary u) (adds-v : Adds ordinary v) (sum : (n i : ℕ) → v n i ≡ t n i + u n i) where
   -- a union of blocks with these totals leaves the block with the sums, or is over exactly where the sum is
   pub unite-canon : (n i : ℕ) → unite (canon t n i) (canon u n i) ≡ canonSum v n i
   unfolding unite canon canonSum small held total

@@ -1,0 +1,2 @@
+pub mod Canon
+pub mod Groups

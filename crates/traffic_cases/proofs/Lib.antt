@@ -1,0 +1,4 @@
+pub mod Computed
+pub mod Cases
+pub mod Refusals
+pub mod Full
