@@ -25,7 +25,7 @@ use Rattle.image_format.specs.Read.{otherMeter, checkHead, checkFours, checkEnd
 use Rattle.image.proofs.Calls.{Sound, sound-call, write-done, read-call, read-faulty, read-done}
 use Rattle.image_reader.proofs.Digits.{payload-here, due-here, below-here}
 use Rattle.image_format.proofs.Laws.{by-test}
-use Rattle.image.proofs.Accepting.{passed, tested-is}
+use Rattle.word.proofs.Passed.{passed, tested-is}
 use Rattle.image.proofs.Exact.{rows-are}
 use Rattle.image.proofs.Sharp.{sharp-at}
 use Rattle.image.proofs.Rows.{Rows, afterRows, rows-restored}
@@ -120,7 +120,7 @@ record Head (d w : ℕ) (words : List ℕ) (q : ℕ) : Type 0 where
   is : drop 0 words ≡ word headKind (headPayload d w) ∷ drop 1 words
 
 head-is : (d w : ℕ) (words : List ℕ) (q : ℕ) → checkHead d w words ≡ go q → Head d w words q
-unfolding checkHead
+unfolding checkHead word
 head-is d w words q e =
     let t = passed (below words 0 headKind (2 ^ 9)) (λ p. tested words 0 headKind (eqb (payload words 0) (headPayload d w)) otherMeter) q e in
     let x = tested-is words 0 headKind (eqb (payload words 0) (headPayload d w)) otherMeter q (omega arith) (t .after) in
@@ -131,7 +131,7 @@ record End (words : List ℕ) (p : ℕ) : Type 0 where
   is : drop p words ≡ endWord p ∷ []
 
 end-is : (words : List ℕ) (p q : ℕ) → checkEnd words p ≡ go q → End words p
-unfolding checkEnd endWord
+unfolding checkEnd endWord word
 end-is words p q e =
     let test = tested words p endKind (eqb (payload words p) (p % 2 ^ 28)) badPayload in
     let t = passed test (λ r. cond (eqb (length words) r) (go r) (stop badWord r)) q e in

@@ -13,38 +13,40 @@ use lib.Seq.{getD-take}
 use Rattle.group.specs.Status.{badPayload}
 use Rattle.word.specs.declared.Step.{Step}
 use Rattle.word.specs.Word.{go, stop, badWord, next, payload, isDue, tested, below}
+use Rattle.word.proofs.Laws.{due-in}
+use Rattle.word.proofs.Places.{Ahead}
 
 pub next-same : (s t : Step) (f g : ℕ → Step) → s ≡ t → f (t .position) ≡ g (t .position) → next s f ≡ next t g
 unfolding next
 next-same s t f g e h = rw (e, h)
 
--- a test of all words, from position p on, and the same of the words before position q
-pub record Cut (q p : ℕ) (s t : Step) : Type 0 where
-  pub forward : p ≤ s .position
+-- a test of all n words, from position p on, and the same of the words before position q
+pub record Cut (n q p : ℕ) (s t : Step) : Type 0 where
+  pub ahead : Ahead n p s
   pub same : s .status ≡ 0 → s .position ≤ q → t ≡ s
   pub ends : (s .status ≡ 0 → ⊥) → s .position ≡ q → t ≡ stop badWord q
 
-pub cut-go : (q p : ℕ) → Cut q p (go p) (go p)
-cut-go q p = record { forward = omega arith; same = λ e h. refl; ends = λ n h. absurd (n refl) }
+pub cut-go : (n q p : ℕ) → Cut n q p (go p) (go p)
+cut-go n q p = record { ahead = record { forward = omega arith; inside = λ h. h }; same = λ e h. refl; ends = λ m h. absurd (m refl) }
 
-pub next-cut : (q p : ℕ) (s t : Step) (f g : ℕ → Step) → Cut q p s t → ((r : ℕ) → r ≤ f r .position)
-    → (s .status ≡ 0 → s .position ≤ q → Cut q (s .position) (f (s .position)) (g (s .position))) → Cut q p (next s f) (next t g)
+pub next-cut : (n q p : ℕ) (s t : Step) (f g : ℕ → Step) → Cut n q p s t → ((r : ℕ) → Ahead n r (f r))
+    → (s .status ≡ 0 → s .position ≤ q → Cut n q (s .position) (f (s .position)) (g (s .position))) → Cut n q p (next s f) (next t g)
 unfolding next
-next-cut q p s t f g c w d =
+next-cut n q p s t f g c w d =
     cases (eqb (s .status) 0)
     (λ u.
     let z = eqb-true (s .status) 0 u in
-    let y = w (s .position) in
-    let x = c .forward in
+    let y = w (s .position) .forward in
+    let x = c .ahead .forward in
     rw u (record {
-      forward = omega arith;
+      ahead = record { forward = omega arith; inside = λ h. w (s .position) .inside (c .ahead .inside h) };
       same = λ e h. rw (c .same z (omega arith), u) (d z (omega arith) .same e h);
-      ends = λ n h. rw (c .same z (omega arith), u) (d z (omega arith) .ends n h);
+      ends = λ m h. rw (c .same z (omega arith), u) (d z (omega arith) .ends m h);
     }))
     (λ u. rw u (record {
-      forward = c .forward;
+      ahead = c .ahead;
       same = λ e h. absurd (eqb-false (s .status) 0 u e);
-      ends = λ n h. rw (c .ends n h);
+      ends = λ m h. rw (c .ends m h);
     }))
 
 module _ (words : List ℕ) (n : ℕ) where
@@ -75,20 +77,33 @@ module _ (words : List ℕ) (n : ℕ) where
   unfolding below
   below-same p kind limit l = tested-same p kind badPayload (ltb (payload words p) limit) (ltb (payload front p) limit) l (ap (λ (x : ℕ). ltb x limit) (payload-same p l))
 
-  pub tested-cut : (p kind line : ℕ) (h i : Bool) → 0 < line → (p < n → i ≡ h) → Cut n p (tested words p kind h line) (tested front p kind i line)
+  pub tested-cut : (p kind line : ℕ) (h i : Bool) → 0 < line → (p < n → i ≡ h) → Cut (length words) n p (tested words p kind h line) (tested front p kind i line)
   unfolding tested
   tested-cut p kind line h i l f =
       cases (isDue words p kind)
       (λ t. cases h
-      (λ u. rw (t, u) (record {
-        forward = omega arith;
+      (λ u.
+      let d = due-in words p kind t in
+      rw (t, u) (record {
+        ahead = record { forward = omega arith; inside = λ k. omega arith };
         same = λ e k. let x : i ≡ true = f (omega arith) ∙ u in rw (due-same p kind (omega arith), t, x);
         ends = λ m k. absurd (m refl);
       }))
-      (λ u. rw (t, u) (record { forward = omega arith; same = λ e k. absurd (omega arith); ends = λ m k. rw (none-due p kind (omega arith)) (ap (stop badWord) k) })))
-      (λ t. rw t (record { forward = omega arith; same = λ e k. absurd (omega arith); ends = λ m k. rw (none-due p kind (omega arith)) (ap (stop badWord) k) }))
+      (λ u. rw (t, u) (missing p line l (tested front p kind i line) (none p kind i line))))
+      (λ t. rw t (missing p badWord (omega arith) (tested front p kind i line) (none p kind i line)))
+    where
+      -- the words before a position have no word at it
+      none : (p kind : ℕ) (i : Bool) (line : ℕ) → p ≡ n → tested front p kind i line ≡ stop badWord p
+      none p kind i line e = rw (none-due p kind (omega arith))
 
-  pub below-cut : (p kind limit : ℕ) → Cut n p (below words p kind limit) (below front p kind limit)
+      missing : (p line : ℕ) → 0 < line → (t : Step) → (p ≡ n → t ≡ stop badWord p) → Cut (length words) n p (stop line p) t
+      missing p line l t g = record {
+        ahead = record { forward = omega arith; inside = λ k. k };
+        same = λ e k. absurd (omega arith);
+        ends = λ m k. g k ∙ ap (stop badWord) k;
+      }
+
+  pub below-cut : (p kind limit : ℕ) → Cut (length words) n p (below words p kind limit) (below front p kind limit)
   unfolding below
   below-cut p kind limit =
       tested-cut p kind badPayload (ltb (payload words p) limit) (ltb (payload front p) limit) (omega arith) (λ h. ap (λ (x : ℕ). ltb x limit) (payload-same p h))

@@ -4,6 +4,7 @@ use mathlib.Core.Bool.{Bool, true, false, cond}
 use mathlib.Core.List.{List}
 use Prim.Native.Nat.{ℕ, _+_, _≤_, _<_}
 use native.Mathlib.Omega.{arith}
+use borrow.Table.Steps.{cases}
 use lib.Dec.{eqb, ltb}
 use lib.ListN.{length}
 use Rattle.group.specs.Status.{badPayload}
@@ -38,6 +39,11 @@ next-in n s f h k = test (eqb (s .status) 0)
     test : (t : Bool) → In n (cond t (f (s .position)) s)
     test true = k (s .position) h
     test false = h
+
+-- tests from position p on of n words: they do not go back, nor past the words
+pub record Ahead (n p : ℕ) (s : Step) : Type 0 where
+  pub forward : p ≤ s .position
+  pub inside : p ≤ n → In n s
 
 -- a test goes on by one word at most
 pub tested-on : (words : List ℕ) (p kind : ℕ) (holds : Bool) (line : ℕ) → tested words p kind holds line .position ≤ p + 1
@@ -84,3 +90,9 @@ next-status s f P a b = test (eqb (s .status) 0)
     test : (t : Bool) → P (cond t (f (s .position)) s .status)
     test true = b (s .position)
     test false = a
+
+-- a test that is not passed ends at its own word
+pub tested-at : (words : List ℕ) (p kind : ℕ) (holds : Bool) (line : ℕ) → (tested words p kind holds line .status ≡ 0 → ⊥) → tested words p kind holds line .position ≡ p
+unfolding tested
+tested-at words p kind holds line n =
+    cases (isDue words p kind) (λ t. cases holds (λ u. absurd ((rw (t, u) at n) refl)) (λ u. rw (t, u))) (λ t. rw t)
