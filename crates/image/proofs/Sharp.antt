@@ -1,8 +1,7 @@
 -- A refused place is sharp: the words before it, read alone, are refused only because the next one is missing, or are a whole image.
--- It is the index of a lent word, or their number.
 use mathlib.Core.Path.{_≡_, refl, sym, ap, subst, _∙_}
 use mathlib.Core.Logic.{_⊎_, inl, inr}
-use mathlib.Core.Bool.{true, false, cond}
+use mathlib.Core.Bool.{true, false}
 use mathlib.Core.List.{List, [], _∷_}
 use Prim.Native.Nat.{ℕ, zero, suc, _+_, _*_, _/_, _%_, _^_, _≤_, _<_}
 use native.Mathlib.Omega.{arith}
@@ -16,7 +15,7 @@ use Rattle.word.specs.declared.Step.{Step}
 use Rattle.word.specs.Word.{headKind, endKind, go, stop, badWord, next, payload, isDue, tested, below}
 use Rattle.word.proofs.Laws.{due-in}
 use Rattle.word.proofs.Passed.{goes, below-is}
-use Rattle.word.proofs.Places.{In, tested-in, below-in, next-in, tested-at}
+use Rattle.word.proofs.Places.{tested-at}
 use Rattle.word.proofs.Before.{Cut, cut-go, next-cut, payload-same, due-same, none-due, below-cut}
 use Rattle.image_format.specs.Image.{headPayload, layoutKind, countKind, wordsOf, levelAt, isFirst}
 use Rattle.image_format.specs.Read.{otherMeter, checkHead, checkEnd, checked, firstBits, checkParts, checkSlot, checkSlots, checkGroups, mergesAt, checkFour, checkFours}
@@ -62,7 +61,7 @@ module _ (words : List ℕ) (q : ℕ) where
       subst (λ (l : List ℕ). Cut (length words) q (s .position) (checkGroups ms words (s .position)) (checkGroups l front (s .position)))
       (ap (λ (c : ℕ). unpacked c .merges) (sym (payload-same words q p (omega arith)))) (groups-cut ms (s .position)))
 
-  fours-cut : (n p : ℕ) → Cut (length words) q p (checkFours n words p) (checkFours n front p)
+  pub fours-cut : (n p : ℕ) → Cut (length words) q p (checkFours n words p) (checkFours n front p)
   unfolding checkFours
   fours-cut zero p = cut-go (length words) q p
   fours-cut (suc n) p =
@@ -121,23 +120,3 @@ module _ (d w : ℕ) (words : List ℕ) where
       rw (c .same (eqb-true (f .status) 0 v) (e .0), v) (e .1))
       (λ v. inl (rw (c .ends (eqb-false (f .status) 0 v) (rw v at k1))))))
       (λ u. absurd (omega (arith, rw u at k, head-at d w words (eqb-false (h .status) 0 u))))
-
--- every position that a test ends at is the index of a word that is lent, or their number
-end-in : (words : List ℕ) (p : ℕ) → p ≤ length words → In (length words) (checkEnd words p)
-unfolding checkEnd
-end-in words p h =
-    next-in (length words) (tested words p endKind (eqb (payload words p) (p % 2 ^ 28)) badPayload) (λ q. cond (eqb (length words) q) (go q) (stop badWord q))
-    (tested-in words p endKind (eqb (payload words p) (p % 2 ^ 28)) badPayload h)
-    (λ q l. cases (eqb (length words) q) (λ t. rw t l) (λ t. rw t l))
-
-head-in : (d w : ℕ) (words : List ℕ) → In (length words) (checkHead d w words)
-unfolding checkHead
-head-in d w words =
-    next-in (length words) (below words 0 headKind (2 ^ 9)) (λ p. tested words 0 headKind (eqb (payload words 0) (headPayload d w)) otherMeter)
-    (below-in words 0 headKind (2 ^ 9) (omega arith)) (λ q l. tested-in words 0 headKind (eqb (payload words 0) (headPayload d w)) otherMeter (omega arith))
-
-pub checked-in : (d w : ℕ) (words : List ℕ) → In (length words) (checked d w words)
-unfolding checked
-checked-in d w words =
-    next-in (length words) (checkHead d w words) (λ p. next (checkFours (d * (w / 32)) words p) (λ q. checkEnd words q)) (head-in d w words)
-    (λ p l. next-in (length words) (checkFours (d * (w / 32)) words p) (λ q. checkEnd words q) (fours-cut words 0 (d * (w / 32)) p .ahead .inside l) (λ q k. end-in words q k))
