@@ -5,10 +5,10 @@ use mathlib.Core.Path.{ap, _∙_}
 use borrow.Author.Tests.{eq-eqb, ne-eqb}
 use Rattle.geometry.specs.Order.{answerOf}
 use Rattle.word.proofs.Laws.{turn, halt}
-use Rattle.feed.specs.Head.{headStep, headed, badGeometry}
+use Rattle.feed_head.specs.Head.{headStep, headed, badGeometry}
 use borrow.Author.Needs.{needs}
-use Rattle.feed.proofs.head.Statement.{statement}
-use Rattle.feed.proofs.head.Tie as tie
+use Rattle.feed_head.proofs.head.Statement.{statement}
+use Rattle.feed_head.proofs.head.Tie as tie
 
 below-requires : tie.Need-below-requires
 below-requires c κs = search needs

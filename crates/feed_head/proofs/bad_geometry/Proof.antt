@@ -3,10 +3,10 @@ use mathlib.Core.Bool.{true, false}
 use borrow.Author.Tests.{not-true, not-false}
 use Rattle.geometry.specs.Geometry.{validDepth, validWidth}
 use Rattle.geometry.specs.Order.{firstOf}
-use Rattle.feed.specs.Head.{headDepth, headWidth, badGeometry}
+use Rattle.feed_head.specs.Head.{headDepth, headWidth, badGeometry}
 use borrow.Author.Needs.{needs}
-use Rattle.feed.proofs.bad_geometry.Statement.{statement}
-use Rattle.feed.proofs.bad_geometry.Tie as tie
+use Rattle.feed_head.proofs.bad_geometry.Statement.{statement}
+use Rattle.feed_head.proofs.bad_geometry.Tie as tie
 
 head-depth-requires : tie.Need-head-depth-requires
 head-depth-requires c κs = search needs

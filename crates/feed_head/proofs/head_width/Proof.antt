@@ -1,10 +1,10 @@
 use Prim.Native.Nat.{_/_, _%_}
 use native.Mathlib.Omega.{arith}
-use Rattle.feed.specs.Head.{headWidth}
+use Rattle.feed_head.specs.Head.{headWidth}
 use Rattle.laws.proofs.Shifts.{one-shl}
 use borrow.Author.Needs.{needs}
-use Rattle.feed.proofs.head_width.Statement.{statement}
-use Rattle.feed.proofs.head_width.Tie as tie
+use Rattle.feed_head.proofs.head_width.Statement.{statement}
+use Rattle.feed_head.proofs.head_width.Tie as tie
 
 shl-result : tie.Need-shl-result
 shl-result c = search needs
