@@ -9,9 +9,11 @@ use Rattle.feed_records.specs.declared.Opening.{Opening}
 use Rattle.feed_records.specs.declared.Opening.the-variants as opening
 use Rattle.feed_records.specs.declared.Body.{Body}
 use Rattle.feed_records.specs.declared.Body.the-variants as body
-use Rattle.feed_records.specs.Words.{opened, keyOf, updateBody, queryBody, wordsTaken}
+use Rattle.feed_keys.specs.Keys.{keyOf}
+use Rattle.feed_records.specs.Words.{opened, updateBody, queryBody, wordsTaken}
 use Rattle.feed.specs.Record.{carriedUpdate, queried, carried, carriedAfter, recorded}
-use Rattle.feed_records.proofs.Past.{taken, some-taken, opened-taken, update-same, query-same, key-same, opened-same}
+use Rattle.feed_keys.proofs.Places.{key-same}
+use Rattle.feed_records.proofs.Past.{taken, some-taken, opened-taken, update-same, query-same, opened-same}
 
 module _ (words : List ℕ) (n : ℕ) where
   abbrev front : List ℕ

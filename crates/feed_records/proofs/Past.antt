@@ -1,27 +1,21 @@
 -- What a record's words are found to be depends on no word past the record.
-use mathlib.Core.Path.{_≡_, refl, ap}
+use mathlib.Core.Path.{_≡_}
 use mathlib.Core.Bool.{Bool, true, false, cond}
 use mathlib.Core.List.{List}
-use Prim.Native.Nat.{ℕ, zero, suc, _+_, _-_, _/_, _%_, _^_, _≤_, _<_}
+use Prim.Native.Nat.{ℕ, _+_, _%_, _^_, _≤_}
 use native.Mathlib.Omega.{arith}
 use lib.Dec.{eqb}
 use lib.ListN.{take}
 use Rattle.group.specs.Status.{badPayload}
 use Rattle.geometry.specs.Order.{badKey}
 use Rattle.word.specs.Word.{endKind, badWord, next, payload, isDue, below}
-use Rattle.word.proofs.Places.{tested-on, below-on, next-on}
-use Rattle.word.proofs.Before.{next-same, payload-same, due-same, tested-same, below-same}
+use Rattle.word.proofs.Places.{below-on}
+use Rattle.word.proofs.Before.{next-same, payload-same, due-same, below-same}
+use Rattle.feed_keys.proofs.Places.{key-on, key-words-same}
 use Rattle.feed_records.specs.declared.Opening.{Opening}
 use Rattle.feed_records.specs.declared.Opening.the-variants as opening
-use Rattle.feed_records.specs.Words.{updateKind, queryKind, keyKind, amountKind, opensKey, opened, keyWords, keyPayload, keyWord, checkKey, checkAmount, keyByte, keyFrom, keyOf, amountOf, updateStep, queryStep, updateBody, queryBody, wordsTaken}
-
--- the tests of a key go on by one for each word
-key-on : (k n : ℕ) (words : List ℕ) (p : ℕ) → checkKey k n words p .position ≤ p + k
-unfolding checkKey keyWord
-key-on zero n words p = omega arith
-key-on (suc k) n words p =
-    let h = tested-on words p keyKind (keyPayload n (payload words p)) badPayload in
-    next-on (p + suc k) (keyWord n words p) (λ q. checkKey k (n - 3) words q) (omega arith) (omega (arith, key-on k (n - 3) words (keyWord n words p .position)))
+use Rattle.feed_keys.specs.Keys.{keyWords, checkKey}
+use Rattle.feed_records.specs.Words.{updateKind, queryKind, amountKind, opensKey, opened, checkAmount, amountOf, updateStep, queryStep, updateBody, queryBody, wordsTaken}
 
 -- the words that a first word opens
 unfoldable pub taken : Opening → ℕ
@@ -80,18 +74,6 @@ module _ (words : List ℕ) (n : ℕ) where
   abbrev front : List ℕ
   front = take n words
 
-  key-word-same : (m p : ℕ) → p < n → keyWord m front p ≡ keyWord m words p
-  unfolding keyWord
-  key-word-same m p l = tested-same words n p keyKind badPayload (keyPayload m (payload words p)) (keyPayload m (payload front p)) l (ap (keyPayload m) (payload-same words n p l))
-
-  key-words-same : (k m p : ℕ) → p + k ≤ n → checkKey k m front p ≡ checkKey k m words p
-  unfolding checkKey keyWord
-  key-words-same zero m p h = refl
-  key-words-same (suc k) m p h =
-      let l = tested-on words p keyKind (keyPayload m (payload words p)) badPayload in
-      next-same (keyWord m front p) (keyWord m words p) (λ q. checkKey k (m - 3) front q) (λ q. checkKey k (m - 3) words q) (key-word-same m p (omega arith))
-      (key-words-same k (m - 3) (keyWord m words p .position) (omega arith))
-
   amount-same : (p : ℕ) → p + 2 ≤ n → checkAmount front p ≡ checkAmount words p
   unfolding checkAmount
   amount-same p h =
@@ -104,21 +86,13 @@ module _ (words : List ℕ) (n : ℕ) where
   update-same m h =
       let l = key-on (keyWords m) m words 1 in
       let s : next (checkKey (keyWords m) m front 1) (λ p. checkAmount front p) ≡ next (checkKey (keyWords m) m words 1) (λ p. checkAmount words p) =
-      next-same (checkKey (keyWords m) m front 1) (checkKey (keyWords m) m words 1) (λ p. checkAmount front p) (λ p. checkAmount words p) (key-words-same (keyWords m) m 1 (omega arith))
+      next-same (checkKey (keyWords m) m front 1) (checkKey (keyWords m) m words 1) (λ p. checkAmount front p) (λ p. checkAmount words p) (key-words-same words n (keyWords m) m 1 (omega arith))
       (amount-same (checkKey (keyWords m) m words 1 .position) (omega arith)) in
       rw (s, payload-same words n (1 + keyWords m) (omega arith), payload-same words n (2 + keyWords m) (omega arith))
 
   pub query-same : (m : ℕ) → 1 + keyWords m ≤ n → queryBody m front ≡ queryBody m words
   unfolding queryBody queryStep
-  query-same m h = rw (key-words-same (keyWords m) m 1 h)
-
-  key-from-same : (k i : ℕ) → 1 + keyWords (i + k) ≤ n → keyFrom k front i ≡ keyFrom k words i
-  unfolding keyFrom keyByte
-  key-from-same zero i h = refl
-  key-from-same (suc k) i h = rw (payload-same words n (1 + i / 3) (omega arith), key-from-same k (i + 1) (omega arith))
-
-  pub key-same : (m : ℕ) → 1 + keyWords m ≤ n → keyOf m front ≡ keyOf m words
-  key-same m h = key-from-same m 0 (omega arith)
+  query-same m h = rw (key-words-same words n (keyWords m) m 1 h)
 
   pub opened-same : (before : ℕ) → 1 ≤ n → opened before front ≡ opened before words
   unfolding opened

@@ -1,18 +1,14 @@
 -- A faulty word's place is a lent word's index, or the number of words lent.
 use mathlib.Core.Path.{_≡_}
 use mathlib.Core.List.{List}
-use Prim.Native.Nat.{ℕ, zero, suc, _-_, _^_, _≤_}
+use Prim.Native.Nat.{ℕ, _^_, _≤_}
 use lib.ListN.{length}
 use Rattle.word.specs.Word.{badWord, isDue, below}
-use Rattle.word.proofs.Places.{In, tested-in, below-in, next-in}
+use Rattle.word.proofs.Places.{In, below-in, next-in}
+use Rattle.feed_keys.proofs.Places.{key-in}
 use Rattle.feed_records.specs.declared.Opening.the-variants as opening
-use Rattle.feed_records.specs.Words.{amountKind, opened, keyWords, keyWord, checkKey, checkAmount, updateStep}
-
-pub key-in : (k n : ℕ) (words : List ℕ) (p : ℕ) → p ≤ length words → In (length words) (checkKey k n words p)
-unfolding checkKey keyWord
-key-in zero n words p h = h
-key-in (suc k) n words p h =
-    next-in (length words) (keyWord n words p) (λ q. checkKey k (n - 3) words q) (tested-in words p _ _ _ h) (λ q l. key-in k (n - 3) words q l)
+use Rattle.feed_keys.specs.Keys.{keyWords, checkKey}
+use Rattle.feed_records.specs.Words.{amountKind, opened, checkAmount, updateStep}
 
 amount-in : (words : List ℕ) (p : ℕ) → p ≤ length words → In (length words) (checkAmount words p)
 unfolding checkAmount

@@ -1,26 +1,26 @@
 -- A record whose words are sound is all there: as many words as it takes are lent.
-use mathlib.Core.Path.{_≡_, refl, sym, ap, _∙_}
+use mathlib.Core.Path.{_≡_, refl}
 use mathlib.Core.Bool.{Bool, true, false, cond, _&&_}
 use mathlib.Core.Logic.{_⊎_, inl, inr}
 use mathlib.Core.List.{List}
-use Prim.Native.Nat.{ℕ, zero, suc, _+_, _-_, _%_, _^_, _≤_, _<_}
-use native.Mathlib.Nat.{add-zero}
+use Prim.Native.Nat.{ℕ, _+_, _%_, _^_, _≤_}
 use native.Mathlib.Omega.{arith}
-use borrow.Author.Tests.{eqb-true, eqb-false}
+use borrow.Author.Tests.{eqb-false}
 use borrow.Table.Steps.{cases}
 use lib.Dec.{eqb, ltb, leb}
 use lib.ListN.{length}
 use Rattle.group.specs.Status.{badPayload}
 use Rattle.geometry.specs.Order.{badKey}
-use Rattle.word.specs.declared.Step.{Step}
-use Rattle.word.specs.Word.{endKind, badWord, go, next, payload, isDue, below}
+use Rattle.word.specs.Word.{endKind, badWord, go, payload, isDue, below}
 use Rattle.word.proofs.Laws.{due-in}
-use Rattle.word.proofs.Passed.{goes, passed, tested-is, below-is}
+use Rattle.word.proofs.Passed.{goes, passed, below-is}
 use Rattle.word.proofs.Places.{tested-status, next-status}
 use Rattle.feed_records.specs.declared.Opening.{Opening}
 use Rattle.feed_records.specs.declared.Opening.the-variants as opening
-use Rattle.feed_records.specs.Words.{updateKind, queryKind, keyKind, amountKind, opensKey, opened, keyWords, keyPayload, keyWord, checkKey, checkAmount, updateStep, queryStep, wordsTaken}
-use Rattle.feed_records.proofs.Places.{key-in, update-in}
+use Rattle.feed_keys.specs.Keys.{keyWords, checkKey}
+use Rattle.feed_records.specs.Words.{updateKind, queryKind, amountKind, opensKey, opened, checkAmount, updateStep, queryStep, wordsTaken}
+use Rattle.feed_keys.proofs.Places.{key-in, key-ends, key-status}
+use Rattle.feed_records.proofs.Places.{update-in}
 
 -- the number of a record's first faulty word, or 0
 abbrev pub fault : List ℕ → Opening → ℕ
@@ -30,15 +30,6 @@ fault words opening.End = 0
 fault words (opening.Refused s) = s
 
 -- where tests that pass end
-key-ends : (k n : ℕ) (words : List ℕ) (p q : ℕ) → checkKey k n words p ≡ go q → q ≡ p + k
-unfolding checkKey keyWord
-key-ends zero n words p q e = sym (ap (λ (s : Step). s .position) e) ∙ sym (add-zero p)
-key-ends (suc k) n words p q e =
-    let s = keyWord n words p in
-    let t = passed s (λ r. checkKey k (n - 3) words r) q e in
-    let x = tested-is words p keyKind (keyPayload n (payload words p)) badPayload (s .position) (omega arith) (t .here) in
-    key-ends k (n - 3) words (s .position) q (t .after) ∙ omega (arith, x .position)
-
 amount-ends : (words : List ℕ) (p q : ℕ) → checkAmount words p ≡ go q → q ≡ p + 2
 unfolding checkAmount
 amount-ends words p q e =
@@ -94,13 +85,6 @@ word-of = inr (inr (inl refl))
 payload-of : OfWords badPayload
 payload-of = inr (inr (inr refl))
 
-key-status : (k n : ℕ) (words : List ℕ) (p : ℕ) → OfWords (checkKey k n words p .status)
-unfolding checkKey keyWord
-key-status zero n words p = zero-of
-key-status (suc k) n words p =
-    next-status (keyWord n words p) (λ q. checkKey k (n - 3) words q) OfWords
-    (tested-status words p keyKind (keyPayload n (payload words p)) badPayload OfWords zero-of payload-of word-of) (λ q. key-status k (n - 3) words q)
-
 below-status : (words : List ℕ) (p : ℕ) → OfWords (below words p amountKind (2 ^ 16) .status)
 unfolding below
 below-status words p = tested-status words p amountKind (ltb (payload words p) (2 ^ 16)) badPayload OfWords zero-of payload-of word-of
@@ -111,11 +95,11 @@ amount-status words p = next-status (below words p amountKind (2 ^ 16)) (λ q. b
 
 update-status : (n : ℕ) (words : List ℕ) → OfWords (updateStep n words .status)
 unfolding updateStep
-update-status n words = next-status (checkKey (keyWords n) n words 1) (λ p. checkAmount words p) OfWords (key-status (keyWords n) n words 1) (λ q. amount-status words q)
+update-status n words = next-status (checkKey (keyWords n) n words 1) (λ p. checkAmount words p) OfWords (key-status OfWords zero-of payload-of word-of (keyWords n) n words 1) (λ q. amount-status words q)
 
 query-status : (n : ℕ) (words : List ℕ) → OfWords (queryStep n words .status)
 unfolding queryStep
-query-status n words = key-status (keyWords n) n words 1
+query-status n words = key-status OfWords zero-of payload-of word-of (keyWords n) n words 1
 
 either-status : (words : List ℕ) (t : Bool) (a b : Opening) → OfWords (fault words a) → OfWords (fault words b) → OfWords (fault words (cond t a b))
 either-status words true a b h k = h

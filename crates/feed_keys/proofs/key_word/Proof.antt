@@ -3,9 +3,9 @@ use borrow.Author.Tests.{not-true}
 use borrow.Author.Needs.{needs}
 use Rattle.word.specs.Word.{tested}
 use Rattle.word.proofs.Laws.{not-due}
-use Rattle.feed_records.specs.Words.{keyKind, keyWord, keyPayload}
-use Rattle.feed_records.proofs.key_word.Statement.{statement}
-use Rattle.feed_records.proofs.key_word.Tie as tie
+use Rattle.feed_keys.specs.Keys.{keyKind, keyWord, keyPayload}
+use Rattle.feed_keys.proofs.key_word.Statement.{statement}
+use Rattle.feed_keys.proofs.key_word.Tie as tie
 
 is-due-requires : tie.Need-is-due-requires
 is-due-requires c κs = search needs

@@ -2,8 +2,8 @@ use Prim.Native.Nat.{_+_, _*_, _/_, _%_}
 use native.Mathlib.Omega.{arith}
 use borrow.Author.Needs.{needs}
 use lib.ListN.{set, length-set}
-use Rattle.feed_records.proofs.put_three.Statement.{statement}
-use Rattle.feed_records.proofs.put_three.Tie as tie
+use Rattle.feed_keys.proofs.put_three.Statement.{statement}
+use Rattle.feed_keys.proofs.put_three.Tie as tie
 
 cast-key : tie.Need-cast-key
 cast-key c = search needs

@@ -3,9 +3,9 @@ use Prim.Native.Nat.{_-_}
 use native.Mathlib.Nat.{mod-one}
 use native.Mathlib.Omega.{arith}
 use borrow.Author.Tests.{lt-ltb, le-ltb}
-use Rattle.feed_records.specs.Words.{keyPayload}
-use Rattle.feed_records.proofs.key_payload.Statement.{statement}
-use Rattle.feed_records.proofs.key_payload.Tie as tie
+use Rattle.feed_keys.specs.Keys.{keyPayload}
+use Rattle.feed_keys.proofs.key_payload.Statement.{statement}
+use Rattle.feed_keys.proofs.key_payload.Tie as tie
 
 returns : tie.Need-returns
 unfolding keyPayload

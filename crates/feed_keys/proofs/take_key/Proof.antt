@@ -7,10 +7,10 @@ use lib.ListN.{length, take}
 use Rattle.word.specs.declared.Step.{Step}
 use Rattle.word.specs.Word.{go}
 use Rattle.word.proofs.Laws.{turn, halt, one-on}
-use Rattle.feed_records.specs.Words.{keyKind, keyWords, keyWord, checkKey, keyFrom, keyOf}
-use Rattle.feed_records.proofs.Laws.{key-step, key-none, key-taken, word-more, stored-length}
-use Rattle.feed_records.proofs.take_key.Statement.{statement}
-use Rattle.feed_records.proofs.take_key.Tie as tie
+use Rattle.feed_keys.specs.Keys.{keyKind, keyWords, keyWord, checkKey, keyFrom, keyOf}
+use Rattle.feed_keys.proofs.Laws.{key-step, key-none, key-taken, word-more, stored-length}
+use Rattle.feed_keys.proofs.take_key.Statement.{statement}
+use Rattle.feed_keys.proofs.take_key.Tie as tie
 
 abbrev Inv-loop : tie.InvT-loop
 Inv-loop words n key₀ i₀ i-end key i = (i ≤ i-end) × (i-end ≡ keyWords n) × (n ≤ 64) × (length key ≡ 66)

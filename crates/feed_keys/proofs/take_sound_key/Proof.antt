@@ -9,11 +9,11 @@ use lib.Bits.{bitXor}
 use lib.ListN.{length, take, getD}
 use Rattle.geometry.proofs.Lists.{or-none}
 use Rattle.word.specs.Word.{payload}
-use Rattle.feed_records.specs.Words.{keyWords, keyFrom, keyOf}
+use Rattle.feed_keys.specs.Keys.{keyWords, keyFrom, keyOf}
 use Rattle.laws.proofs.Shifts.{one-shl, one-shl-pos}
-use Rattle.feed_records.proofs.Laws.{key-taken, word-more, stored-length, xor-none, key-sound}
-use Rattle.feed_records.proofs.take_sound_key.Statement.{statement}
-use Rattle.feed_records.proofs.take_sound_key.Tie as tie
+use Rattle.feed_keys.proofs.Laws.{key-taken, word-more, stored-length, xor-none, key-sound}
+use Rattle.feed_keys.proofs.take_sound_key.Statement.{statement}
+use Rattle.feed_keys.proofs.take_sound_key.Tie as tie
 
 abbrev Inv-loop : tie.InvT-loop
 Inv-loop words n key₀ m bad₀ i₀ key bad i = (i ≤ m) × (m ≡ keyWords n) × (n ≤ 64) × (length key ≡ 66) × (m < length words)
