@@ -16,8 +16,10 @@ use Rattle.feed.specs.declared.Recorded.{Recorded}
 use Rattle.feed.specs.declared.Recorded.the-variants as case
 use Rattle.feed_records.specs.Answers.{bodyAnswer}
 use Rattle.feed.specs.Record.{rejection, outcomeOf, carriedUpdate, queried, carried, carriedAfter, recorded}
-use Rattle.feed_records.specs.Words.{opened, keyOf}
-use Rattle.feed_records.proofs.Laws.{HasTag, key-length}
+use Rattle.feed_keys.specs.Keys.{keyOf}
+use Rattle.feed_records.specs.Words.{opened}
+use Rattle.feed_keys.proofs.Laws.{key-length}
+use Rattle.feed_records.proofs.Laws.{HasTag}
 
 pub update-refused : (d w : ℕ) (memory : List ℕ) (n : ℕ) (words : List ℕ) (b : Body) → HasTag 1 b
     → carriedUpdate d w memory n words b ≡ record { outcome = rejection (bodyAnswer b); memory = memory }

@@ -1,19 +1,19 @@
--- A call looks at no word past its head, record or end: with those words alone, or any after them, it does the same.
+-- A call looks at no word past its record or end: with those words alone, or any after them, it does the same.
 use mathlib.Core.Path.{_≡_, refl}
 use mathlib.Core.List.{List}
-use Prim.Native.Nat.{ℕ, zero, suc, _^_, _≤_}
+use Prim.Native.Nat.{ℕ, zero, suc, _≤_}
 use native.Mathlib.Omega.{arith}
 use lib.ListN.{length, take}
 use Rattle.geometry.specs.Order.{badShape}
-use Rattle.word.specs.Word.{headKind}
 use Rattle.feed_records.specs.declared.Opening.{Opening}
 use Rattle.feed_records.specs.declared.Opening.the-variants as opening
 use Rattle.feed_records.specs.declared.Body.{Body}
 use Rattle.feed_records.specs.declared.Body.the-variants as body
-use Rattle.feed.specs.Head.{headStep, headed}
-use Rattle.feed_records.specs.Words.{opened, keyOf, updateBody, queryBody, wordsTaken}
+use Rattle.feed_keys.specs.Keys.{keyOf}
+use Rattle.feed_records.specs.Words.{opened, updateBody, queryBody, wordsTaken}
 use Rattle.feed.specs.Record.{carriedUpdate, queried, carried, carriedAfter, recorded}
-use Rattle.feed_records.proofs.Past.{taken, some-taken, opened-taken, payload-same, below-same, update-same, query-same, key-same, opened-same}
+use Rattle.feed_keys.proofs.Places.{key-same}
+use Rattle.feed_records.proofs.Past.{taken, some-taken, opened-taken, update-same, query-same, opened-same}
 
 module _ (words : List ℕ) (n : ℕ) where
   abbrev front : List ℕ
@@ -47,7 +47,3 @@ module _ (words : List ℕ) (n : ℕ) where
     pub record-alone : (before : ℕ) → wordsTaken words ≤ n → recorded d w memory before (take n words) ≡ recorded d w memory before words
     unfolding recorded
     record-alone before h = after-same (badShape d w (length memory)) before h
-
-  pub head-alone : 1 ≤ n → headed (take n words) ≡ headed words
-  unfolding headed headStep
-  head-alone h = rw (below-same words n 0 headKind (2 ^ 9) h, payload-same words n 0 h)

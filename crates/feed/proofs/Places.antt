@@ -16,9 +16,11 @@ use Rattle.feed_records.specs.declared.Body.the-variants as body
 use Rattle.feed.specs.declared.Recorded.{Recorded}
 use Rattle.feed.specs.declared.Recorded.the-variants as case
 use Rattle.feed.specs.Answers.{recordAnswer}
-use Rattle.feed_records.specs.Words.{opened, keyWords, keyOf, amountOf, updateStep, queryStep, bodyOf, updateBody, queryBody}
+use Rattle.feed_keys.specs.Keys.{keyWords, keyOf}
+use Rattle.feed_records.specs.Words.{opened, amountOf, updateStep, queryStep, bodyOf, updateBody, queryBody}
 use Rattle.feed.specs.Record.{Carried, outcomeOf, carriedUpdate, queried, carried, carriedAfter, recorded}
-use Rattle.feed_records.proofs.Places.{key-in, update-in, missing}
+use Rattle.feed_keys.proofs.Places.{key-in}
+use Rattle.feed_records.proofs.Places.{update-in, missing}
 
 -- the place of a record's outcome, inside so many words
 abbrev Inside : ℕ → Recorded → Type 0

@@ -14,7 +14,8 @@ use Rattle.feed_records.specs.declared.Body.the-variants as body
 use Rattle.feed.specs.declared.Recorded.{Recorded}
 use Rattle.feed.specs.declared.Recorded.the-variants as case
 use Rattle.feed_records.specs.Answers.{openingAnswer, bodyAnswer}
-use Rattle.feed_records.specs.Words.{opened, keyOf, updateBody, queryBody}
+use Rattle.feed_keys.specs.Keys.{keyOf}
+use Rattle.feed_records.specs.Words.{opened, updateBody, queryBody}
 
 -- what the call answers and leaves in the memory
 pub record Carried : Type 0 where

@@ -1,4 +1,7 @@
 // Feeds: one call for the head, and one for each record and for the end. Both take any words, and look at none past the record.
+pub use feed_head::head;
+pub use feed_head::head_depth;
+pub use feed_head::head_width;
 use feed_records::Body;
 use feed_records::Opening;
 use group::Answer;
@@ -6,10 +9,8 @@ ghost use mathlib.Core.Path.{_≡_};
 ghost use Prim.Native.Nat.{_≤_};
 ghost use lib.ListN.{length};
 ghost use Rattle.geometry.specs.Order.{badShape, badKey};
-ghost use Rattle.feed_records.specs.Answers as answers;
 ghost use Rattle.feed_records.specs.Answers.{bodyAnswer};
 ghost use Rattle.feed.specs.Answers.{recordAnswer};
-ghost use Rattle.feed.specs.Head.{headDepth, headWidth, badGeometry, headed};
 ghost use Rattle.feed_records.specs.Words.{wordsTaken, updateBody, queryBody};
 ghost use Rattle.feed.specs.Record as spec;
 ghost use Rattle.feed.specs.Record.{carriedUpdate, queried, recorded};
@@ -36,57 +37,6 @@ pub fn answer(r: Recorded) -> Answer
             value: 0,
         },
     }
-}
-
-// The depth and the width that a head's payload gives.
-pub fn head_depth(payload: u64) -> usize
-    ensures { λ r. ⌜ r ≡ headDepth payload ⌝ }
-{
-    (payload % 16) as usize
-}
-
-pub fn head_width(payload: u64) -> usize
-    ensures { λ r. ⌜ r ≡ headWidth payload ⌝ }
-{
-    1 << (payload / 16 % 32)
-}
-
-fn bad_geometry(payload: u64) -> u8
-    ensures { λ r. ⌜ r ≡ badGeometry payload ⌝ }
-{
-    if !geometry::valid_depth(head_depth(payload)) {
-        return 1;
-    }
-    if !geometry::valid_width(head_width(payload)) {
-        return 2;
-    }
-    0
-}
-
-fn faulty(status: u8, position: usize) -> Answer
-    ensures { λ r. ⌜ r ≡ answers.faulty status position ⌝ }
-{
-    Answer {
-        status,
-        position: position as u64,
-        value: 0,
-    }
-}
-
-// The head of a feed. The value of an accepted head is its payload.
-pub fn head(words: &[u32]) -> Answer
-    ensures { λ r. ⌜ r ≡ headed (now (words .entry)) ⌝ }
-{
-    let s = word::below(words, 0, word::HEAD, 512);
-    if s.status != 0 {
-        return faulty(s.status, s.position);
-    }
-    let payload = word::payload(words, 0) as u64;
-    let bad = bad_geometry(payload);
-    if bad != 0 {
-        return faulty(bad, 0);
-    }
-    geometry::answer(0, payload)
 }
 
 // The number of words that a record or the end takes.
@@ -117,7 +67,10 @@ fn refused(b: Body) -> Recorded
     ensures { λ r. ⌜ r ≡ spec.rejection (bodyAnswer b) ⌝ }
 {
     match b {
-        Body::Sound { amount: _ } => rejection(faulty(0, 0)),
+        Body::Sound { amount: _ } => Recorded::Rejected {
+            status: 0,
+            position: 0,
+        },
         Body::Refused { status, position } => Recorded::Rejected { status, position },
     }
 }

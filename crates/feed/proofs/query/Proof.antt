@@ -6,7 +6,8 @@ use Rattle.group.specs.declared.Answer.{Answer}
 use Rattle.meter.specs.Meter.{estimated}
 use Rattle.feed.specs.declared.Recorded.{Recorded}
 use Rattle.feed.specs.declared.Recorded.the-variants as case
-use Rattle.feed_records.specs.Words.{queryBody, keyOf}
+use Rattle.feed_keys.specs.Keys.{keyOf}
+use Rattle.feed_records.specs.Words.{queryBody}
 use Rattle.feed.specs.Record.{rejection, outcomeOf, queried}
 use Rattle.feed_records.proofs.Laws.{key-short, sound-answer}
 use Rattle.feed.proofs.Laws.{lent, call-passes, outcome-rejected, outcome-accepted, query-refused, query-sound}

@@ -1,4 +1,4 @@
-use mathlib.Core.Path.{_∙_, sym, ap}
+use mathlib.Core.Path.{sym, ap}
 use Rattle.feed.specs.Record.{rejection}
 use Rattle.feed_records.proofs.Laws.{sound-answer}
 use borrow.Author.Needs.{needs}
@@ -8,17 +8,11 @@ use Rattle.feed.proofs.refused.Tie as tie
 enum-told : tie.Need-enum-told
 enum-told c = search needs
 
-faulty-requires : tie.Need-faulty-requires
-faulty-requires c κs = search needs
-
-rejection-requires : tie.Need-rejection-requires
-rejection-requires c κs = search needs
-
 enum-known-b : tie.Need-enum-known-b
 enum-known-b c = search needs
 
 returns : tie.Need-returns
-returns c = c .rejection .ensures ∙ ap rejection (c .before .faulty .ensures ∙ sym (sound-answer (c .before .before .before .before .args .b) (c .before .before .before .match .keys1)))
+returns c = ap rejection (sym (sound-answer (c .before .before .args .b) (c .before .match .keys1)))
 
 returns-2 : tie.Need-returns-2
 returns-2 c = rw (c .before .b .given .1)
@@ -26,4 +20,4 @@ returns-2 c = rw (c .before .b .given .1)
 pub refused-spec : {M : Type 1} → statement M
 refused-spec =
     tie.close
-    (tie.spec enum-told faulty-requires rejection-requires enum-known-b returns returns-2)
+    (tie.spec enum-told enum-known-b returns returns-2)

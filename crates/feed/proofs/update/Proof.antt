@@ -9,7 +9,8 @@ use Rattle.meter.specs.Meter.{updated}
 use Rattle.feed_records.specs.declared.Body.{Body}
 use Rattle.feed.specs.declared.Recorded.the-variants as case
 use Rattle.feed_records.specs.Answers.{bodyAnswer}
-use Rattle.feed_records.specs.Words.{updateBody, keyOf}
+use Rattle.feed_keys.specs.Keys.{keyOf}
+use Rattle.feed_records.specs.Words.{updateBody}
 use Rattle.feed.specs.Record.{Carried, rejection, outcomeOf, carriedUpdate}
 use Rattle.feed_records.proofs.Laws.{key-short}
 use Rattle.feed.proofs.Laws.{lent, call-passes, outcome-rejected, outcome-accepted, update-refused}

@@ -2,7 +2,8 @@ use Prim.Native.Nat.{ℕ, _+_}
 use mathlib.Core.Bool.{true, false}
 use mathlib.Core.Path.{_≡_, sym, ap, _∙_}
 use Rattle.word.specs.Word.{payload, isDue}
-use Rattle.feed_records.specs.Words.{wordsTaken, keyWords, updateKind, queryKind}
+use Rattle.feed_keys.specs.Keys.{keyWords}
+use Rattle.feed_records.specs.Words.{wordsTaken, updateKind, queryKind}
 use borrow.Author.Needs.{needs}
 use Rattle.feed.proofs.words_taken.Statement.{statement}
 use Rattle.feed.proofs.words_taken.Tie as tie

@@ -7,7 +7,8 @@ use borrow.Author.Tests.{not-false}
 use lib.ListN.{length, take}
 use Rattle.word.specs.Word.{go}
 use Rattle.word.proofs.Laws.{turn, halt}
-use Rattle.feed_records.specs.Words.{keyWords, checkAmount, updateStep}
+use Rattle.feed_keys.specs.Keys.{keyWords}
+use Rattle.feed_records.specs.Words.{checkAmount, updateStep}
 use Rattle.feed_records.proofs.check_update.Statement.{statement}
 use Rattle.feed_records.proofs.check_update.Tie as tie
 

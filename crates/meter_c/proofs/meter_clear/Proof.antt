@@ -3,24 +3,16 @@ use mathlib.Core.Path.{ap, _∙_}
 use Rattle.group.specs.declared.Answer.{Answer}
 use Rattle.meter_c.proofs.meter_clear.Statement.{statement}
 use Rattle.meter_c.proofs.meter_clear.Tie as tie
-use Rattle.meter_c.proofs.meter_clear.Reads as reads
-use Rattle.meter_c.proofs.meter_clear.Lts as lts
-use Rattle.meter.proofs.clear.Reads as clear-reads
-use Rattle.meter_c.proofs.give.Reads as give-reads
 
--- src/lib.rt:27:10
 clear-requires : tie.Need-clear-requires
 clear-requires c κs = search needs
 
--- src/lib.rt:27:5
 give-requires : tie.Need-give-requires
 give-requires c κs = search needs
 
--- src/lib.rt:20:1
 same-length : tie.Need-same-length
 same-length c = search needs
 
--- src/lib.rt:20:1
 returns : tie.Need-returns
 returns c =
     let a = c .before .before .before .before .before .clear .ensures in

@@ -3,20 +3,13 @@ use mathlib.Core.Path.{ap, _∙_}
 use Rattle.group.specs.declared.Answer.{Answer}
 use Rattle.meter_c.proofs.meter_estimate.Statement.{statement}
 use Rattle.meter_c.proofs.meter_estimate.Tie as tie
-use Rattle.meter_c.proofs.meter_estimate.Reads as reads
-use Rattle.meter_c.proofs.meter_estimate.Lts as lts
-use Rattle.meter.proofs.estimate.Reads as estimate-reads
-use Rattle.meter_c.proofs.give.Reads as give-reads
 
--- src/lib.rt:46:10
 estimate-requires : tie.Need-estimate-requires
 estimate-requires c κs = search needs
 
--- src/lib.rt:46:5
 give-requires : tie.Need-give-requires
 give-requires c κs = search needs
 
--- src/lib.rt:40:1
 returns : tie.Need-returns
 returns c =
     let a = c .before .before .before .estimate .ensures in

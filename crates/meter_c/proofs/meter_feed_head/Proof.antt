@@ -3,20 +3,13 @@ use mathlib.Core.Path.{ap, _∙_}
 use Rattle.group.specs.declared.Answer.{Answer}
 use Rattle.meter_c.proofs.meter_feed_head.Statement.{statement}
 use Rattle.meter_c.proofs.meter_feed_head.Tie as tie
-use Rattle.meter_c.proofs.meter_feed_head.Reads as reads
-use Rattle.meter_c.proofs.meter_feed_head.Lts as lts
-use Rattle.feed.proofs.head.Reads as head-reads
-use Rattle.meter_c.proofs.give.Reads as give-reads
 
--- src/lib.rt:179:10
 head-requires : tie.Need-head-requires
 head-requires c κs = search needs
 
--- src/lib.rt:179:5
 give-requires : tie.Need-give-requires
 give-requires c κs = search needs
 
--- src/lib.rt:173:1
 returns : tie.Need-returns
 returns c =
     let a = c .before .before .before .head .ensures in

@@ -4,29 +4,19 @@ use Rattle.group.specs.declared.Answer.{Answer}
 use Rattle.feed.specs.Answers.{recordAnswer}
 use Rattle.meter_c.proofs.meter_feed_record.Statement.{statement}
 use Rattle.meter_c.proofs.meter_feed_record.Tie as tie
-use Rattle.meter_c.proofs.meter_feed_record.Reads as reads
-use Rattle.meter_c.proofs.meter_feed_record.Lts as lts
-use Rattle.feed.proofs.answer.Reads as answer-reads
-use Rattle.feed.proofs.record.Reads as record-reads
-use Rattle.meter_c.proofs.give.Reads as give-reads
 
--- src/lib.rt:189:23
 record-requires : tie.Need-record-requires
 record-requires c κs = search needs
 
--- src/lib.rt:189:10
 answer-requires : tie.Need-answer-requires
 answer-requires c κs = search needs
 
--- src/lib.rt:189:5
 give-requires : tie.Need-give-requires
 give-requires c κs = search needs
 
--- src/lib.rt:182:1
 same-length : tie.Need-same-length
 same-length c = search needs
 
--- src/lib.rt:182:1
 returns : tie.Need-returns
 returns c =
     let r = c .before .before .before .before .before .before .record .ensures in

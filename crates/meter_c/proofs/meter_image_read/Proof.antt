@@ -3,30 +3,22 @@ use mathlib.Core.Path.{ap, _∙_}
 use Rattle.group.specs.declared.Answer.{Answer}
 use Rattle.meter_c.proofs.meter_image_read.Statement.{statement}
 use Rattle.meter_c.proofs.meter_image_read.Tie as tie
-use Rattle.meter_c.proofs.meter_image_read.Reads as reads
-use Rattle.meter_c.proofs.meter_image_read.Lts as lts
-use Rattle.image.proofs.read.Reads as read-reads
-use Rattle.meter_c.proofs.give.Reads as give-reads
 
--- src/lib.rt:107:10
 read-requires : tie.Need-read-requires
 read-requires c κs = search needs
 
--- src/lib.rt:107:5
 give-requires : tie.Need-give-requires
 give-requires c κs = search needs
 
--- src/lib.rt:100:1
 same-length : tie.Need-same-length
 same-length c = search needs
 
--- src/lib.rt:100:1
 returns : tie.Need-returns
 returns c =
     let a = c .before .before .before .before .before .read .ensures in
     let g = c .give .ensures in (
       g .0 ∙ ap (λ (x : Answer). x .status) (a .0),
-      (g .1 .0 ∙ ap (λ (x : Answer). x .position) (a .0), (g .1 .1 ∙ ap (λ (x : Answer). x .value) (a .0), a .1)),
+      (g .1 .0 ∙ ap (λ (x : Answer). x .position) (a .0), (g .1 .1 ∙ ap (λ (x : Answer). x .value) (a .0), a .1 .0)),
     )
 
 pub meter-image-read-spec : {M : Type 1} → statement M

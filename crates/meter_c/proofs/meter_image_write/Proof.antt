@@ -3,24 +3,16 @@ use mathlib.Core.Path.{ap, _∙_}
 use Rattle.group.specs.declared.Answer.{Answer}
 use Rattle.meter_c.proofs.meter_image_write.Statement.{statement}
 use Rattle.meter_c.proofs.meter_image_write.Tie as tie
-use Rattle.meter_c.proofs.meter_image_write.Reads as reads
-use Rattle.meter_c.proofs.meter_image_write.Lts as lts
-use Rattle.image.proofs.write.Reads as write-reads
-use Rattle.meter_c.proofs.give.Reads as give-reads
 
--- src/lib.rt:97:10
 write-requires : tie.Need-write-requires
 write-requires c κs = search needs
 
--- src/lib.rt:97:5
 give-requires : tie.Need-give-requires
 give-requires c κs = search needs
 
--- src/lib.rt:90:1
 same-length : tie.Need-same-length
 same-length c = search needs
 
--- src/lib.rt:90:1
 returns : tie.Need-returns
 returns c =
     let a = c .before .before .before .before .before .write .ensures in

@@ -3,20 +3,13 @@ use mathlib.Core.Path.{ap, _∙_}
 use Rattle.group.specs.declared.Answer.{Answer}
 use Rattle.meter_c.proofs.meter_pack.Statement.{statement}
 use Rattle.meter_c.proofs.meter_pack.Tie as tie
-use Rattle.meter_c.proofs.meter_pack.Reads as reads
-use Rattle.meter_c.proofs.meter_pack.Lts as lts
-use Rattle.group_codes.proofs.pack.Reads as pack-reads
-use Rattle.meter_c.proofs.give.Reads as give-reads
 
--- src/lib.rt:74:10
 pack-requires : tie.Need-pack-requires
 pack-requires c κs = search needs
 
--- src/lib.rt:74:5
 give-requires : tie.Need-give-requires
 give-requires c κs = search needs
 
--- src/lib.rt:68:1
 returns : tie.Need-returns
 returns c =
     let a = c .before .before .before .pack .ensures in

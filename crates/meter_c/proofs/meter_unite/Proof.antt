@@ -3,24 +3,16 @@ use mathlib.Core.Path.{ap, _∙_}
 use Rattle.group.specs.declared.Answer.{Answer}
 use Rattle.meter_c.proofs.meter_unite.Statement.{statement}
 use Rattle.meter_c.proofs.meter_unite.Tie as tie
-use Rattle.meter_c.proofs.meter_unite.Reads as reads
-use Rattle.meter_c.proofs.meter_unite.Lts as lts
-use Rattle.meter.proofs.unite.Reads as unite-reads
-use Rattle.meter_c.proofs.give.Reads as give-reads
 
--- src/lib.rt:65:10
 unite-requires : tie.Need-unite-requires
 unite-requires c κs = search needs
 
--- src/lib.rt:65:5
 give-requires : tie.Need-give-requires
 give-requires c κs = search needs
 
--- src/lib.rt:58:1
 same-length : tie.Need-same-length
 same-length c = search needs
 
--- src/lib.rt:58:1
 returns : tie.Need-returns
 returns c =
     let a = c .before .before .before .before .before .unite .ensures in

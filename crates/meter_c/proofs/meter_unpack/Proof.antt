@@ -3,20 +3,13 @@ use mathlib.Core.Path.{ap, _∙_}
 use Rattle.group_codes.specs.declared.Unpacked.{Unpacked}
 use Rattle.meter_c.proofs.meter_unpack.Statement.{statement}
 use Rattle.meter_c.proofs.meter_unpack.Tie as tie
-use Rattle.meter_c.proofs.meter_unpack.Reads as reads
-use Rattle.meter_c.proofs.meter_unpack.Lts as lts
-use Rattle.group_codes.proofs.unpack.Reads as unpack-reads
-use Rattle.meter_c.proofs.give.Reads as give-reads
 
--- src/lib.rt:84:9
 unpack-requires : tie.Need-unpack-requires
 unpack-requires c κs = search needs
 
--- src/lib.rt:87:5
 give-requires : tie.Need-give-requires
 give-requires c κs = search needs
 
--- src/lib.rt:77:1
 returns : tie.Need-returns
 returns c =
     let a = c .before .before .before .before .unpack .ensures in

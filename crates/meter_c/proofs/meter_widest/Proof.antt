@@ -3,20 +3,13 @@ use mathlib.Core.Path.{ap, _∙_}
 use Rattle.group.specs.declared.Answer.{Answer}
 use Rattle.meter_c.proofs.meter_widest.Statement.{statement}
 use Rattle.meter_c.proofs.meter_widest.Tie as tie
-use Rattle.meter_c.proofs.meter_widest.Reads as reads
-use Rattle.meter_c.proofs.meter_widest.Lts as lts
-use Rattle.meter.proofs.widest.Reads as widest-reads
-use Rattle.meter_c.proofs.give.Reads as give-reads
 
--- src/lib.rt:55:10
 widest-requires : tie.Need-widest-requires
 widest-requires c κs = search needs
 
--- src/lib.rt:55:5
 give-requires : tie.Need-give-requires
 give-requires c κs = search needs
 
--- src/lib.rt:49:1
 returns : tie.Need-returns
 returns c =
     let a = c .before .before .before .widest .ensures in
