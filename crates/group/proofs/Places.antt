@@ -1,16 +1,14 @@
 -- A counter's place in a group's count bytes, taken as one number; an addition that the counter holds, and another value in it.
 use mathlib.Core.Path.{_≡_, sym, ap, _∙_}
 use mathlib.Core.Bool.{true, false}
-use Prim.Native.Nat.{ℕ, _+_, _-_, _*_, _/_, _%_, _^_, _≤_, _<_}
-use native.Mathlib.Nat.{mod-le, div-mul-le-self, mul-le-mul-right}
+use Prim.Native.Nat.{ℕ, _+_, _-_, _*_, _/_, _%_, _^_, _<_}
 use native.Mathlib.Omega.{arith}
 use native.Mathlib.Decide.{decLt}
 use borrow.Author.Tests.{ne-eqb, lt-ltb, le-ltb, le-leb, lt-leb}
 use lib.Dec.{leb, ltb}
 use lib.Bits.{bitAnd, bitOr, and-mask, or-shr, or-step}
-use lib.Pow.{pow-pos, pow-mono, ones-lt, ones-split, high}
 use Rattle.group_bytes.specs.Bytes.{number}
-use Rattle.group_layout.specs.Layout.{bit, isMerged, layout, valid}
+use Rattle.group_layout.specs.Layout.{bit, isMerged, layout, valid, levelOf}
 use Rattle.group_layout.proofs.Laws.{own-bit}
 use Rattle.group_block.specs.Block.{cap, word, block, counterAt, total}
 use Rattle.group_block.specs.Change.{change}
@@ -18,22 +16,14 @@ use Rattle.group_block.specs.Sum.{add, Sound}
 use Rattle.group_block.proofs.Laws.{word-lt, shape-fill, word-block, marks-block, block-fits}
 use Rattle.group_block.proofs.Adding.{add-sound}
 use Rattle.group_block.proofs.Changing.{change-fits}
-use Rattle.group_block.proofs.Slots.{halves-sum}
+use Rattle.group_block.proofs.Slots.{level-block, halves-sum}
 use Rattle.group_block.proofs.Places.{first, first-is, value-is, InPlace, add-in-place, change-word}
 use Rattle.group.specs.declared.Group.{Group}
 use Rattle.group.specs.Group.{decode, encode, stored, settle, added}
 
--- the bits of a counter of a level, and the largest value in them
-pub width-le : (n : ℕ) → n ≤ 3 → (1 ≤ 8 * 2 ^ n) × (8 * 2 ^ n ≤ 64)
-width-le n h = (omega (arith, pow-pos n), omega (arith, pow-mono {i = n} {j = 3} h))
-
-pub most-is : (n : ℕ) → n ≤ 3 → (2 ^ 64 - 1) / 2 ^ (64 - 8 * 2 ^ n) ≡ cap n - 1
-unfolding cap
-most-is n h =
-    let j = 8 * 2 ^ n in
-    let e : 64 ≡ j + (64 - j) = omega (arith, width-le n h .1) in
-    let f : 2 ^ 64 - 1 ≡ (2 ^ j - 1) * 2 ^ (64 - j) + (2 ^ (64 - j) - 1) = ap (λ (i : ℕ). 2 ^ i - 1) e ∙ ones-split j (64 - j) in
-    ap (λ (x : ℕ). x / 2 ^ (64 - j)) f ∙ high (2 ^ j - 1) (64 - j) (ones-lt (64 - j))
+-- the level that the layout has for a slot
+pub has-level : (w m k : ℕ) {r : ℕ} → r ≡ levelOf (layout 3 m) k → counterAt (block 3 w m) k .level ≡ r
+has-level w m k e = level-block 3 w m k ∙ sym e
 
 -- the counter of a slot, by its level L and its place q
 module _ (w m k L q : ℕ) (h : w < cap 3) (i : k < 8) (e : counterAt (block 3 w m) k .level ≡ L) (q-is : q ≡ 8 * (k / 2 ^ L * 2 ^ L)) where
@@ -98,6 +88,3 @@ room-test a b h = elim (decLt (a + b) (2 ^ 64)) [
   | yes l ↦ le-leb b (2 ^ 64 - 1 - a) (omega arith) ∙ sym (lt-ltb (a + b) (2 ^ 64) l)
   | no l ↦ lt-leb b (2 ^ 64 - 1 - a) (omega arith) ∙ sym (le-ltb (a + b) (2 ^ 64) (omega arith))
 ]
-
-pub field-le : (w q c : ℕ) → w / 2 ^ q % c * 2 ^ q ≤ w
-field-le w q c = omega (arith, mul-le-mul-right {m = w / 2 ^ q % c} {n = w / 2 ^ q} (2 ^ q) (mod-le (w / 2 ^ q) c), div-mul-le-self w (2 ^ q))

@@ -12,7 +12,7 @@ use Rattle.group_block.proofs.Laws.{cap-pos}
 use Rattle.group.specs.declared.Outcome.{Outcome}
 use Rattle.group.specs.Group.{decode, stored, added, holds}
 use Rattle.group.proofs.Laws.{holds-invalid, holds-valid}
-use Rattle.group.proofs.Places.{counter-at, sum-in, settle-is, added-is}
+use Rattle.group.proofs.Places.{has-level, counter-at, sum-in, settle-is, added-is}
 use borrow.Author.Needs.{needs}
 use Rattle.group.proofs.add_in_place.Statement.{statement}
 use Rattle.group.proofs.add_in_place.Tie as tie
@@ -47,7 +47,7 @@ module _ (c : tie.After-value-at) where
       holds-valid (s .args .g) (s .args .slot) (s .args .amount) (is-sane (n .before))
       ∙ rw (
         ← n .number-of .ensures,
-        counter-at w (s .args .g .merge) (s .args .slot % 8) (l .level-at .result) (p .place .result) (word-in n) (omega arith) (l .level-at .ensures .0 w) (p .place .ensures .0),
+        counter-at w (s .args .g .merge) (s .args .slot % 8) (l .level-at .result) (p .place .result) (word-in n) (omega arith) (has-level w (s .args .g .merge) (s .args .slot % 8) (l .level-at .ensures .0)) (p .place .ensures .0),
       )
       (ap (λ (x : ℕ). ltb (x + s .args .amount) (cap (l .level-at .result))) (sym (c .value-at .ensures)))
 
@@ -76,7 +76,7 @@ module _ (c : tie.After-value-at) where
         let k = s .args .slot % 8 in
         let level = l .level-at .result in
         let q = p .place .result in
-        let e = l .level-at .ensures .0 w in
+        let e = has-level w m k (l .level-at .ensures .0) in
         let v = is-sane (n .before) in
         let sum = settle-is w m k level q (word-in n) (omega arith) e (p .place .ensures .0) (s .args .amount) small (s .args .g) v in
         let after : added (s .args .g) (s .args .slot) (s .args .amount) ≡ stored (record { over = false; word = w + s .args .amount * 2 ^ q; merge = m })

@@ -11,6 +11,7 @@ use Rattle.group_block.proofs.Laws.{block-fits}
 use Rattle.group_block.proofs.Slots.{whole-total, halves-total}
 use Rattle.group.specs.Group.{decode, stored, added}
 use Rattle.group.proofs.Laws.{cap-three, not-held, added-invalid, added-full, added-stored}
+use Rattle.group.proofs.Places.{has-level}
 use borrow.Author.Needs.{needs}
 use Rattle.group.proofs.add_widening.Statement.{statement}
 use Rattle.group.proofs.add_widening.Tie as tie
@@ -36,20 +37,20 @@ module _ (l : tie.After-level-at) where
   past : cap (l .level-at .result) ≤ counterAt (block 3 (n .number-of .result) (s .args .g .merge)) (s .args .slot % 8) .value + s .args .amount
   unfolding decode
   past =
-      rw (← n .number-of .ensures, l .level-at .ensures .0 (n .number-of .result))
+      rw (← n .number-of .ensures, has-level (n .number-of .result) (s .args .g .merge) (s .args .slot % 8) (l .level-at .ensures .0))
       at (not-held (s .args .g) (s .args .slot) (s .args .amount) (is-sane (n .before)) (s .pre))
 
   -- the group's total, with the amount
   whole-full : l .level-at .result ≡ 3 → 2 ^ 64 ≤ total (block 3 (n .number-of .result) (s .args .g .merge)) + s .args .amount
   whole-full e = let w = n .number-of .result in
-      omega (arith, past, ap cap e, cap-three, whole-total (block 3 w (s .args .g .merge)) (s .args .slot % 8) (l .level-at .ensures .0 w ∙ e))
+      omega (arith, past, ap cap e, cap-three, whole-total (block 3 w (s .args .g .merge)) (s .args .slot % 8) (has-level w (s .args .g .merge) (s .args .slot % 8) (l .level-at .ensures .0) ∙ e))
 
   module _ (e : l .level-at .result ≡ 3 → ⊥) where
     halves-lt : total (block 3 (n .number-of .result) (s .args .g .merge)) + s .args .amount < 2 ^ 64
     unfolding cap
     halves-lt = let w = n .number-of .result in
         let b = block 3 w (s .args .g .merge) in
-        omega (arith, halves-total b (s .args .slot % 8) (block-fits 3 w (s .args .g .merge) word-in) (λ f. e (sym (l .level-at .ensures .0 w) ∙ f)))
+        omega (arith, halves-total b (s .args .slot % 8) (block-fits 3 w (s .args .g .merge) word-in) (λ f. e (sym (has-level w (s .args .g .merge) (s .args .slot % 8) (l .level-at .ensures .0)) ∙ f)))
 
     stored-is : stored (summed (add (block 3 (n .number-of .result) (s .args .g .merge)) (s .args .slot % 8) (s .args .amount)))
         ≡ added (s .args .g) (s .args .slot) (s .args .amount)

@@ -6,7 +6,7 @@ use borrow.Author.Tests.{not-true, not-false}
 use Rattle.group_layout.specs.Layout.{valid}
 use Rattle.group_block.specs.Block.{cap}
 use Rattle.group.specs.Group.{read, reading, decode}
-use Rattle.group.proofs.Places.{counter-at}
+use Rattle.group.proofs.Places.{has-level, counter-at}
 use borrow.Author.Needs.{needs}
 use Rattle.group.proofs.counter.Statement.{statement}
 use Rattle.group.proofs.counter.Tie as tie
@@ -47,7 +47,7 @@ returns-2 c = let n = c .before in
     let w = n .number-of .result in
     let level = l .level-at .result in
     let q = n .before .place in
-    rw (is-sane (l .before), ← n .number-of .ensures, counter-at w (a .g .merge) (a .slot % 8) level (q .result) (word-in n) (omega arith) (l .level-at .ensures .0 w) (q .ensures .0))
+    rw (is-sane (l .before), ← n .number-of .ensures, counter-at w (a .g .merge) (a .slot % 8) level (q .result) (word-in n) (omega arith) (has-level w (a .g .merge) (a .slot % 8) (l .level-at .ensures .0)) (q .ensures .0))
     (ap (λ (x : ℕ). record { status = 0; value = x; level = level }) (c .value-at .ensures))
 
 pub counter-spec : {M : Type 1} → statement M

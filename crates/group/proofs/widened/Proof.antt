@@ -1,12 +1,14 @@
-use mathlib.Core.Path.{_≡_}
-use mathlib.Core.Bool.{true≢false}
+use mathlib.Core.Path.{_≡_, sym, _∙_}
+use mathlib.Core.Bool.{true≢false, and-eq-true-iff}
 use Prim.Native.Nat.{ℕ, suc, _+_, _*_, _/_, _%_, _^_, _<_}
 use native.Mathlib.Nat.{mul-mod-left}
 use native.Mathlib.Numerals.{add-one}
 use native.Mathlib.Omega.{arith}
-use borrow.Author.Tests.{not-false}
+use borrow.Author.Tests.{not-false, eqb-true}
+use Rattle.group_layout.specs.Layout.{layout, levelOf}
 use Rattle.group_block.specs.Block.{cap, block, counterAt}
 use Rattle.group_block.proofs.Laws.{cap-pos}
+use Rattle.group_block.proofs.Slots.{level-block}
 use Rattle.group.proofs.Widening.{second-in, put-in, put-is}
 use borrow.Author.Needs.{needs}
 use Rattle.group.proofs.widened.Statement.{statement}
@@ -46,8 +48,13 @@ module _ (c : tie.Else2) where
   abbrev o : tie.After-place
   o = w .before
 
+  both : (levelOf (layout 3 (s o .args .merge)) (p o) ≡ s o .args .level) × (levelOf (layout 3 (s o .args .merge)) (p o + 2 ^ s o .args .level) ≡ s o .args .level)
+  both =
+      let e = and-eq-true-iff _ _ .0 (sym (w .twins .ensures) ∙ not-false _ (t .before .if1 .left)) in
+      (eqb-true _ _ (e .0), eqb-true _ _ (e .1))
+
   levels : (x : ℕ) → (counterAt (block 3 x (s o .args .merge)) (p o) .level ≡ s o .args .level) × (counterAt (block 3 x (s o .args .merge)) (p o + 2 ^ s o .args .level) .level ≡ s o .args .level)
-  levels = w .twins .ensures (not-false _ (t .before .if1 .left))
+  levels = λ x. (level-block 3 x (s o .args .merge) (p o) ∙ both .0, level-block 3 x (s o .args .merge) (p o + 2 ^ s o .args .level) ∙ both .1)
 
   small : t .twin-sum .result + s o .args .amount < cap (s o .args .level + 1)
   small = omega (arith, c .if2 .left, c .before .most .ensures, cap-pos (s o .args .level + 1))
@@ -99,7 +106,7 @@ put-requires c κs = (omega arith, (o c .place .ensures .1, number-in c))
 formed-requires : tie.Need-formed-requires
 formed-requires c κs = let d = c .before in
     let a = s (o d) in
-    (a .pre .0, (a .pre .1 .0, (p-in (o d), (p-multiple (o d), levels d 0))))
+    (a .pre .0, (a .pre .1 .0, (p-in (o d), (p-multiple (o d), both d .0))))
 
 returns-3 : tie.Need-returns-3
 returns-3 c = λ z. let d = c .before .before in

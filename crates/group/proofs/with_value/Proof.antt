@@ -3,7 +3,7 @@ use Prim.Native.Nat.{_*_, _%_, _^_, _<_}
 use native.Mathlib.Omega.{arith}
 use lib.Bits.{bitAnd, and-mask}
 use Rattle.group_block.specs.Block.{cap}
-use Rattle.group.proofs.Places.{value-in, value-put}
+use Rattle.group.proofs.Places.{has-level, value-in, value-put}
 use borrow.Author.Needs.{needs}
 use Rattle.group.proofs.with_value.Statement.{statement}
 use Rattle.group.proofs.with_value.Tie as tie
@@ -40,14 +40,14 @@ put-requires c κs = let a = s c .args in (
   l c .level-at .ensures .1,
   (
     p c .place .ensures .1,
-    value-in (a .word) (a .merge) (a .slot) (l c .level-at .result) (p c .place .result) (word-in c) (s c .pre .1) (l c .level-at .ensures .0 (a .word)) (p c .place .ensures .0) (a .value) _ (kept-is c),
+    value-in (a .word) (a .merge) (a .slot) (l c .level-at .result) (p c .place .result) (word-in c) (s c .pre .1) (has-level (a .word) (a .merge) (a .slot) (l c .level-at .ensures .0)) (p c .place .ensures .0) (a .value) _ (kept-is c),
   ),
 )
 
 returns : tie.Need-returns
 returns c = let m = c .before in
     let a = s m .args in
-    value-put (a .word) (a .merge) (a .slot) (l m .level-at .result) (p m .place .result) (word-in m) (s m .pre .1) (l m .level-at .ensures .0 (a .word)) (p m .place .ensures .0) (a .value) _ (kept-is m) (c .put .result) (c .put .ensures)
+    value-put (a .word) (a .merge) (a .slot) (l m .level-at .result) (p m .place .result) (word-in m) (s m .pre .1) (has-level (a .word) (a .merge) (a .slot) (l m .level-at .ensures .0)) (p m .place .ensures .0) (a .value) _ (kept-is m) (c .put .result) (c .put .ensures)
 
 pub with-value-spec : {M : Type 1} → statement M
 with-value-spec =

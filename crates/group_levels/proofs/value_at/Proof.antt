@@ -2,8 +2,8 @@ use Prim.Native.Nat.{_*_, _/_, _^_}
 use lib.Bits.{and-mask}
 use Rattle.group_block.specs.Block.{cap}
 use borrow.Author.Needs.{needs}
-use Rattle.group.proofs.value_at.Statement.{statement}
-use Rattle.group.proofs.value_at.Tie as tie
+use Rattle.group_levels.proofs.value_at.Statement.{statement}
+use Rattle.group_levels.proofs.value_at.Tie as tie
 
 shr-result : tie.Need-shr-result
 shr-result c = search needs

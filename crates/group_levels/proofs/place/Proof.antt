@@ -3,8 +3,8 @@ use Prim.Native.Nat.{ℕ, _*_, _/_, _%_, _^_}
 use native.Mathlib.Nat.{mod-eq-of-lt, div-mul-le-self}
 use native.Mathlib.Omega.{arith}
 use borrow.Author.Needs.{needs}
-use Rattle.group.proofs.place.Statement.{statement}
-use Rattle.group.proofs.place.Tie as tie
+use Rattle.group_levels.proofs.place.Statement.{statement}
+use Rattle.group_levels.proofs.place.Tie as tie
 
 shr-result : tie.Need-shr-result
 shr-result c = search needs

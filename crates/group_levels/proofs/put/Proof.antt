@@ -2,10 +2,10 @@ use mathlib.Core.Path.{_≡_, ap}
 use Prim.Native.Nat.{ℕ, _*_, _/_, _%_, _^_, _≤_}
 use native.Mathlib.Omega.{arith}
 use Rattle.group_block.specs.Block.{cap}
-use Rattle.group.proofs.Places.{field-le}
+use Rattle.group_levels.proofs.Places.{field-le}
 use borrow.Author.Needs.{needs}
-use Rattle.group.proofs.put.Statement.{statement}
-use Rattle.group.proofs.put.Tie as tie
+use Rattle.group_levels.proofs.put.Statement.{statement}
+use Rattle.group_levels.proofs.put.Tie as tie
 
 module _ (c : tie.After-value-at) where
   old-is : c .value-at .result * 2 ^ c .before .args .place ≡ c .before .args .word / 2 ^ c .before .args .place % cap (c .before .args .level) * 2 ^ c .before .args .place

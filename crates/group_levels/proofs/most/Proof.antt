@@ -2,10 +2,10 @@ use mathlib.Core.Path.{_≡_}
 use Prim.Native.Nat.{_*_, _%_, _^_}
 use native.Mathlib.Nat.{mod-eq-of-lt}
 use native.Mathlib.Omega.{arith}
-use Rattle.group.proofs.Places.{width-le, most-is}
+use Rattle.group_levels.proofs.Places.{width-le, most-is}
 use borrow.Author.Needs.{needs}
-use Rattle.group.proofs.most.Statement.{statement}
-use Rattle.group.proofs.most.Tie as tie
+use Rattle.group_levels.proofs.most.Statement.{statement}
+use Rattle.group_levels.proofs.most.Tie as tie
 
 shl-result : tie.Need-shl-result
 shl-result c = search needs

@@ -2,9 +2,9 @@ use native.Mathlib.Omega.{arith}
 use lib.Bits.{and-le-r}
 use borrow.Author.Needs.{needs}
 use borrow.Author.Tests.{eq-eqb, ne-eqb}
-use Rattle.group.proofs.Tables.{lowValid, bits-valid}
-use Rattle.group.proofs.is_valid.Statement.{statement}
-use Rattle.group.proofs.is_valid.Tie as tie
+use Rattle.group_levels.proofs.Byte.{lowValid, bits-valid}
+use Rattle.group_levels.proofs.is_valid.Statement.{statement}
+use Rattle.group_levels.proofs.is_valid.Tie as tie
 
 shr-if1 : tie.Need-shr-if1
 shr-if1 c = omega (arith, and-le-r (c .args .merge) 31)
