@@ -13,6 +13,7 @@ use lib.Dec.{eqb}
 use lib.Pow.{pow-pos, pow-lt}
 use Rattle.group_layout.specs.Layout.{Layout, merged, halves, marks, layout, valid}
 use Rattle.group_layout.proofs.Laws.{layout-marks, marks-layout}
+use Rattle.group_block.specs.Kind.{ordinary}
 use Rattle.group_block.specs.Block.{cap, shape, fill, block, total}
 use Rattle.group_block.specs.Sum.{Sum, fits, over, held, join, unite, summed, Sane}
 use Rattle.group_block.specs.Least.{Suits, Least}
@@ -126,7 +127,7 @@ module _ (k a b : ℕ) where
     low-none = rw (← low-is, ← carries-low) none-low
 
 abbrev InPlace : {n : ℕ} → Layout n → Type 0
-InPlace {n} L = (a b : ℕ) → a + b < cap n → bitAnd (carries a b) (bounds L) ≡ 0 → unite (fill L a) (fill L b) ≡ fits (fill L (a + b))
+InPlace {n} L = (a b : ℕ) → a + b < cap n → bitAnd (carries a b) (bounds L) ≡ 0 → unite (fill {K = ordinary} L a) (fill L b) ≡ fits (fill L (a + b))
 
 in-halves : {n : ℕ} (l r : Layout n) → InPlace l → InPlace r → InPlace (halves l r)
 unfolding unite fill join bounds cap
@@ -175,7 +176,7 @@ no-carry-end {n} L a b s z =
     sym (mask-mod j (carries a b) (2 ^ j + bounds L) (carries-lt j a b s)) ∙ rw (rw (one-mul (2 ^ j)) at low) z
 
 -- The other way: where the layout suits both blocks, nothing is carried.
-suits-no-carry : {n : ℕ} (L : Layout n) (a b : ℕ) → a < cap n → b < cap n → Suits L (fill L a) (fill L b)
+suits-no-carry : {n : ℕ} (L : Layout n) (a b : ℕ) → a < cap n → b < cap n → Suits L (fill {K = ordinary} L a) (fill L b)
     → (a + b < cap n) × (bitAnd (carries a b) (bounds L) ≡ 0)
 unfolding Suits fill total bounds cap
 suits-no-carry merged a b h k s = (s, and-zero-r (carries a b))

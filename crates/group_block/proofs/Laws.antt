@@ -11,7 +11,9 @@ use lib.Arith.{digits-lt, digits-div, digits-mod}
 use lib.Pow.{pow-pos, pow-mono, pow-add}
 use Rattle.group_layout.specs.Layout.{Layout, merged, halves, isMerged, marks, layout, valid}
 use Rattle.group_layout.proofs.Laws.{layout-marks, marks-layout, is-merged, layout-suc}
-use Rattle.group_block.specs.Block.{Block, counter, split, cap, Fits, shape, word, fill, block, total}
+use Rattle.group_block.specs.Kind.{Kind, ordinary}
+use Rattle.group_block.proofs.Codes.{Codes, ordinary-codes}
+use Rattle.group_block.specs.Block.{BlockOf, Block, Clean, counter, split, cap, Fits, shape, word, fill, block, total}
 
 pub cap-pos : (n : ℕ) → 0 < cap n
 unfolding cap
@@ -41,37 +43,64 @@ high-lt n w h = div-lt-iff-lt-mul {k = cap n} {x = w} {y = cap n} (cap-pos n) .1
 pub halves-le : (n w : ℕ) → w % cap n + w / cap n ≤ w
 halves-le n w = omega (arith, div-add-mod' w (cap n), mul-le-mul-left {m = 1} {n = cap n} (w / cap n) (cap-pos n))
 
-pub fill-fits : {n : ℕ} (L : Layout n) (w : ℕ) → w < cap n → Fits (fill L w)
+pub fill-fits-of : {K : Kind} (C : Codes K) {n : ℕ} (L : Layout n) (w : ℕ) → w < cap n → Fits (fill {K = K} L w)
 unfolding fill Fits
-fill-fits merged w h = h
-fill-fits (halves {n} l r) w h = (fill-fits l (w % cap n) (mod-lt w (cap-pos n)), fill-fits r (w / cap n) (high-lt n w h))
+fill-fits-of C {n} merged w h = C .read-holds n w h
+fill-fits-of C (halves {n} l r) w h = (fill-fits-of C l (w % cap n) (mod-lt w (cap-pos n)), fill-fits-of C r (w / cap n) (high-lt n w h))
 
-pub word-fill : {n : ℕ} (L : Layout n) (w : ℕ) → w < cap n → word (fill L w) ≡ w
-unfolding fill word
-word-fill merged w h = refl
-word-fill (halves {n} l r) w h =
-    rw (word-fill l (w % cap n) (mod-lt w (cap-pos n)), word-fill r (w / cap n) (high-lt n w h)) (div-add-mod' w (cap n))
+pub fill-fits : {n : ℕ} (L : Layout n) (w : ℕ) → w < cap n → Fits (fill {K = ordinary} L w)
+fill-fits L w h = fill-fits-of ordinary-codes L w h
 
-pub shape-fill : {n : ℕ} (L : Layout n) (w : ℕ) → shape (fill L w) ≡ L
+pub word-fill-of : {K : Kind} (C : Codes K) {n : ℕ} (L : Layout n) (w : ℕ) → w < cap n → Clean K L w → word (fill {K = K} L w) ≡ w
+unfolding fill word Clean
+word-fill-of C {n} merged w h c = C .bits-read n w h c
+word-fill-of C (halves {n} l r) w h c =
+    rw (word-fill-of C l (w % cap n) (mod-lt w (cap-pos n)) (c .0), word-fill-of C r (w / cap n) (high-lt n w h) (c .1)) (div-add-mod' w (cap n))
+
+all-clean : {n : ℕ} (L : Layout n) (w : ℕ) → Clean ordinary L w
+unfolding Clean
+all-clean merged w = refl
+all-clean (halves {n} l r) w = (all-clean l (w % cap n), all-clean r (w / cap n))
+
+pub word-fill : {n : ℕ} (L : Layout n) (w : ℕ) → w < cap n → word (fill {K = ordinary} L w) ≡ w
+word-fill L w h = word-fill-of ordinary-codes L w h (all-clean L w)
+
+pub shape-fill-of : (K : Kind) {n : ℕ} (L : Layout n) (w : ℕ) → shape (fill {K = K} L w) ≡ L
 unfolding fill shape
-shape-fill merged w = refl
-shape-fill (halves {n} l r) w = ap₂ halves (shape-fill l (w % cap n)) (shape-fill r (w / cap n))
+shape-fill-of K merged w = refl
+shape-fill-of K (halves {n} l r) w = ap₂ halves (shape-fill-of K l (w % cap n)) (shape-fill-of K r (w / cap n))
+
+pub shape-fill : {n : ℕ} (L : Layout n) (w : ℕ) → shape (fill {K = ordinary} L w) ≡ L
+shape-fill L w = shape-fill-of ordinary L w
+
+pub word-lt-of : {K : Kind} (C : Codes K) {n : ℕ} (b : BlockOf K n) → Fits b → word b < cap n
+unfolding word Fits
+word-lt-of C {n} (counter v) f = C .bits-lt n v f
+word-lt-of C (split {n} l r) f = rw (cap-square n) (digits-lt (word-lt-of C r (f .1)) (word-lt-of C l (f .0)))
 
 pub word-lt : {n : ℕ} (b : Block n) → Fits b → word b < cap n
-unfolding word Fits
-word-lt (counter v) f = f
-word-lt (split {n} l r) f = rw (cap-square n) (digits-lt (word-lt r (f .1)) (word-lt l (f .0)))
+word-lt b f = word-lt-of ordinary-codes b f
+
+pub fill-word-of : {K : Kind} (C : Codes K) {n : ℕ} (b : BlockOf K n) → Fits b → fill (shape b) (word b) ≡ b
+unfolding fill shape word Fits
+fill-word-of C {n} (counter v) f = ap counter (C .read-bits n v f)
+fill-word-of C (split {n} l r) f =
+    rw (
+      digits-mod (word r) (word-lt-of C l (f .0)),
+      digits-div (word r) (word-lt-of C l (f .0)),
+      fill-word-of C l (f .0),
+      fill-word-of C r (f .1),
+    )
 
 pub fill-word : {n : ℕ} (b : Block n) → Fits b → fill (shape b) (word b) ≡ b
-unfolding fill shape word Fits
-fill-word (counter v) f = refl
-fill-word (split {n} l r) f =
-    rw (
-      digits-mod (word r) (word-lt l (f .0)),
-      digits-div (word r) (word-lt l (f .0)),
-      fill-word l (f .0),
-      fill-word r (f .1),
-    )
+fill-word b f = fill-word-of ordinary-codes b f
+
+-- a block whose counters hold their values has clean bits
+pub word-clean : {K : Kind} (C : Codes K) {n : ℕ} (b : BlockOf K n) → Fits b → Clean K (shape b) (word b)
+unfolding Clean shape word Fits
+word-clean C {n} (counter v) f = C .bits-clean n v f
+word-clean {K} C (split {n} l r) f =
+    (rw (digits-mod (word r) (word-lt-of C l (f .0))) (word-clean C l (f .0)), rw (digits-div (word r) (word-lt-of C l (f .0))) (word-clean C r (f .1)))
 
 -- count bytes and merge bits are those of the block that they stand for, and a block is the one that its bytes and bits stand for
 pub block-is : {n : ℕ} (b : Block n) → Fits b → block n (word b) (marks (shape b)) ≡ b

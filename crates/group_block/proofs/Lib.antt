@@ -1,8 +1,12 @@
+pub mod Sums
+pub mod Codes
 pub mod Laws
 pub mod Adding
 pub mod Halves
 pub mod Steps
 pub mod Least
+pub mod Sides
+pub mod Counting
 pub mod Changing
 pub mod Slots
 pub mod Places

@@ -8,6 +8,7 @@ use borrow.Author.Tests.{eq-eqb}
 use lib.Dec.{eqb}
 use Rattle.group_layout.specs.Layout.{merged, halves, marks}
 use Rattle.group_layout.proofs.Laws.{layout-marks}
+use Rattle.group_block.specs.Kind.{ordinary}
 use Rattle.group_block.specs.Block.{counter, split, cap, shape, fill, block, total}
 use Rattle.group_block.specs.Sum.{Sum, fits, held, join, unite, summed}
 use Rattle.group_block.proofs.Adding.{held-cases, held-total}
@@ -30,7 +31,7 @@ unite-pairs {n} a b c d =
     (λ h. held-cases n (b + d) (Widens (fits (counter (a + c))))
     (λ k e. absurd (true≢false (sym (eq-eqb (pair n) (pair n) refl) ∙ e)))
     (λ k e. ap (held (suc n)) (omega arith)))
-    (λ h e. ap (held (suc n)) (omega (arith, held-total n (b + d))))
+    (λ h e. ap (held (suc n)) (omega (arith, held-total ordinary n (b + d))))
   where
     Widens : Sum n → Sum n → Type 0
     Widens x y = keeps (pair n) (join x y) ≡ false → join x y ≡ held (suc n) (a + b + (c + d))

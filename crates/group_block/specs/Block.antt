@@ -1,38 +1,46 @@
 -- A block and its counters. Document 01, 'Rows, groups and blocks'.
 use Prim.Native.Nat.{ℕ, suc, _+_, _-_, _*_, _/_, _%_, _^_, _<_}
-use mathlib.Core.Bool.{cond}
+unfoldable pub use Rattle.group_block.specs.Kind.{cap}
+use Rattle.group_block.specs.Kind.{Kind, ordinary}
+use mathlib.Core.Path.{_≡_}
+use mathlib.Core.Bool.{true, cond}
 use lib.Dec.{ltb}
 use Rattle.group_layout.specs.Layout.{Layout, merged, halves, layout}
 use Rattle.group_block.specs.declared.Counter.{Counter}
 
 -- A block of level n is one counter with its value (document 01: figure), or two blocks of the level below side by side.
-pub data Block : ℕ → Type 0 where
-  counter : {n : ℕ} → ℕ → Block n
-  split : {n : ℕ} → Block n → Block n → Block (suc n)
+pub data BlockOf (K : Kind) : ℕ → Type 0 where
+  counter : {n : ℕ} → K .Value → BlockOf K n
+  split : {n : ℕ} → BlockOf K n → BlockOf K n → BlockOf K (suc n)
 
--- A counter of level n holds 8 * 2 ^ n bits: values below this.
-unfoldable pub cap : ℕ → ℕ
-cap n = 2 ^ (8 * 2 ^ n)
+-- a block of an ordinary meter
+abbrev pub Block : ℕ → Type 0
+Block n = BlockOf ordinary n
 
 -- every counter holds its value
-unfoldable pub Fits : {n : ℕ} → Block n → Type 0
-Fits {n} (counter v) = v < cap n
+unfoldable pub Fits : {K : Kind} {n : ℕ} → BlockOf K n → Type 0
+Fits {K} {n} (counter v) = K .size v < K .bound n
 Fits (split l r) = Fits l × Fits r
 
 -- which blocks are merged
-unfoldable pub shape : {n : ℕ} → Block n → Layout n
+unfoldable pub shape : {K : Kind} {n : ℕ} → BlockOf K n → Layout n
 shape (counter v) = merged
 shape (split l r) = halves (shape l) (shape r)
 
 -- the count bytes of a block taken as one number, the lowest slot least significant; of a counter, its value
-unfoldable pub word : {n : ℕ} → Block n → ℕ
-word (counter v) = v
+unfoldable pub word : {K : Kind} {n : ℕ} → BlockOf K n → ℕ
+word {K} {n} (counter v) = K .bits n v
 word (split {n} l r) = word r * cap n + word l
 
 -- the block that a layout and the count bytes, taken as one number, stand for
-unfoldable pub fill : {n : ℕ} → Layout n → ℕ → Block n
-fill merged w = counter w
+unfoldable pub fill : {K : Kind} {n : ℕ} → Layout n → ℕ → BlockOf K n
+fill {K} {n} merged w = counter (K .read n w)
 fill (halves {n} l r) w = split (fill l (w % cap n)) (fill r (w / cap n))
+
+-- every counter's bits are those of a value
+unfoldable pub Clean : (K : Kind) {n : ℕ} → Layout n → ℕ → Type 0
+Clean K {n} merged w = K .clean n w ≡ true
+Clean K (halves {n} l r) w = Clean K l (w % cap n) × Clean K r (w / cap n)
 
 -- the block of level n that count bytes, taken as one number, and merge bits stand for
 unfoldable pub block : (n : ℕ) → ℕ → ℕ → Block n
@@ -44,6 +52,6 @@ counterAt {n} (counter v) k = record { value = v; level = n }
 counterAt (split {n} l r) k = cond (ltb k (2 ^ n)) (counterAt l k) (counterAt r (k - 2 ^ n))
 
 -- the sum of a block's counters
-unfoldable pub total : {n : ℕ} → Block n → ℕ
+unfoldable pub total : {K : Kind} {n : ℕ} → BlockOf K n → K .Value
 total (counter v) = v
-total (split l r) = total l + total r
+total {K} (split l r) = K .plus (total l) (total r)

@@ -1,4 +1,6 @@
+pub mod Kind
 pub mod Block
 pub mod Sum
 pub mod Least
+pub mod Counts
 pub mod Change

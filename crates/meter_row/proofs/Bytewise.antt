@@ -13,6 +13,7 @@ use Rattle.group_bytes.specs.Bytes.{number, bytes}
 use Rattle.laws.proofs.Lists.{Bytes}
 use Rattle.group_bytes.proofs.Bytes.{number-lt, bytes-number}
 use Rattle.group_layout.specs.Layout.{Layout, merged, halves, layout}
+use Rattle.group_block.specs.Kind.{ordinary}
 use Rattle.group_block.specs.Block.{cap, fill, block, total}
 use Rattle.group_block.specs.Sum.{fits, held, join, unite}
 use Rattle.group.specs.declared.Group.{Group}
@@ -86,7 +87,7 @@ unfolding cap
 sums-lt n {xs} {ys} {zs} long s = rw (sums-long s ∙ long) at (number-lt zs (sums-bytes s))
 
 unite-sums : {n : ℕ} (L : Layout n) {xs ys zs : List ℕ} → length xs ≡ 2 ^ n → Sums xs ys zs
-    → unite (fill L (number xs)) (fill L (number ys)) ≡ fits (fill L (number zs))
+    → unite (fill {K = ordinary} L (number xs)) (fill L (number ys)) ≡ fits (fill L (number zs))
 unfolding unite fill total held join
 unite-sums {n} merged {xs} {ys} {zs} long s = rw (← sums-number s, lt-ltb (number zs) (cap n) (sums-lt n long s))
 unite-sums (halves {n} l r) {xs} {ys} {zs} long s =

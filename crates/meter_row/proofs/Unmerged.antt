@@ -9,6 +9,7 @@ use Rattle.group_bytes.specs.Bytes.{number}
 use Rattle.laws.proofs.Lists.{Bytes}
 use Rattle.group_bytes.proofs.Bytes.{number-lt}
 use Rattle.group_layout.specs.Layout.{Layout, halves, bit, ones, layout, valid}
+use Rattle.group_block.specs.Kind.{ordinary}
 use Rattle.group_block.specs.Block.{cap, Fits, fill, block, total}
 use Rattle.group_block.proofs.Laws.{fill-fits, total-lt}
 use Rattle.group.specs.declared.Group.{Group}
@@ -24,7 +25,7 @@ use Rattle.geometry.proofs.Widths.{group-in, stride-is}
 use Rattle.geometry.proofs.Groups.{eight-at}
 
 -- a block that is not merged has the total of its halves
-halves-total : {n : ℕ} (l r : Layout n) (w : ℕ) → w < cap (suc n) → total (fill (halves l r) w) < cap n + cap n
+halves-total : {n : ℕ} (l r : Layout n) (w : ℕ) → w < cap (suc n) → total (fill {K = ordinary} (halves l r) w) < cap n + cap n
 unfolding fill total Fits
 halves-total {n} l r w h =
     let f = fill-fits (halves l r) w h in
