@@ -4,19 +4,48 @@ use mathlib.Core.Path.{_≡_, refl, sym, ap, ap₂, _∙_}
 use mathlib.Core.Bool.{Bool, true, false, cond, true≢false}
 use Prim.Native.Nat.{ℕ, zero, suc, _+_, _-_, _*_, _/_, _%_, _^_, _≤_, _<_}
 use native.Mathlib.Nat.{zero-add, add-zero, add-mul, mul-assoc, one-mul, div-one, div-eq-of-lt}
+use native.Mathlib.Decide.{decLt}
 use native.Mathlib.Omega.{arith}
-use borrow.Author.Tests.{eqb-true, eq-eqb}
+use borrow.Author.Tests.{eqb-true, eq-eqb, lt-ltb, le-ltb}
 use lib.Arith.{digits-mod}
 use lib.Bits.{bitAnd, bitXor, and-le-r, block-half, block-odd}
-use lib.Dec.{eqb}
+use lib.Dec.{eqb, ltb}
 use lib.Pow.{pow-pos, pow-mono, pow-add, shr-shr, high, ones-lt}
-use Rattle.group_layout.specs.Layout.{Layout, merged, halves, ones, marks, layout, valid}
-use Rattle.group_layout.proofs.Laws.{marks-lt, marks-in, marks-layout}
+use Rattle.group_layout.specs.Layout.{Layout, merged, halves, bit, ones, marks, layout, valid}
+use Rattle.group_layout.proofs.Laws.{marks-lt, marks-in, bit-halves, marks-layout}
 use Rattle.group_block.specs.Block.{cap, block}
 use Rattle.group_block.specs.Sum.{unite}
+use Rattle.group_block.specs.Least.{together}
+use Rattle.group_block.proofs.Bits.{ones-bit, low-bit, high-bit}
 use Rattle.group_block.proofs.Laws.{cap-mono, cap-square}
 use Rattle.group_block.proofs.Carries.{bounds, carries, carries-lt, mask-mod, end-no-carry, no-carry-end, keeps, keeps-no-carry, no-carry-keeps}
 use Rattle.laws.proofs.Tests.{both-ways, every, every-at}
+
+-- Merge bit k is set where slots k and k + 1 are in one counter.
+pub bit-together : {n : ℕ} (L : Layout n) (k : ℕ) → suc k < 2 ^ n → bit (marks L) k ≡ together L k (suc k)
+unfolding bit marks ones together
+bit-together {n} merged k h = eq-eqb ((2 ^ (2 ^ n - 1) - 1) / 2 ^ k % 2) 1 (ones-bit (2 ^ n - 1) k (omega arith))
+bit-together (halves {n} l r) k h = elim (decLt (suc k) (2 ^ n)) [
+  | yes m ↦
+      rw (lt-ltb k (2 ^ n) (omega arith), lt-ltb (suc k) (2 ^ n) m)
+      (ap (λ (x : ℕ). eqb x 1) (low-bit (marks r) (marks l) (2 ^ n) k (omega arith)) ∙ bit-together l k m)
+  | no m ↦ elim (decLt k (2 ^ n)) [
+    | yes j ↦
+        let e : k ≡ 2 ^ n - 1 = omega arith in
+        rw (lt-ltb k (2 ^ n) j, le-ltb (suc k) (2 ^ n) (omega arith), e) (bit-halves l r)
+    | no j ↦
+        let e : k ≡ 2 ^ n + (k - 2 ^ n) = omega arith in
+        let f : suc k - 2 ^ n ≡ suc (k - 2 ^ n) = omega arith in
+        rw (le-ltb k (2 ^ n) (omega arith), le-ltb (suc k) (2 ^ n) (omega arith), f)
+        (ap (λ (x : ℕ). eqb x 1) (ap (λ (x : ℕ). (marks r * 2 ^ (2 ^ n) + marks l) / 2 ^ x % 2) e ∙ high-bit (marks r) (marks l) (2 ^ n) (k - 2 ^ n) (marks-in l))
+        ∙ bit-together r (k - 2 ^ n) (omega arith))
+  ]
+]
+
+-- the last bit, past which the block ends, is clear
+pub bit-end : {n : ℕ} (L : Layout n) → bit (marks L) (2 ^ n - 1) ≡ false
+unfolding bit
+bit-end {n} L = rw (div-eq-of-lt {n = marks L} {m = 2 ^ (2 ^ n - 1)} (marks-lt L))
 
 -- the lowest bits of bytes 1 to c, each where the merge bit before it, of the c lowest, is clear
 unfoldable pub gaps : ℕ → ℕ → ℕ

@@ -1,18 +1,17 @@
 -- Levels by merge bits, by induction on the level: the own bit of a block is set where the block is merged or inside a merged one. So
 -- the merged blocks around a slot are as many as the level of its counter, and the levels with a merged block as many as the widest.
 use mathlib.Core.Path.{_≡_, refl, sym, ap, ap₂, _∙_}
-use mathlib.Core.Bool.{true, cond}
+use mathlib.Core.Bool.{cond}
 use Prim.Native.Nat.{ℕ, zero, suc, _+_, _-_, _*_, _/_, _%_, _^_, _≤_, _<_, min, max}
-use native.Mathlib.Nat.{add-zero, add-suc, mul-assoc, add-mul, suc-mul, zero-mul, mul-div-cancel, mul-le-mul-right, div-eq-of-lt, mul-mod-left, mul-add-div-right, div-mul-le-self}
+use native.Mathlib.Nat.{add-zero, add-suc, add-mul, suc-mul, mul-div-cancel, mul-le-mul-right, div-eq-of-lt, mul-add-div-right, div-mul-le-self}
 use native.Mathlib.Decide.{decLt}
 use native.Mathlib.Omega.{arith}
-use borrow.Author.Tests.{lt-ltb, le-ltb}
-use lib.Arith.{digits-div}
+use borrow.Author.Tests.{lt-ltb, le-ltb, eqb-false}
 use lib.Dec.{ltb}
-use lib.Pow.{pow-pos, pow-add, shr-shr, high, ones-lt, ones-split}
-use Rattle.group_layout.specs.Layout.{Layout, merged, halves, ones, marks, layout, valid, widest, levelOf}
-use Rattle.group_layout.proofs.Laws.{double, marks-lt, marks-in, marks-layout, widest-le}
-use Rattle.group_block.proofs.Places.{above}
+use lib.Pow.{pow-pos}
+use Rattle.group_layout.specs.Layout.{Layout, merged, halves, bit, ones, marks, widest, levelOf}
+use Rattle.group_layout.proofs.Laws.{marks-in, bit-halves, widest-le}
+use Rattle.group_block.proofs.Bits.{ones-bit, low-bit, high-bit}
 use Rattle.group_block.proofs.Twins.{multiple, whole-left}
 use Rattle.group_levels.specs.Levels.{ownBit, mergedAround, someOwn, mergedLevels}
 
@@ -51,13 +50,6 @@ unfolding ownBit
 own-le j m i = omega arith
 
 -- where all bits are set
-ones-bit : (q p : ℕ) → p < q → (2 ^ q - 1) / 2 ^ p % 2 ≡ 1
-ones-bit q p h =
-    let e : q ≡ suc (q - suc p) + p = omega arith in
-    let f : (2 ^ q - 1) / 2 ^ p ≡ 2 ^ suc (q - suc p) - 1 =
-    ap (λ (x : ℕ). (2 ^ x - 1) / 2 ^ p) e ∙ ap (λ (x : ℕ). x / 2 ^ p) (ones-split (suc (q - suc p)) p) ∙ high (2 ^ suc (q - suc p) - 1) p (ones-lt p) in
-    rw f (omega (arith, pow-pos (q - suc p)))
-
 own-ones : (n j i : ℕ) → i * 2 ^ suc j + 2 ^ suc j ≤ 2 ^ n → ownBit j (ones n) i ≡ 1
 unfolding ownBit ones
 own-ones n j i h = ones-bit (2 ^ n - 1) (i * 2 ^ suc j + (2 ^ j - 1)) (omega (arith, pow-pos j))
@@ -66,25 +58,22 @@ own-ones n j i h = ones-bit (2 ^ n - 1) (i * 2 ^ suc j + (2 ^ j - 1)) (omega (ar
 module _ (n j i a b : ℕ) where
   own-left : i * 2 ^ suc j + 2 ^ suc j ≤ 2 ^ n → ownBit j (a * 2 ^ (2 ^ n) + b) i ≡ ownBit j b i
   unfolding ownBit
-  own-left h =
-      let p = i * 2 ^ suc j + (2 ^ j - 1) in
-      let e : 2 ^ n ≡ 2 ^ n - (1 + p) + 1 + p = omega (arith, pow-pos j) in
-      rw e (above a b p 1 (2 ^ n - (1 + p)))
+  own-left h = low-bit a b (2 ^ n) (i * 2 ^ suc j + (2 ^ j - 1)) (omega (arith, pow-pos j))
 
   own-right : b < 2 ^ (2 ^ n) → j < n → ownBit j (a * 2 ^ (2 ^ n) + b) (2 ^ (n - suc j) + i) ≡ ownBit j a i
   unfolding ownBit
   own-right h g =
-      let e : (2 ^ (n - suc j) + i) * 2 ^ suc j + (2 ^ j - 1) ≡ 2 ^ n + (i * 2 ^ suc j + (2 ^ j - 1)) =
-      omega (arith, add-mul (2 ^ (n - suc j)) i (2 ^ suc j), multiple n j g) in
-      rw (e, ← shr-shr (a * 2 ^ (2 ^ n) + b) (2 ^ n) (i * 2 ^ suc j + (2 ^ j - 1)), digits-div a h)
+      let p = i * 2 ^ suc j + (2 ^ j - 1) in
+      let e : (2 ^ (n - suc j) + i) * 2 ^ suc j + (2 ^ j - 1) ≡ 2 ^ n + p = omega (arith, add-mul (2 ^ (n - suc j)) i (2 ^ suc j), multiple n j g) in
+      ap (λ (x : ℕ). (a * 2 ^ (2 ^ n) + b) / 2 ^ x % 2) e ∙ high-bit a b (2 ^ n) p h
 
 -- of the block itself, where it is not merged
 own-split : {n : ℕ} (l r : Layout n) → ownBit n (marks (halves l r)) 0 ≡ 0
-unfolding ownBit marks
+unfolding ownBit marks bit
 own-split {n} l r =
-    let e : marks r * 2 ^ (2 ^ n) ≡ marks r * 2 * 2 ^ (2 ^ n - 1) = rw (double n) (sym (mul-assoc (marks r) 2 (2 ^ (2 ^ n - 1)))) in
-    let z : 0 * 2 ^ suc n + (2 ^ n - 1) ≡ 2 ^ n - 1 = omega (arith, zero-mul (2 ^ suc n)) in
-    rw (z, e, high (marks r * 2) (2 ^ n - 1) (marks-lt l), mul-mod-left (marks r) 2)
+    let m = marks r * 2 ^ (2 ^ n) + marks l in
+    let z : 0 * 2 ^ suc n + (2 ^ n - 1) ≡ 2 ^ n - 1 = omega arith in
+    ap (λ (x : ℕ). m / 2 ^ x % 2) z ∙ omega (arith, eqb-false (m / 2 ^ (2 ^ n - 1) % 2) 1 (bit-halves l r))
 
 -- the level of a slot's counter, in each half
 level-left : {n : ℕ} (l r : Layout n) (k : ℕ) → k < 2 ^ n → levelOf (halves l r) k ≡ levelOf l k
