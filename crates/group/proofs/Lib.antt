@@ -1,5 +1,4 @@
 pub mod Laws
 pub mod Places
-pub mod Widening
 pub mod Outcomes
 pub mod Changing

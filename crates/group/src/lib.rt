@@ -1,24 +1,12 @@
 // A group of eight slots: its counters, its merge byte and its layout code.
 use group_block::Summed;
-use group_levels::formed;
 use group_levels::level_at;
-use group_levels::most;
-use group_levels::place;
-use group_levels::put;
-use group_levels::twins;
-use group_levels::value_at;
 use group_levels::widest_level;
+use group_sums::sum_fits;
+use group_sums::with_value;
 ghost use mathlib.Core.Path.{_≡_};
-ghost use mathlib.Core.Bool.{true, false, cond};
-ghost use Prim.Native.Nat.{ℕ, _+_, _-_, _*_, _/_, _%_, _^_, _<_, _≤_};
-ghost use lib.Dec.{ltb};
-ghost use Rattle.group_layout.specs.Layout.{layout, valid};
-ghost use Rattle.group_layout.specs.Layout as layout_spec;
-ghost use Rattle.group_block.specs.Block.{cap, block, counterAt};
-ghost use Rattle.group_block.specs.Block as block_spec;
-ghost use Rattle.group_block.specs.Change as change_spec;
-ghost use Rattle.group_block.specs.Sum.{summed};
-ghost use Rattle.group_block.specs.Sum as sum_spec;
+ghost use mathlib.Core.Bool.{false, cond};
+ghost use Rattle.group_layout.specs.Layout.{valid};
 ghost use Rattle.group.specs.Group.{read, stored, holds, added, united, widestOf, changed};
 ghost use Rattle.group.specs.Group as spec;
 ghost use Rattle.group.specs.Status as status_spec;
@@ -95,12 +83,11 @@ pub fn counter(g: Group, slot: usize) -> Reading
             level: 0,
         };
     }
-    let level = level_at(g.merge, slot % 8);
-    let at = place(level, slot % 8);
+    let c = group_sums::counter_at(group_bytes::number_of(counts), g.merge, slot % 8);
     Reading {
         status: 0,
-        value: value_at(group_bytes::number_of(counts), level, at),
-        level,
+        value: c.value,
+        level: c.level,
     }
 }
 
@@ -124,45 +111,6 @@ fn unchanged(status: u8, g: Group) -> Outcome
     Outcome { status, group: g }
 }
 
-// The sum of the two counters of this level side by side at a place.
-fn twin_sum(word: u64, level: u32, place: usize) -> u64
-    requires { ⌜ level ≤ 2 ⌝ ∗ ⌜ place < 64 ⌝ }
-    ensures { λ r. ⌜ r ≡ word / 2 ^ place % cap (level + 1) % cap level + word / 2 ^ place % cap (level + 1) / cap level ⌝ }
-    ensures { λ r. ⌜ r < 2 ^ 33 ⌝ }
-{
-    let both = value_at(word, level + 1, place);
-    group_block::low_word(level, both) + group_block::high_word(level, both)
-}
-
-// An amount added to a counter that cannot hold the sum, where the counter beside it has the same level and one counter of the next
-// level holds the sum of both; over elsewhere.
-fn widened(word: u64, merge: u8, level: u32, slot: usize, amount: u32) -> Summed
-    requires { ⌜ valid 3 merge ≡ true ⌝ ∗ ⌜ level ≤ 2 ⌝ ∗ ⌜ slot < 8 ⌝ ∗ ⌜ cap level ≤ counterAt (block 3 word merge) slot .value + amount ⌝ }
-    ensures { λ r. ⌜ (r .over ≡ false → r ≡ summed (sum_spec.add (block 3 word merge) slot amount)) ⌝ }
-{
-    let at = place(level + 1, slot);
-    if !twins(merge, level, at / 8) {
-        return Summed {
-            over: true,
-            word: 0,
-            merge: 0,
-        };
-    }
-    let sum = twin_sum(word, level, at) + amount as u64;
-    if most(level + 1) < sum {
-        return Summed {
-            over: true,
-            word: 0,
-            merge: 0,
-        };
-    }
-    Summed {
-        over: false,
-        word: put(word, level + 1, at, sum),
-        merge: formed(merge, level, at / 8),
-    }
-}
-
 // The count bytes after an addition that its counter holds; if it does not, as they were.
 pub struct Kept {
     pub held: bool,
@@ -181,12 +129,8 @@ pub fn add_in_place(g: Group, slot: usize, amount: u32) -> Kept
             counts,
         };
     }
-    let word = group_bytes::number_of(counts);
-    let k = slot % 8;
-    let level = level_at(g.merge, k);
-    let at = place(level, k);
-    let room = most(level) - value_at(word, level, at);
-    if room < amount as u64 {
+    let sum = group_sums::add_in_place(group_bytes::number_of(counts), g.merge, slot % 8, amount);
+    if sum.over {
         return Kept {
             held: false,
             counts,
@@ -194,7 +138,7 @@ pub fn add_in_place(g: Group, slot: usize, amount: u32) -> Kept
     }
     Kept {
         held: true,
-        counts: group_bytes::bytes_of(word + ((amount as u64) << at)),
+        counts: group_bytes::bytes_of(sum.word),
     }
 }
 
@@ -213,11 +157,7 @@ pub fn add_widening(g: Group, slot: usize, amount: u32) -> Outcome
     if level == 3 {
         return unchanged(COUNTER_FULL, g);
     }
-    let wider = widened(word, g.merge, level, k, amount);
-    if !wider.over {
-        return settled(wider);
-    }
-    settled(group_block::add(3, word, g.merge, k, amount as u64))
+    settled(group_sums::add_widening(word, g.merge, level, k, amount))
 }
 
 // An amount added to the counter that a slot is in.
@@ -236,17 +176,6 @@ pub fn add(g: Group, slot: usize, amount: u32) -> Outcome
         };
     }
     add_widening(g, slot, amount)
-}
-
-// Whether the sum of all counters of two groups is below 2 ^ 64. It is where neither group is one counter.
-fn sum_fits(word: u64, merge: u8, other_word: u64, other_merge: u8) -> bool
-    ensures { λ r. ⌜ r ≡ ltb (block_spec.total (block 3 word merge) + block_spec.total (block 3 «other_word» «other_merge»)) (2 ^ 64) ⌝ }
-{
-    if ((merge | other_merge) >> 3) & 1 == 0 {
-        return true;
-    }
-    let room = 18446744073709551615 - group_block::total(3, word, merge);
-    group_block::total(3, other_word, other_merge) <= room
 }
 
 // Whether a target takes a source.
@@ -292,16 +221,6 @@ pub fn widest(merge: u8) -> Answer
         return rejected(INVALID_MERGE);
     }
     accepted(widest_level(merge) as u64)
-}
-
-// The count bytes, taken as one number, with another value in the counter that a slot is in.
-fn with_value(word: u64, merge: u8, slot: usize, value: u64) -> u64
-    requires { ⌜ valid 3 merge ≡ true ⌝ ∗ ⌜ slot < 8 ⌝ }
-    ensures { λ r. ⌜ r ≡ block_spec.word (change_spec.change (block 3 word merge) slot value) ⌝ }
-{
-    let level = level_at(merge, slot);
-    let at = place(level, slot);
-    put(word, level, at, value & most(level))
 }
 
 // Another value in the counter that a slot is in: of the value the bits that the counter holds. The layout stays.

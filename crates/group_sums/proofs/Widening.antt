@@ -12,7 +12,7 @@ use Rattle.group_block.specs.Sum.{add, summed, Sound}
 use Rattle.group_block.proofs.Laws.{word-lt, word-block, marks-block, block-fits}
 use Rattle.group_block.proofs.Adding.{add-sound}
 use Rattle.group_block.proofs.Twins.{Twins, Widened, whole-left, widens}
-use Rattle.group.proofs.Places.{counter-at}
+use Rattle.group_sums.proofs.Places.{counter-at}
 
 -- a field of the next level is two fields
 low-field : (x L : ℕ) → x % cap (suc L) % cap L ≡ x % cap L

@@ -9,10 +9,10 @@ use Rattle.group_layout.specs.Layout.{layout, levelOf}
 use Rattle.group_block.specs.Block.{cap, block, counterAt}
 use Rattle.group_block.proofs.Laws.{cap-pos}
 use Rattle.group_block.proofs.Slots.{level-block}
-use Rattle.group.proofs.Widening.{second-in, put-in, put-is}
+use Rattle.group_sums.proofs.Widening.{second-in, put-in, put-is}
 use borrow.Author.Needs.{needs}
-use Rattle.group.proofs.widened.Statement.{statement}
-use Rattle.group.proofs.widened.Tie as tie
+use Rattle.group_sums.proofs.widened.Statement.{statement}
+use Rattle.group_sums.proofs.widened.Tie as tie
 
 word-in : (c : tie.Start) → c .args .word < cap 3
 unfolding cap

@@ -6,8 +6,8 @@ use native.Mathlib.Omega.{arith}
 use Rattle.group_block.specs.Block.{cap}
 use Rattle.group_block.proofs.Laws.{cap-pos, cap-below, high-lt}
 use borrow.Author.Needs.{needs}
-use Rattle.group.proofs.twin_sum.Statement.{statement}
-use Rattle.group.proofs.twin_sum.Tie as tie
+use Rattle.group_sums.proofs.twin_sum.Statement.{statement}
+use Rattle.group_sums.proofs.twin_sum.Tie as tie
 
 module _ (c : tie.After-high-word) where
   abbrev v : tie.After-value-at

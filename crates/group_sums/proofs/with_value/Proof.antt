@@ -3,10 +3,10 @@ use Prim.Native.Nat.{_*_, _%_, _^_, _<_}
 use native.Mathlib.Omega.{arith}
 use lib.Bits.{bitAnd, and-mask}
 use Rattle.group_block.specs.Block.{cap}
-use Rattle.group.proofs.Places.{has-level, value-in, value-put}
+use Rattle.group_sums.proofs.Places.{has-level, value-in, value-put}
 use borrow.Author.Needs.{needs}
-use Rattle.group.proofs.with_value.Statement.{statement}
-use Rattle.group.proofs.with_value.Tie as tie
+use Rattle.group_sums.proofs.with_value.Statement.{statement}
+use Rattle.group_sums.proofs.with_value.Tie as tie
 
 module _ (c : tie.After-most) where
   abbrev p : tie.After-place

@@ -3,10 +3,10 @@ use Prim.Native.Nat.{_+_, _^_}
 use native.Mathlib.Omega.{arith}
 use borrow.Author.Tests.{lt-ltb}
 use Rattle.group_block.specs.Block.{cap, block, total}
-use Rattle.group.proofs.Places.{bit-total, both-clear, room-test}
+use Rattle.group_sums.proofs.Places.{bit-total, both-clear, room-test}
 use borrow.Author.Needs.{needs}
-use Rattle.group.proofs.sum_fits.Statement.{statement}
-use Rattle.group.proofs.sum_fits.Tie as tie
+use Rattle.group_sums.proofs.sum_fits.Statement.{statement}
+use Rattle.group_sums.proofs.sum_fits.Tie as tie
 
 returns : tie.Need-returns
 unfolding cap
