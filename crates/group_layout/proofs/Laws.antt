@@ -47,7 +47,7 @@ low-half {n} l r = low (marks r) (2 ^ n) (marks-in l)
 high-half : {n : ℕ} (l r : Layout n) → (marks r * 2 ^ (2 ^ n) + marks l) / 2 ^ (2 ^ n) ≡ marks r
 high-half {n} l r = high (marks r) (2 ^ n) (marks-in l)
 
-bit-halves : {n : ℕ} (l r : Layout n) → bit (marks r * 2 ^ (2 ^ n) + marks l) (2 ^ n - 1) ≡ false
+pub bit-halves : {n : ℕ} (l r : Layout n) → bit (marks r * 2 ^ (2 ^ n) + marks l) (2 ^ n - 1) ≡ false
 unfolding bit
 bit-halves {n} l r =
     let e : marks r * 2 ^ (2 ^ n) ≡ marks r * 2 * 2 ^ (2 ^ n - 1) = rw (double n) (sym (mul-assoc (marks r) 2 (2 ^ (2 ^ n - 1)))) in
