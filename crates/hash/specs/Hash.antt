@@ -1,4 +1,4 @@
--- FNV-1a of 32 bits, and the slot of a hash. Document 01, 'Where a key lands'. Cited by contracts and theorems.
+-- FNV-1a of 32 bits, and the slot of a hash. Document 01, 'Where a key lands'. Cited by contracts.
 use Prim.Native.Nat.{ℕ, _*_, _/_, _%_, _^_}
 use mathlib.Core.List.{List, [], _∷_}
 use lib.Bits.{bitXor}

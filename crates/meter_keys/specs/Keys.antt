@@ -1,4 +1,4 @@
--- Where a key lands in a row. Document 01, 'Where a key lands'. Cited by contracts and theorems.
+-- Where a key lands in a row. Document 01, 'Where a key lands'. Cited by contracts.
 use Prim.Native.Nat.{ℕ}
 use mathlib.Core.List.{List}
 use Rattle.hash.specs.Hash.{rowHash, slotOf}

@@ -17,7 +17,7 @@ ghost use Rattle.geometry.specs.Order as order;
 ghost use Rattle.geometry.specs.Rows.{groupAt, withGroup};
 ghost use Rattle.group.specs.Group.{read};
 ghost use Rattle.meter_row.specs.Runs.{noneMerged, sideBySide};
-ghost use Rattle.meter_row.specs.Row.{addedIn, widestStatus, widestRow, unitedAt, uniteStatus, uniteGroups, uniteRow};
+ghost use Rattle.meter_row.specs.Row.{addedIn, addedRow, widestStatus, widestRow, unitedAt, uniteStatus, uniteGroups, uniteRow};
 
 // An update of a row: the group of a slot stored.
 pub fn update_row(row: &mut [u8], w: usize, slot: usize, x: Group)
@@ -31,7 +31,7 @@ pub fn update_row(row: &mut [u8], w: usize, slot: usize, x: Group)
 pub fn update_one(row: &mut [u8], w: usize, slot: usize, amount: u32) -> u8
     requires { ⌜ validWidth w ≡ true ⌝ ∗ ⌜ length (now row) ≡ geometry.stride w ⌝ ∗ ⌜ slot < w ⌝ }
     ensures { λ s. ⌜ s ≡ addedIn w (now (row .entry)) slot amount .status ⌝ }
-    ensures { λ s. ⌜ now (row .exit) ≡ cond (eqb s 0) (withGroup w (now (row .entry)) (slot / 8) (addedIn w (now (row .entry)) slot amount .group)) (now (row .entry)) ⌝ }
+    ensures { λ s. ⌜ now (row .exit) ≡ cond (eqb s 0) (addedRow w (now (row .entry)) slot amount) (now (row .entry)) ⌝ }
 {
     let x = load(row, w, slot / 8);
     let s = group::add_in_place(x, slot, amount);
@@ -65,7 +65,8 @@ pub fn read_row(row: &[u8], w: usize, slot: usize) -> Reading
     group::counter(load(row, w, slot / 8), slot)
 }
 
-fn larger(a: u64, b: u64) -> u64
+// The larger of two numbers.
+pub fn larger(a: u64, b: u64) -> u64
     ensures { λ r. ⌜ r ≡ max a b ⌝ }
 {
     if a < b { b } else { a }

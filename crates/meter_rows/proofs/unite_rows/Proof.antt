@@ -6,10 +6,11 @@ use mathlib.Core.List.{List}
 use lib.ListN.{length}
 use Rattle.geometry.specs.Rows.{mapRows}
 use Rattle.meter_row.specs.Row.{uniteRow}
-use Rattle.meter.specs.Meter.{rowOf, sourceAdded}
+use Rattle.geometry.specs.Rows.{rowOf}
+use Rattle.meter_row.specs.Row.{sourceAdded}
 use Rattle.geometry.proofs.Lists.{one-row, lent, rowsFrom, rows-start, rows-turn, rows-end}
-use Rattle.meter.proofs.unite_rows.Statement.{statement}
-use Rattle.meter.proofs.unite_rows.Tie as tie
+use Rattle.meter_rows.proofs.unite_rows.Statement.{statement}
+use Rattle.meter_rows.proofs.unite_rows.Tie as tie
 
 abbrev Inv-loop : tie.InvT-loop
 Inv-loop d w memory₀ source stride r₀ memory r = (r ≤ d) × (rowsFrom (sourceAdded w source) stride d r memory ≡ mapRows (sourceAdded w source) stride d 0 memory₀) × (length memory ≡ length memory₀)

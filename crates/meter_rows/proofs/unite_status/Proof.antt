@@ -4,15 +4,16 @@ use native.Mathlib.Omega.{arith}
 use borrow.Author.Needs.{needs}
 use mathlib.Core.List.{List}
 use Rattle.geometry.specs.Geometry.{stride}
-use Rattle.meter.specs.Meter.{rowOf, sourceStatus}
+use Rattle.geometry.specs.Rows.{rowOf}
+use Rattle.meter_row.specs.Row.{sourceStatus}
 use lib.ListN.{drop}
 use Rattle.geometry.specs.Order.{earlier, earliest}
 use Rattle.geometry.specs.Rows.{ofRows}
 use Rattle.meter_row.specs.Row.{uniteStatus}
 use Rattle.geometry.proofs.Lists.{one-row}
-use Rattle.meter.proofs.Gather.{status-turn, status-end, rows-start}
-use Rattle.meter.proofs.unite_status.Statement.{statement}
-use Rattle.meter.proofs.unite_status.Tie as tie
+use Rattle.meter_rows.proofs.Gather.{status-turn, status-end, rows-start}
+use Rattle.meter_rows.proofs.unite_status.Statement.{statement}
+use Rattle.meter_rows.proofs.unite_status.Tie as tie
 
 abbrev Inv-loop : tie.InvT-loop
 Inv-loop d w memory source status₀ r₀ status r = (r ≤ d) × (earlier status (earliest (ofRows (sourceStatus w source) (stride w) (d - r) r (drop (r * stride w) memory))) ≡ earliest (ofRows (sourceStatus w source) (stride w) d 0 memory))

@@ -1,19 +1,15 @@
--- What is read of rows, gathered one by one, and a call's tests taken in two parts.
-use mathlib.Core.Path.{_≡_, refl, sym, ap, _∙_}
-use mathlib.Core.List.{List, [], _∷_, _++_}
-use Prim.Native.Nat.{ℕ, zero, suc, _+_, _-_, _*_, _≤_, _<_, min, max}
+-- What is read of rows, gathered one by one: for any reading of a row.
+use mathlib.Core.Path.{_≡_, sym, ap, _∙_}
+use mathlib.Core.List.{List}
+use Prim.Native.Nat.{ℕ, _+_, _-_, _*_, _≤_, _<_, min, max}
 use native.Mathlib.Nat.{max-zero}
-use native.Mathlib.Numerals.{add-one}
 use native.Mathlib.Omega.{arith}
-use borrow.Author.Tests.{ne-eqb}
-use lib.ListN.{length, take, drop, set, replicate, replicate-append-replicate}
-use lib.Seq.{take-suc-set}
+use lib.ListN.{drop}
 use Rattle.geometry.specs.Geometry.{stride}
-use Rattle.geometry.specs.Order.{firstOf, earlier, earliest, answerOf, finish}
-use Rattle.geometry.specs.Rows.{ofRows, leastOr, least, largest}
+use Rattle.geometry.specs.Order.{earlier, earliest}
+use Rattle.geometry.specs.Rows.{rowOf, ofRows, leastOr, least, largest}
 use Rattle.geometry.proofs.Widths.{earlier-none, earlier-assoc}
 use Rattle.geometry.proofs.Lists.{rows-read, rows-read-none, rows-read-all}
-use Rattle.meter.specs.Meter.{rowOf}
 
 module _ (f : ℕ → List ℕ → ℕ) (w : ℕ) (d r : ℕ) (memory : List ℕ) where
   pub status-turn : (s x : ℕ) → r < d → x ≡ f r (rowOf w memory r)
@@ -64,36 +60,3 @@ rows-start f w d memory = ap earliest (rows-read-all f (stride w) d memory)
 
 pub levels-start : (f : ℕ → List ℕ → ℕ) (w d : ℕ) (memory : List ℕ) → max 0 (largest (ofRows f (stride w) (d - 0) 0 (drop (0 * stride w) memory))) ≡ largest (ofRows f (stride w) d 0 memory)
 levels-start f w d memory = rw (rows-read-all f (stride w) d memory) (omega arith)
-
--- a memory of zeros, byte by byte
-pub zeros-turn : (memory : List ℕ) (i : ℕ) → i < length memory → take i memory ≡ replicate i 0 → take (i + 1) (set memory i 0) ≡ replicate (i + 1) 0
-zeros-turn memory i h e =
-    ap (λ (n : ℕ). take n (set memory i 0)) (add-one i)
-    ∙ take-suc-set memory i 0 h
-    ∙ ap (λ (l : List ℕ). l ++ (0 ∷ [])) e
-    ∙ replicate-append-replicate i 1 0
-
--- tests in checking order, one by one
-pub first-stop : (s : ℕ) (ss : List ℕ) → (s ≡ 0 → ⊥) → firstOf (s ∷ ss) ≡ s
-unfolding firstOf
-first-stop zero ss h = absurd (h refl)
-first-stop (suc s) ss h = refl
-
-pub first-skip : (s : ℕ) (ss : List ℕ) → s ≡ 0 → firstOf (s ∷ ss) ≡ firstOf ss
-unfolding firstOf
-first-skip zero ss h = refl
-first-skip (suc s) ss h = absurd (omega arith)
-
--- a call that is rejected, and one that is accepted
-pub answer-bad : (s v : ℕ) → (s ≡ 0 → ⊥) → answerOf s 0 ≡ answerOf s v
-unfolding answerOf
-answer-bad zero v h = absurd (h refl)
-answer-bad (suc s) v h = refl
-
-pub rejecting : (s t : ℕ) (after before : List ℕ) → t ≡ s → (s ≡ 0 → ⊥) → (answerOf s 0 ≡ finish t 0 after before .answer) × (before ≡ finish t 0 after before .memory)
-unfolding finish
-rejecting s t after before e h = rw (e, ne-eqb s 0 h) (refl, refl)
-
-pub accepting : (t : ℕ) (after before : List ℕ) → t ≡ 0 → (answerOf 0 0 ≡ finish t 0 after before .answer) × (after ≡ finish t 0 after before .memory)
-unfolding finish
-accepting t after before e = rw e (refl, refl)

@@ -9,12 +9,12 @@ use Rattle.group.specs.Group.{read}
 use Rattle.geometry.specs.Geometry.{stride}
 use Rattle.geometry.specs.Order.{earlier, earliest}
 use Rattle.geometry.specs.Rows.{ofRows, groupAt, least, leastOr}
-use Rattle.meter.specs.Meter.{rowOf}
+use Rattle.geometry.specs.Rows.{rowOf}
 use Rattle.geometry.proofs.Lists.{one-row}
-use Rattle.meter.proofs.Gather.{status-turn, status-end, least-start, least-turn, least-end, statuses-start}
-use Rattle.meter.proofs.Slots.{slotStatus, slotValue}
-use Rattle.meter.proofs.read_rows.Statement.{statement}
-use Rattle.meter.proofs.read_rows.Tie as tie
+use Rattle.meter_rows.proofs.Gather.{status-turn, status-end, least-start, least-turn, least-end, statuses-start}
+use Rattle.meter_rows.specs.Slots.{slotStatus, slotValue}
+use Rattle.meter_rows.proofs.read_rows.Statement.{statement}
+use Rattle.meter_rows.proofs.read_rows.Tie as tie
 
 abbrev Inv-loop : tie.InvT-loop
 Inv-loop d w memory slots status₀ value₀ r₀ status value r = (1 ≤ r) × (r ≤ d)

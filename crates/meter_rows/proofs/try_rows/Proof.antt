@@ -14,18 +14,18 @@ use Rattle.geometry.specs.Order.{earlier, earliest}
 use Rattle.geometry.specs.Rows.{groupAt, ofRows}
 use Rattle.geometry.proofs.Widths.{slot-in, group-in, earlier-none}
 use Rattle.meter_row.specs.Row.{addedIn}
-use Rattle.meter.specs.Meter.{rowOf}
-use Rattle.meter.proofs.Gather.{status-turn, status-end, rows-start}
+use Rattle.geometry.specs.Rows.{rowOf}
+use Rattle.meter_rows.proofs.Gather.{status-turn, status-end, rows-start}
 use Rattle.geometry.proofs.Lists.{one-row, filled-more}
-use Rattle.meter.proofs.Slots.{addedStatus}
-use Rattle.meter.proofs.try_rows.Statement.{statement}
-use Rattle.meter.proofs.try_rows.Tie as tie
+use Rattle.meter_rows.specs.Slots.{addedStatus, Added}
+use Rattle.meter_rows.proofs.try_rows.Statement.{statement}
+use Rattle.meter_rows.proofs.try_rows.Tie as tie
 
 -- the rows before row r are tried
 abbrev Tried : ℕ → ℕ → List ℕ → List ℕ → ℕ → List Group → ℕ → ℕ → Type 0
 Tried d w memory slots amount groups status r = (r ≤ d)
     × (earlier status (earliest (ofRows (addedStatus w slots amount) (stride w) (d - r) r (drop (r * stride w) memory))) ≡ earliest (ofRows (addedStatus w slots amount) (stride w) d 0 memory))
-    × ((z : Group) (k : ℕ) → k < r → getD groups k z ≡ addedIn w (rowOf w memory k) (getD slots k 0) amount .group)
+    × Added r w memory slots amount groups
     × (length groups ≡ 8)
 
 abbrev Inv-loop : tie.InvT-loop

@@ -3,15 +3,16 @@ use Prim.Native.Nat.{_-_, _*_, _≤_, max}
 use native.Mathlib.Omega.{arith}
 use borrow.Author.Needs.{needs}
 use Rattle.geometry.specs.Geometry.{stride}
-use Rattle.meter.specs.Meter.{rowOf, rowStatus, rowLevel}
+use Rattle.geometry.specs.Rows.{rowOf}
+use Rattle.meter_row.specs.Row.{rowStatus, rowLevel}
 use lib.ListN.{drop}
 use Rattle.geometry.specs.Order.{earlier, earliest}
 use Rattle.geometry.specs.Rows.{ofRows, largest}
 use Rattle.meter_row.specs.Row.{widestStatus, widestRow}
 use Rattle.geometry.proofs.Lists.{one-row}
-use Rattle.meter.proofs.Gather.{status-turn, status-end, level-turn, level-end, rows-start, levels-start}
-use Rattle.meter.proofs.widest_rows.Statement.{statement}
-use Rattle.meter.proofs.widest_rows.Tie as tie
+use Rattle.meter_rows.proofs.Gather.{status-turn, status-end, level-turn, level-end, rows-start, levels-start}
+use Rattle.meter_rows.proofs.widest_rows.Statement.{statement}
+use Rattle.meter_rows.proofs.widest_rows.Tie as tie
 
 abbrev Inv-loop : tie.InvT-loop
 Inv-loop d w memory status₀ value₀ r₀ status value r = (r ≤ d) × (earlier status (earliest (ofRows (rowStatus w) (stride w) (d - r) r (drop (r * stride w) memory))) ≡ earliest (ofRows (rowStatus w) (stride w) d 0 memory))

@@ -8,9 +8,9 @@ use lib.ListN.{length}
 use Rattle.group.specs.declared.Group.{Group}
 use Rattle.geometry.specs.Rows.{mapRows}
 use Rattle.geometry.proofs.Lists.{one-row, lent, rowsFrom, rows-start, rows-turn, rows-end}
-use Rattle.meter.proofs.Slots.{groupStored, stored-added}
-use Rattle.meter.proofs.update_rows.Statement.{statement}
-use Rattle.meter.proofs.update_rows.Tie as tie
+use Rattle.meter_rows.proofs.Stored.{groupStored, stored-added}
+use Rattle.meter_rows.proofs.update_rows.Statement.{statement}
+use Rattle.meter_rows.proofs.update_rows.Tie as tie
 
 -- what stands for an element that is not there
 abbrev none : Group
@@ -110,7 +110,7 @@ returns-2 c = let l = c .before .loop in
       sym (rows-end (groupStored (a .w) (a .slots .now) (t .result .groups) none) (stride .result) (a .d) (l .r) (l .memory) (omega arith))
           ∙ l .inv .1
           ∙ ap (λ (s : ℕ). mapRows (groupStored (a .w) (a .slots .now) (t .result .groups) none) s (a .d) 0 (a .memory .now)) (stride .ensures)
-          ∙ stored-added (a .d) (a .w) (a .memory .now) (a .slots .now) (a .amount) (t .result .groups) none (t .ensures .1 none),
+          ∙ stored-added (a .d) (a .w) (a .memory .now) (a .slots .now) (a .amount) (t .result .groups) none (t .ensures .1),
     )
 
 pub update-rows-spec : {M : Type 1} → statement M
