@@ -1,4 +1,4 @@
--- A meter's depth d and width w, and the length of its memory. Document 01, 'Rows, groups and blocks'.
+-- A meter's depth d and width w, and the length of its memory. Document 01, 'Rows, groups and blocks'. Cited by contracts.
 use Prim.Native.Nat.{ℕ, zero, suc, _+_, _-_, _*_, _/_, _≤_, _<_}
 use mathlib.Core.Path.{_≡_}
 use mathlib.Core.Bool.{Bool, true, false, _&&_, _||_}

@@ -1,4 +1,4 @@
--- The order of rejections. Document 01, 'Turned away, in checking order'. A status of 0 says that no line applies.
+-- The order of rejections. Document 01, 'Turned away, in checking order'. A status of 0 says that no line applies. Cited by contracts.
 use Prim.Native.Nat.{ℕ, zero, suc, min}
 use mathlib.Core.Bool.{Bool, cond, _&&_}
 use mathlib.Core.List.{List, [], _∷_}

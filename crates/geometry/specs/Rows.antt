@@ -1,8 +1,13 @@
--- Where rows and groups lie in a meter's memory. Document 01, 'Rows, groups and blocks' and 'Where a key lands'.
+-- Where rows and groups lie in a meter's memory. Document 01, 'Rows, groups and blocks' and 'Where a key lands'. Cited by contracts.
 use Prim.Native.Nat.{ℕ, zero, suc, _+_, _*_, min, max}
 use mathlib.Core.List.{List, [], _∷_, _++_}
 use lib.ListN.{getD, take, drop, set}
 use Rattle.group.specs.declared.Group.{Group}
+use Rattle.geometry.specs.Geometry.{stride}
+
+-- row r of a memory
+unfoldable pub rowOf : ℕ → List ℕ → ℕ → List ℕ
+rowOf w memory r = take (stride w) (drop (r * stride w) memory)
 
 -- What f makes of each of n rows of `stride` bytes, the first of which is row r. Bytes after the last row stay.
 unfoldable pub mapRows : (ℕ → List ℕ → List ℕ) → ℕ → ℕ → ℕ → List ℕ → List ℕ

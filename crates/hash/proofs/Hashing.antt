@@ -10,14 +10,15 @@ use lib.ListN.{length, getD, drop, drop-of-length-le}
 use lib.Seq.{drop-cons}
 use Rattle.hash.specs.Hash.{fnvStep, fnv, slotOf}
 
--- a run goes on from the state that the bytes before left
-pub fnv-more : (h : ℕ) (s : List ℕ) (i : ℕ) → i < length s → fnv h (drop i s) ≡ fnv (fnvStep h (getD s i 0)) (drop (i + 1) s)
-unfolding fnv
-fnv-more h s i k = rw (drop-cons s i 0, add-one)
+-- A run of a hash, alone or beside others: what is left of the bytes goes on from the state that those before left. One byte more, and the end.
+module _ (s : List ℕ) (i x t : ℕ) (inv : fnv x (drop i s) ≡ t) where
+  pub run-turn : (y : ℕ) → i < length s → y ≡ fnvStep x (getD s i 0) → fnv y (drop (i + 1) s) ≡ t
+  unfolding fnv
+  run-turn y h e = rw (e, add-one i) (rw (drop-cons s i 0 h) at inv)
 
-pub fnv-end : (h : ℕ) (s : List ℕ) (i : ℕ) → length s ≤ i → fnv h (drop i s) ≡ h
-unfolding fnv
-fnv-end h s i k = rw drop-of-length-le
+  pub run-end : length s ≤ i → x ≡ t
+  unfolding fnv
+  run-end h = rw (drop-of-length-le s h) at inv
 
 -- a width that divides 2 ^ 32 has its slots below it
 none : (q w : ℕ) → q * w ≡ 2 ^ 32 → q ≡ 0 → ⊥

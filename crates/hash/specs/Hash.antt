@@ -1,4 +1,4 @@
--- FNV-1a of 32 bits, and the slot of a hash. Document 01, 'Where a key lands'.
+-- FNV-1a of 32 bits, and the slot of a hash. Document 01, 'Where a key lands'. Cited by contracts.
 use Prim.Native.Nat.{ℕ, _*_, _/_, _%_, _^_}
 use mathlib.Core.List.{List, [], _∷_}
 use lib.Bits.{bitXor}
@@ -16,9 +16,9 @@ unfoldable pub fnv : ℕ → List ℕ → ℕ
 fnv h [] = h
 fnv h (b ∷ bs) = fnv (fnvStep h b) bs
 
--- the hash of a key in a row: the row number as one byte, then the key
-unfoldable pub rowHash : ℕ → List ℕ → ℕ
-rowHash row key = fnv basis (row ∷ key)
+-- the hash of a key in a row, gone on from a state: the row number as one byte, then the key
+abbrev pub rowHash : ℕ → ℕ → List ℕ → ℕ
+rowHash state row key = fnv state (row ∷ key)
 
 -- the slot of a hash in a row of w slots
 unfoldable pub slotOf : ℕ → ℕ → ℕ

@@ -35,14 +35,13 @@ impl Hash {
         }
         h
     }
-}
 
-// The hash of a key in a row.
-pub fn row_hash(row: u8, key: &[u8]) -> u32
-    ensures { λ r. ⌜ r ≡ rowHash row (now (key .entry)) ⌝ }
-{
-    let h = Hash::start().step(row).run(key);
-    h.state
+    // The hash of a key in a row, gone on from this state.
+    pub fn in_row(self, row: u8, key: &[u8]) -> Hash
+        ensures { λ r. ⌜ r .state ≡ rowHash (self .state) row (now (key .entry)) ⌝ }
+    {
+        self.step(row).run(key)
+    }
 }
 
 // The slot of a hash in a row of w slots.

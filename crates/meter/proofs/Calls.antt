@@ -15,7 +15,7 @@ use Rattle.geometry.specs.Rows.{mapRows, ofRows, least, largest}
 use Rattle.meter_row.specs.Row.{updateStatus, updateRow}
 use Rattle.geometry.proofs.Widths.{shape-good, first-rest, first-part, first-one}
 use Rattle.meter.specs.Meter.{badCall, cleared, updated, readStatus, readValue, estimated, rowStatus, rowLevel, widest, sourceStatus, sourceAdded, united}
-use Rattle.meter.proofs.Gather.{first-stop, first-skip, answer-bad, rejecting, accepting}
+use Rattle.meter.proofs.Tests.{first-stop, first-skip, answer-bad, rejecting, accepting}
 
 -- a call with a key: its shape comes first
 pub call-shape-bad : (d w : ℕ) (memory key : List ℕ) → (badShape d w (length memory) ≡ 0 → ⊥) → badShape d w (length memory) ≡ badCall d w memory key

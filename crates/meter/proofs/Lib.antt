@@ -1,4 +1,4 @@
-pub mod Gather
+pub mod Tests
 pub mod Slots
 pub mod Calls
 pub mod Memory

@@ -10,7 +10,7 @@ use borrow.Author.Tests.{eqb-true}
 use lib.Dec.{eqb}
 use lib.ListN.{length, getD, take, drop, replicate, length-replicate}
 use lib.Seq.{drop-drop, getD-take, getD-drop}
-use Rattle.group_layout.specs.Layout.{valid, ones}
+use Rattle.group_side.proofs.Unions.{unmerged-valid}
 use lib.Bits.{bitXor}
 use Rattle.hash.specs.Hash.{basis, fnv, fnvStep}
 use Rattle.hash.proofs.Hashing.{slot-lt}
@@ -262,7 +262,7 @@ unfolding cleared finish
 clear-tests d w memory e = sym (status-is _ 0) ∙ e
 
 pub clear-valid : (d w : ℕ) (memory : List ℕ) → cleared d w memory .answer .status ≡ 0 → Valid d w (cleared d w memory .memory)
-unfolding groupAt rowOf valid ones
+unfolding groupAt rowOf
 clear-valid d w memory e =
     let shape = clear-tests d w memory e in
     let s = shape-good d w (length memory) shape in
@@ -276,5 +276,6 @@ clear-valid d w memory e =
             getD-take {A = ℕ} (stride w) (drop (r * stride w) (replicate (length memory) 0)) (w + g) 0 (group-in w g (s .1 .0) k .1),
             getD-drop {A = ℕ} (r * stride w) (replicate (length memory) 0) (w + g) 0,
             zero-at (length memory) (r * stride w + (w + g)),
-          );
+          )
+          unmerged-valid;
     })

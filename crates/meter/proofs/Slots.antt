@@ -15,36 +15,9 @@ use Rattle.geometry.specs.Rows.{mapRows, ofRows, groupAt, withGroup, leastOr, l
 use Rattle.meter_keys.specs.Keys.{keySlot}
 use Rattle.meter_row.specs.Row.{addedIn, updateStatus, updateRow, readRow}
 use Rattle.geometry.proofs.Widths.{earlier-none}
-use Rattle.meter.specs.Meter.{rowOf, readStatus, readValue}
-
--- two functions that agree on each of the rows read and write the same
-module _ (s : ℕ) where
-  later : {A : Type 0} (f g : ℕ → List ℕ → A) (n r : ℕ) (memory : List ℕ)
-      → ((k : ℕ) → k < suc n → f (r + k) (take s (drop (k * s) memory)) ≡ g (r + k) (take s (drop (k * s) memory)))
-      → (k : ℕ) → k < n → f (r + 1 + k) (take s (drop (k * s) (drop s memory))) ≡ g (r + 1 + k) (take s (drop (k * s) (drop s memory)))
-  later f g n r memory h k l =
-      let at : suc k * s ≡ s + k * s = omega (arith, suc-mul k s) in
-      let index : r + suc k ≡ r + 1 + k = omega arith in
-      rw (drop-drop (k * s) s memory, ← at, ← index) (h (suc k) (omega arith))
-
-  first : {A : Type 0} (f g : ℕ → List ℕ → A) (n r : ℕ) (memory : List ℕ)
-      → ((k : ℕ) → k < suc n → f (r + k) (take s (drop (k * s) memory)) ≡ g (r + k) (take s (drop (k * s) memory)))
-      → f r (take s memory) ≡ g r (take s memory)
-  first f g n r memory h = rw (zero-mul s, add-zero r) at (h 0 (omega arith))
-
-  reads-same : (f g : ℕ → List ℕ → ℕ) (n r : ℕ) (memory : List ℕ)
-      → ((k : ℕ) → k < n → f (r + k) (take s (drop (k * s) memory)) ≡ g (r + k) (take s (drop (k * s) memory)))
-      → ofRows f s n r memory ≡ ofRows g s n r memory
-  unfolding ofRows
-  reads-same f g zero r memory h = refl
-  reads-same f g (suc n) r memory h = ap₂ _∷_ (first f g n r memory h) (reads-same f g n (r + 1) (drop s memory) (later f g n r memory h))
-
-  maps-same : (f g : ℕ → List ℕ → List ℕ) (n r : ℕ) (memory : List ℕ)
-      → ((k : ℕ) → k < n → f (r + k) (take s (drop (k * s) memory)) ≡ g (r + k) (take s (drop (k * s) memory)))
-      → mapRows f s n r memory ≡ mapRows g s n r memory
-  unfolding mapRows
-  maps-same f g zero r memory h = refl
-  maps-same f g (suc n) r memory h = ap₂ _++_ (first f g n r memory h) (maps-same f g n (r + 1) (drop s memory) (later f g n r memory h))
+use Rattle.meter_rows.specs.Slots.{addedStatus, slotAdded, slotStatus, slotValue}
+use Rattle.meter_rows.proofs.Stored.{reads-same, maps-same}
+use Rattle.meter.specs.Meter.{readStatus, readValue}
 
 -- a memory of one row
 pub one-read : (f : ℕ → List ℕ → ℕ) (s : ℕ) (memory : List ℕ) → length memory ≡ s → ofRows f s 1 0 memory ≡ f 0 memory ∷ []
@@ -54,33 +27,6 @@ one-read f s memory l = rw (take-all s memory (omega arith))
 pub one-map : (f : ℕ → List ℕ → List ℕ) (s : ℕ) (memory : List ℕ) → length memory ≡ s → mapRows f s 1 0 memory ≡ f 0 memory
 unfolding mapRows
 one-map f s memory l = rw (take-all s memory (omega arith), drop-of-length-le memory {i = s} (omega arith)) (append-nil (f 0 memory))
-
--- what an update and an estimate read of a row by its slot, and what an update leaves of it
-abbrev pub addedStatus : ℕ → List ℕ → ℕ → ℕ → List ℕ → ℕ
-addedStatus w slots amount r row = addedIn w row (getD slots r 0) amount .status
-
-abbrev pub slotStatus : ℕ → List ℕ → ℕ → List ℕ → ℕ
-slotStatus w slots r row = read (groupAt w row (getD slots r 0 / 8)) (getD slots r 0) .status
-
-abbrev pub slotValue : ℕ → List ℕ → ℕ → List ℕ → ℕ
-slotValue w slots r row = read (groupAt w row (getD slots r 0 / 8)) (getD slots r 0) .value
-
-abbrev pub groupAdded : ℕ → List ℕ → ℕ → ℕ → List ℕ → List ℕ
-groupAdded w slots amount r row = withGroup w row (getD slots r 0 / 8) (addedIn w row (getD slots r 0) amount .group)
-
-abbrev pub groupStored : ℕ → List ℕ → List Group → Group → ℕ → List ℕ → List ℕ
-groupStored w slots groups z r row = withGroup w row (getD slots r 0 / 8) (getD groups r z)
-
--- groups that were added to before any was stored
-pub stored-added : (d w : ℕ) (memory slots : List ℕ) (amount : ℕ) (groups : List Group) (z : Group)
-    → ((r : ℕ) → r < d → getD groups r z ≡ addedIn w (rowOf w memory r) (getD slots r 0) amount .group)
-    → mapRows (groupStored w slots groups z) (stride w) d 0 memory ≡ mapRows (groupAdded w slots amount) (stride w) d 0 memory
-unfolding rowOf
-stored-added d w memory slots amount groups z tried =
-    maps-same (stride w) (groupStored w slots groups z) (groupAdded w slots amount) d 0 memory
-    (λ k h.
-    let index : 0 + k ≡ k = zero-add k in
-    rw index (ap (λ (g : Group). withGroup w (take (stride w) (drop (k * stride w) memory)) (getD slots k 0 / 8) g) (tried k h)))
 
 module _ (d w : ℕ) (memory key slots : List ℕ) {state : ℕ} (start : state ≡ basis) (are : (r : ℕ) → r < d → getD slots r 0 ≡ keySlot state w key r) where
   slot-at : (k : ℕ) → k < d → getD slots (0 + k) 0 ≡ keySlot basis w key (0 + k)
@@ -106,10 +52,10 @@ module _ (d w : ℕ) (memory key slots : List ℕ) {state : ℕ} (start : state 
       (λ k h. ap (λ (s : ℕ). read (groupAt w (take (stride w) (drop (k * stride w) memory)) (s / 8)) s .value) (slot-at k h)))
 
   pub added-by-key : (amount : ℕ)
-      → mapRows (groupAdded w slots amount) (stride w) d 0 memory ≡ mapRows (updateRow basis w key amount) (stride w) d 0 memory
+      → mapRows (slotAdded w slots amount) (stride w) d 0 memory ≡ mapRows (updateRow basis w key amount) (stride w) d 0 memory
   unfolding updateRow
   added-by-key amount =
-      maps-same (stride w) (groupAdded w slots amount) (updateRow basis w key amount) d 0 memory
+      maps-same (stride w) (slotAdded w slots amount) (updateRow basis w key amount) d 0 memory
       (λ k h.
       let row = take (stride w) (drop (k * stride w) memory) in
       ap (λ (s : ℕ). withGroup w row (s / 8) (addedIn w row s amount .group)) (slot-at k h))

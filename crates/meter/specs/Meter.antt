@@ -1,13 +1,16 @@
--- A meter's calls. Document 01, 'Updating, asking, uniting' and 'Turned away, in checking order'.
-use Prim.Native.Nat.{ℕ, _*_}
+-- A meter's calls. Document 01, 'Updating, asking, uniting' and 'Turned away, in checking order'. Cited by contracts and theorems.
+use Prim.Native.Nat.{ℕ}
 use mathlib.Core.List.{List, [], _∷_}
-use lib.ListN.{length, take, drop, replicate}
+use lib.ListN.{length, replicate}
 use Rattle.group.specs.declared.Answer.{Answer}
 use Rattle.hash.specs.Hash.{basis}
 use Rattle.geometry.specs.Geometry.{stride}
 use Rattle.geometry.specs.Order.{firstOf, earliest, badDepth, badWidth, badLength, badShape, badKey, answerOf, Done, finish}
 use Rattle.geometry.specs.Rows.{mapRows, ofRows, least, largest}
-use Rattle.meter_row.specs.Row.{updateStatus, updateRow, readRow, widestStatus, widestRow, uniteStatus, uniteRow}
+use Rattle.meter_row.specs.Row.{updateStatus, updateRow, readRow}
+pub use Rattle.meter_row.specs.Row.{rowStatus, rowLevel}
+unfoldable pub use Rattle.meter_row.specs.Row.{sourceStatus, sourceAdded}
+unfoldable pub use Rattle.geometry.specs.Rows.{rowOf}
 
 -- Clearing reads nothing and sets every byte to 0.
 unfoldable pub cleared : ℕ → ℕ → List ℕ → Done
@@ -36,27 +39,12 @@ estimated d w memory key =
     (least (ofRows (readValue w key) (stride w) d 0 memory))
 
 -- The widest level is the largest level of any counter in the meter.
-abbrev pub rowStatus : ℕ → ℕ → List ℕ → ℕ
-rowStatus w r row = widestStatus w row
-
-abbrev pub rowLevel : ℕ → ℕ → List ℕ → ℕ
-rowLevel w r row = widestRow w row
-
 unfoldable pub widest : ℕ → ℕ → List ℕ → Answer
 widest d w memory =
     answerOf (firstOf (badShape d w (length memory) ∷ earliest (ofRows (rowStatus w) (stride w) d 0 memory) ∷ []))
     (largest (ofRows (rowLevel w) (stride w) d 0 memory))
 
 -- A union adds a source meter into a target meter, row by row. The source is only read.
-unfoldable pub rowOf : ℕ → List ℕ → ℕ → List ℕ
-rowOf w memory r = take (stride w) (drop (r * stride w) memory)
-
-unfoldable pub sourceStatus : ℕ → List ℕ → ℕ → List ℕ → ℕ
-sourceStatus w source r row = uniteStatus w (rowOf w source r) row
-
-unfoldable pub sourceAdded : ℕ → List ℕ → ℕ → List ℕ → List ℕ
-sourceAdded w source r row = uniteRow w (rowOf w source r) row
-
 unfoldable pub united : ℕ → ℕ → List ℕ → List ℕ → Done
 united d w memory source =
     finish (firstOf (badShape d w (length memory) ∷ badLength d w (length source) ∷ earliest (ofRows (sourceStatus w source) (stride w) d 0 memory) ∷ []))

@@ -4,7 +4,7 @@ use mathlib.Core.Path.{_≡_}
 use mathlib.Core.Bool.{true}
 use mathlib.Core.List.{List}
 use lib.ListN.{length}
-use Rattle.group_layout.specs.Layout.{valid}
+use Rattle.group.specs.Group.{validMerge}
 use Rattle.geometry.specs.Geometry.{RowsIn}
 use Rattle.geometry.specs.Rows.{groupAt}
 use Rattle.meter.specs.Meter.{rowOf}
@@ -13,4 +13,4 @@ use Rattle.meter.specs.Meter.{rowOf}
 pub record Valid (d w : ℕ) (memory : List ℕ) : Type 0 where
   pub some : 1 ≤ d
   pub rows : RowsIn d w (length memory)
-  pub merges : (r g : ℕ) → r < d → g < w / 8 → valid 3 (groupAt w (rowOf w memory r) g .merge) ≡ true
+  pub merges : (r g : ℕ) → r < d → g < w / 8 → validMerge (groupAt w (rowOf w memory r) g .merge) ≡ true

@@ -1,20 +1,11 @@
--- Laws of a key's hashes and slots, row by row.
-use mathlib.Core.Path.{_≡_, sym, ap, _∙_}
+-- Laws of a key's slots, row by row.
+use mathlib.Core.Path.{_≡_, ap, _∙_}
 use mathlib.Core.List.{List, [], _∷_}
-use Prim.Native.Nat.{ℕ, zero, suc, _+_, _≤_, _<_}
+use Prim.Native.Nat.{ℕ, zero, suc, _<_}
 use native.Mathlib.Omega.{arith}
-use lib.ListN.{length, getD, drop}
+use lib.ListN.{getD}
 use Rattle.hash.specs.Hash.{fnvStep, fnv, slotOf}
-use Rattle.hash.proofs.Hashing.{fnv-more, fnv-end}
 use Rattle.meter_keys.specs.Keys.{keySlot}
-
--- one of several hashes, a byte further and at the end
-module _ (s : List ℕ) (i x t : ℕ) (inv : fnv x (drop i s) ≡ t) where
-  pub lane-turn : (y : ℕ) → i < length s → y ≡ fnvStep x (getD s i 0) → fnv y (drop (i + 1) s) ≡ t
-  lane-turn y h e = rw e (sym (fnv-more x s i h) ∙ inv)
-
-  pub lane-end : length s ≤ i → x ≡ t
-  lane-end h = sym (fnv-end x s i h) ∙ inv
 
 -- the slot of a hash that took the row number and then the key
 pub lane-slot : (state w : ℕ) (key : List ℕ) (r : ℕ) {s x y : ℕ} → s ≡ slotOf x w → x ≡ fnv y key → y ≡ fnvStep state r → s ≡ keySlot state w key r

@@ -1,8 +1,8 @@
--- Where a key lands in a row. Document 01, 'Where a key lands'.
+-- Where a key lands in a row. Document 01, 'Where a key lands'. Cited by contracts.
 use Prim.Native.Nat.{ℕ}
-use mathlib.Core.List.{List, _∷_}
-use Rattle.hash.specs.Hash.{fnv, slotOf}
+use mathlib.Core.List.{List}
+use Rattle.hash.specs.Hash.{rowHash, slotOf}
 
--- the slot of a key in row r: the hash goes on from a state with the row number as one byte, then the key
+-- the slot of a key in row r, by a hash that goes on from a state
 unfoldable pub keySlot : ℕ → ℕ → List ℕ → ℕ → ℕ
-keySlot state w key r = slotOf (fnv state (r ∷ key)) w
+keySlot state w key r = slotOf (rowHash state r key) w

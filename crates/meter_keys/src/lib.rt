@@ -69,7 +69,7 @@ pub fn row_slot(start: Hash, w: usize, key: &[u8], r: u8) -> usize
     ensures { λ s. ⌜ s ≡ keySlot (start .state) w (now (key .entry)) r ⌝ }
     ensures { λ s. ⌜ s < w ⌝ }
 {
-    let h = start.step(r).run(key);
+    let h = start.in_row(r, key);
     hash::scaled(h.state, w)
 }
 

@@ -1,3 +1,2 @@
-pub mod Unmerged
+pub mod Runs
 pub mod Unions
-pub mod Bytewise

@@ -1,4 +1,4 @@
--- What a meter's calls do in one row of w slots. Document 01, 'Where a key lands' and 'Updating, asking, uniting'.
+-- What a meter's calls do in one row of w slots. Document 01, 'Where a key lands' and 'Updating, asking, uniting'. Cited by contracts.
 use Prim.Native.Nat.{ℕ, zero, suc, _+_, _/_}
 use mathlib.Core.List.{List}
 use Rattle.group.specs.declared.Outcome.{Outcome}
@@ -6,17 +6,20 @@ use Rattle.group.specs.declared.Reading.{Reading}
 use Rattle.group.specs.Group.{read, added, united, widestOf}
 use Rattle.meter_keys.specs.Keys.{keySlot}
 use Rattle.geometry.specs.Order.{earliest}
-use Rattle.geometry.specs.Rows.{groupAt, withGroup, ofGroups, largest}
+use Rattle.geometry.specs.Rows.{rowOf, groupAt, withGroup, ofGroups, largest}
 
 -- an update adds an amount in the group of the key's slot
 unfoldable pub addedIn : ℕ → List ℕ → ℕ → ℕ → Outcome
 addedIn w row slot amount = added (groupAt w row (slot / 8)) slot amount
 
+abbrev pub addedRow : ℕ → List ℕ → ℕ → ℕ → List ℕ
+addedRow w row slot amount = withGroup w row (slot / 8) (addedIn w row slot amount .group)
+
 unfoldable pub updateStatus : ℕ → ℕ → List ℕ → ℕ → ℕ → List ℕ → ℕ
 updateStatus state w key amount r row = addedIn w row (keySlot state w key r) amount .status
 
 unfoldable pub updateRow : ℕ → ℕ → List ℕ → ℕ → ℕ → List ℕ → List ℕ
-updateRow state w key amount r row = withGroup w row (keySlot state w key r / 8) (addedIn w row (keySlot state w key r) amount .group)
+updateRow state w key amount r row = addedRow w row (keySlot state w key r) amount
 
 -- an estimate reads the counter of the key's slot
 unfoldable pub readRow : ℕ → ℕ → List ℕ → ℕ → List ℕ → Reading
@@ -35,6 +38,12 @@ widestStatus w row = earliest (ofGroups (levelStatus w row) (w / 8) 0)
 unfoldable pub widestRow : ℕ → List ℕ → ℕ
 widestRow w row = largest (ofGroups (levelAt w row) (w / 8) 0)
 
+abbrev pub rowStatus : ℕ → ℕ → List ℕ → ℕ
+rowStatus w r row = widestStatus w row
+
+abbrev pub rowLevel : ℕ → ℕ → List ℕ → ℕ
+rowLevel w r row = widestRow w row
+
 -- a union adds each group of a source row to the same group of the row
 unfoldable pub unitedAt : ℕ → List ℕ → List ℕ → ℕ → Outcome
 unitedAt w source row g = united (groupAt w row g) (groupAt w source g)
@@ -51,3 +60,10 @@ uniteGroups w source (suc n) g row = uniteGroups w source n (g + 1) (withGroup w
 
 unfoldable pub uniteRow : ℕ → List ℕ → List ℕ → List ℕ
 uniteRow w source row = uniteGroups w source (w / 8) 0 row
+
+-- row r of a source added to that row
+unfoldable pub sourceStatus : ℕ → List ℕ → ℕ → List ℕ → ℕ
+sourceStatus w source r row = uniteStatus w (rowOf w source r) row
+
+unfoldable pub sourceAdded : ℕ → List ℕ → ℕ → List ℕ → List ℕ
+sourceAdded w source r row = uniteRow w (rowOf w source r) row

@@ -10,13 +10,14 @@ ghost use mathlib.Core.Path.{_≡_};
 ghost use mathlib.Core.Bool.{true, cond};
 ghost use Prim.Native.Nat.{ℕ, _+_, _*_, _/_, _<_, _≤_, max};
 ghost use lib.Dec.{eqb};
-ghost use lib.ListN.{length, getD, take, drop};
+ghost use lib.ListN.{length};
 ghost use Rattle.geometry.specs.Geometry.{validWidth};
 ghost use Rattle.geometry.specs.Geometry as geometry;
 ghost use Rattle.geometry.specs.Order as order;
 ghost use Rattle.geometry.specs.Rows.{groupAt, withGroup};
 ghost use Rattle.group.specs.Group.{read};
-ghost use Rattle.meter_row.specs.Row.{addedIn, widestStatus, widestRow, unitedAt, uniteStatus, uniteGroups, uniteRow};
+ghost use Rattle.meter_row.specs.Runs.{noneMerged, sideBySide};
+ghost use Rattle.meter_row.specs.Row.{addedIn, addedRow, widestStatus, widestRow, unitedAt, uniteStatus, uniteGroups, uniteRow};
 
 // An update of a row: the group of a slot stored.
 pub fn update_row(row: &mut [u8], w: usize, slot: usize, x: Group)
@@ -30,7 +31,7 @@ pub fn update_row(row: &mut [u8], w: usize, slot: usize, x: Group)
 pub fn update_one(row: &mut [u8], w: usize, slot: usize, amount: u32) -> u8
     requires { ⌜ validWidth w ≡ true ⌝ ∗ ⌜ length (now row) ≡ geometry.stride w ⌝ ∗ ⌜ slot < w ⌝ }
     ensures { λ s. ⌜ s ≡ addedIn w (now (row .entry)) slot amount .status ⌝ }
-    ensures { λ s. ⌜ now (row .exit) ≡ cond (eqb s 0) (withGroup w (now (row .entry)) (slot / 8) (addedIn w (now (row .entry)) slot amount .group)) (now (row .entry)) ⌝ }
+    ensures { λ s. ⌜ now (row .exit) ≡ cond (eqb s 0) (addedRow w (now (row .entry)) slot amount) (now (row .entry)) ⌝ }
 {
     let x = load(row, w, slot / 8);
     let s = group::add_in_place(x, slot, amount);
@@ -64,7 +65,8 @@ pub fn read_row(row: &[u8], w: usize, slot: usize) -> Reading
     group::counter(load(row, w, slot / 8), slot)
 }
 
-fn larger(a: u64, b: u64) -> u64
+// The larger of two numbers.
+pub fn larger(a: u64, b: u64) -> u64
     ensures { λ r. ⌜ r ≡ max a b ⌝ }
 {
     if a < b { b } else { a }
@@ -98,16 +100,17 @@ fn united_at(row: &[u8], source: &[u8], w: usize, g: usize) -> Outcome
     group::unite(load(row, w, g), load(source, w, g))
 }
 
-// Whether none of n groups is merged, the first of which is group `first`. All merge bytes are taken together, with no test on the way.
-fn is_unmerged(row: &[u8], w: usize, first: usize, n: usize) -> bool
-    requires { ⌜ w + (first + n) ≤ length (now row) ⌝ }
-    ensures { λ r. ⌜ (r ≡ true → (g : ℕ) → first ≤ g → g < first + n → getD (now (row .entry)) (w + g) 0 ≡ 0) ⌝ }
+// Whether none of n groups is merged in either of two rows, the first of which is group `first`.
+fn none_merged(row: &[u8], source: &[u8], w: usize, first: usize, n: usize) -> bool
+    requires { ⌜ w + (first + n) ≤ length (now row) ⌝ ∗ ⌜ w + (first + n) ≤ length (now source) ⌝ }
+    ensures { λ r. ⌜ r ≡ noneMerged w n first (now (row .entry)) (now (source .entry)) ⌝ }
 {
-    let mut any = 0u8;
-    for g in first..first + n {
-        any = any | row[w + g];
+    let start = w + first;
+    let end = start + n;
+    if group_side::any_merged(&row[start..end]) {
+        return false;
     }
-    any == 0
+    !group_side::any_merged(&source[start..end])
 }
 
 // Whether a row takes a source row. Unmerged groups do.
@@ -115,10 +118,8 @@ pub fn unite_status(row: &[u8], source: &[u8], w: usize) -> u8
     requires { ⌜ validWidth w ≡ true ⌝ ∗ ⌜ length (now row) ≡ geometry.stride w ⌝ ∗ ⌜ length (now source) ≡ geometry.stride w ⌝ }
     ensures { λ r. ⌜ r ≡ uniteStatus w (now (source .entry)) (now (row .entry)) ⌝ }
 {
-    if is_unmerged(row, w, 0, w / 8) {
-        if is_unmerged(source, w, 0, w / 8) {
-            return 0;
-        }
+    if none_merged(row, source, w, 0, w / 8) {
+        return 0;
     }
     merged_status(row, source, w)
 }
@@ -135,51 +136,6 @@ fn merged_status(row: &[u8], source: &[u8], w: usize) -> u8
     status
 }
 
-// What the sum of two bytes carries: 1 where it passes 255.
-fn carry(a: u8, b: u8) -> u8
-    ensures { λ r. ⌜ r ≡ (a + b) / 256 ⌝ }
-{
-    if 255 - a < b { 1 } else { 0 }
-}
-
-// Whether no sum of two bytes passes 255 in 64 slots, the first of which is slot `at`. Of loops of 64 turns with no test the compiler
-// makes vector code.
-fn no_carry(row: &[u8], source: &[u8], at: usize) -> bool
-    requires { ⌜ at + 64 ≤ length (now row) ⌝ ∗ ⌜ at + 64 ≤ length (now source) ⌝ }
-    ensures { λ r. ⌜ (r ≡ true → (i : ℕ) → at ≤ i → i < at + 64 → getD (now (row .entry)) i 0 + getD (now (source .entry)) i 0 < 256) ⌝ }
-{
-    let mut carries = 0u8;
-    for i in 0..64 {
-        carries = carries | carry(row[at + i], source[at + i]);
-    }
-    carries == 0
-}
-
-// The bytes of a source row added to those of a row in 64 slots.
-fn add_bytes(row: &mut [u8], source: &[u8], at: usize)
-    requires { ⌜ at + 64 ≤ length (now row) ⌝ ∗ ⌜ at + 64 ≤ length (now source) ⌝ ∗ ⌜ ((i : ℕ) → at ≤ i → i < at + 64 → getD (now row) i 0 + getD (now source) i 0 < 256) ⌝ }
-    ensures { λ _. ⌜ ((i : ℕ) → at ≤ i → i < at + 64 → getD (now (row .exit)) i 0 ≡ getD (now (row .entry)) i 0 + getD (now (source .entry)) i 0) ⌝ }
-    ensures { λ _. ⌜ take at (now (row .exit)) ≡ take at (now (row .entry)) ⌝ }
-    ensures { λ _. ⌜ drop (at + 64) (now (row .exit)) ≡ drop (at + 64) (now (row .entry)) ⌝ }
-{
-    for i in 0..64 {
-        row[at + i] = row[at + i] + source[at + i];
-    }
-}
-
-// Whether the union of eight groups is made byte by byte: no group is merged, and none will be.
-fn is_plain(row: &[u8], source: &[u8], w: usize, first: usize) -> bool
-    requires { ⌜ 8 * (first + 8) ≤ w ⌝ ∗ ⌜ w + (first + 8) ≤ length (now row) ⌝ ∗ ⌜ w + (first + 8) ≤ length (now source) ⌝ }
-    ensures { λ r. ⌜ (r ≡ true → ((g : ℕ) → first ≤ g → g < first + 8 → getD (now (row .entry)) (w + g) 0 ≡ 0) × ((g : ℕ) → first ≤ g → g < first + 8 → getD (now (source .entry)) (w + g) 0 ≡ 0) × ((i : ℕ) → 8 * first ≤ i → i < 8 * first + 64 → getD (now (row .entry)) i 0 + getD (now (source .entry)) i 0 < 256)) ⌝ }
-{
-    if is_unmerged(row, w, first, 8) {
-        if is_unmerged(source, w, first, 8) {
-            return no_carry(row, source, 8 * first);
-        }
-    }
-    false
-}
-
 // n groups of a source row added into a row one by one, the first of which is group `first`.
 fn unite_groups(row: &mut [u8], source: &[u8], w: usize, first: usize, n: usize)
     requires { ⌜ 8 * (first + n) ≤ w ⌝ ∗ ⌜ w + (first + n) ≤ length (now row) ⌝ ∗ ⌜ w + (first + n) ≤ length (now source) ⌝ }
@@ -192,16 +148,29 @@ fn unite_groups(row: &mut [u8], source: &[u8], w: usize, first: usize, n: usize)
     }
 }
 
+// Eight groups of a source row added into a row side by side, if none is merged in either row and none of the unions is.
+fn unite_side(row: &mut [u8], source: &[u8], w: usize, first: usize) -> bool
+    requires { ⌜ 8 * (first + 8) ≤ w ⌝ ∗ ⌜ w + (first + 8) ≤ length (now row) ⌝ ∗ ⌜ w + (first + 8) ≤ length (now source) ⌝ }
+    ensures { λ r. ⌜ r ≡ sideBySide w 8 first (now (row .entry)) (now (source .entry)) ⌝ }
+    ensures { λ r. ⌜ now (row .exit) ≡ cond r (uniteGroups w (now (source .entry)) 8 first (now (row .entry))) (now (row .entry)) ⌝ }
+{
+    if !none_merged(row, source, w, first, 8) {
+        return false;
+    }
+    let start = 8 * first;
+    let end = start + 64;
+    group_side::unite(&mut row[start..end], &source[start..end])
+}
+
 // Eight groups of a source row added into a row.
 fn unite_eight(row: &mut [u8], source: &[u8], w: usize, first: usize)
     requires { ⌜ 8 * (first + 8) ≤ w ⌝ ∗ ⌜ w + (first + 8) ≤ length (now row) ⌝ ∗ ⌜ w + (first + 8) ≤ length (now source) ⌝ }
     ensures { λ _. ⌜ now (row .exit) ≡ uniteGroups w (now (source .entry)) 8 first (now (row .entry)) ⌝ }
 {
-    if is_plain(row, source, w, first) {
-        add_bytes(row, source, 8 * first);
-    } else {
-        unite_groups(row, source, w, first, 8);
+    if unite_side(row, source, w, first) {
+        return;
     }
+    unite_groups(row, source, w, first, 8);
 }
 
 // A source row added into a row. Only a row of 32 slots has groups left after its eights.

@@ -33,10 +33,10 @@ fn vector(s: &[u8]) {
 
 // The hash and the slot of a key in a row.
 fn lands(row: u8, key: &[u8], w: usize) {
-    let h = hash::row_hash(row, key);
+    let h = Hash::start().in_row(row, key);
     text(b"lands");
-    hex(h as u64, 8);
-    decimal(hash::slot(h, w) as u64);
+    hex(h.state as u64, 8);
+    decimal(hash::slot(h.state, w) as u64);
     text(b"\n");
 }
 

@@ -4,7 +4,7 @@ use mathlib.Core.Path.{_≡_, refl, sym, ap, _∙_}
 use Prim.Native.Nat.{ℕ, _-_, _≤_}
 use native.Mathlib.Omega.{arith}
 use borrow.Author.Needs.{needs}
-use Rattle.meter.proofs.Gather.{zeros-turn}
+use Rattle.meter.proofs.Tests.{zeros-turn}
 use Rattle.meter.proofs.fill.Statement.{statement}
 use Rattle.meter.proofs.fill.Tie as tie
 

@@ -1,10 +1,10 @@
-use mathlib.Core.Path.{_≡_, refl, sym, _∙_}
+use mathlib.Core.Path.{_≡_, refl}
 use Prim.Native.Nat.{_-_, _≤_}
 use native.Mathlib.Omega.{arith}
 use borrow.Author.Needs.{needs}
 use lib.ListN.{length, drop}
 use Rattle.hash.specs.Hash.{fnv}
-use Rattle.hash.proofs.Hashing.{fnv-more, fnv-end}
+use Rattle.hash.proofs.Hashing.{run-turn, run-end}
 use Rattle.hash.proofs.Hash.run.Statement.{statement}
 use Rattle.hash.proofs.Hash.run.Tie as tie
 
@@ -32,11 +32,11 @@ loop-less c = search needs
 loop-again : tie.Need-loop-again Inv-loop μ-loop
 loop-again c = let l = c .before .before .before .loop in
     let s = c .before .before .before .before .before .args .bytes .now in
-    (omega arith, l .inv .1, rw (c .step .ensures) (sym (fnv-more (l .h .state) s (l .i) (omega arith)) ∙ l .inv .2))
+    (omega arith, l .inv .1, run-turn s (l .i) (l .h .state) _ (l .inv .2) _ (omega arith) (c .step .ensures))
 
 returns : tie.Need-returns Inv-loop μ-loop
 returns c = let l = c .before .loop in
-    sym (fnv-end (l .h .state) _ (l .i) (omega arith)) ∙ l .inv .2
+    run-end _ (l .i) (l .h .state) _ (l .inv .2) (omega arith)
 
 pub run-spec : {M : Type 1} → statement M
 run-spec =

@@ -4,7 +4,7 @@ use native.Mathlib.Omega.{arith}
 use borrow.Author.Needs.{needs}
 use lib.ListN.{length, drop}
 use Rattle.hash.specs.Hash.{fnv}
-use Rattle.meter_keys.proofs.Lanes.{lane-turn, lane-end}
+use Rattle.hash.proofs.Hashing.{run-turn, run-end}
 use Rattle.meter_keys.proofs.Four.run.Statement.{statement}
 use Rattle.meter_keys.proofs.Four.run.Tie as tie
 
@@ -39,19 +39,19 @@ loop-again c = let l = c .before .before .before .loop in
     let e = c .step .ensures in (
       omega arith,
       l .inv .1,
-      lane-turn s (l .i) (l .h .a .state) _ (l .inv .2) _ (omega arith) (e .0),
-      lane-turn s (l .i) (l .h .b .state) _ (l .inv .3) _ (omega arith) (e .1 .0),
-      lane-turn s (l .i) (l .h .c .state) _ (l .inv .4) _ (omega arith) (e .1 .1 .0),
-      lane-turn s (l .i) (l .h .d .state) _ (l .inv .5) _ (omega arith) (e .1 .1 .1),
+      run-turn s (l .i) (l .h .a .state) _ (l .inv .2) _ (omega arith) (e .0),
+      run-turn s (l .i) (l .h .b .state) _ (l .inv .3) _ (omega arith) (e .1 .0),
+      run-turn s (l .i) (l .h .c .state) _ (l .inv .4) _ (omega arith) (e .1 .1 .0),
+      run-turn s (l .i) (l .h .d .state) _ (l .inv .5) _ (omega arith) (e .1 .1 .1),
     )
 
 returns : tie.Need-returns Inv-loop μ-loop
 returns c = let l = c .before .loop in
     let s = c .before .before .before .args .bytes .now in (
-      lane-end s (l .i) (l .h .a .state) _ (l .inv .2) (omega arith),
+      run-end s (l .i) (l .h .a .state) _ (l .inv .2) (omega arith),
       (
-        lane-end s (l .i) (l .h .b .state) _ (l .inv .3) (omega arith),
-        (lane-end s (l .i) (l .h .c .state) _ (l .inv .4) (omega arith), lane-end s (l .i) (l .h .d .state) _ (l .inv .5) (omega arith)),
+        run-end s (l .i) (l .h .b .state) _ (l .inv .3) (omega arith),
+        (run-end s (l .i) (l .h .c .state) _ (l .inv .4) (omega arith), run-end s (l .i) (l .h .d .state) _ (l .inv .5) (omega arith)),
       ),
     )
 

@@ -1,0 +1,94 @@
+-- Laws of bytes tested and added side by side.
+use mathlib.Core.Path.{_≡_, refl, sym, ap, _∙_}
+use mathlib.Core.Bool.{Bool, true, false, not, _&&_, _||_, and-assoc, or-assoc, and-true, or-false, and-eq-true-iff, true≢false}
+use mathlib.Core.List.{List, [], _∷_, _++_, append-nil}
+use Prim.Native.Nat.{ℕ, zero, suc, _+_, _/_, _≤_, _<_}
+use native.Mathlib.Decide.{decLt}
+use native.Mathlib.Numerals.{add-one}
+use native.Mathlib.Omega.{arith}
+use borrow.Author.Tests.{eq-eqb, ne-eqb, lt-ltb, le-ltb, ltb-true, eqb-true}
+use lib.Bits.{bitOr, or-add-and, and-le-l, and-le-r}
+use lib.Dec.{eqb, ltb}
+use lib.ListN.{length, getD, take, drop, set, drop-of-length-le}
+use lib.Seq.{take-all, drop-cons, take-suc-set, drop-set-lt, append-snoc}
+use Rattle.laws.proofs.Tests.{both-ways}
+use Rattle.group_side.specs.Side.{anyMerged, fit, sums}
+
+-- two numbers taken together are 0 where both are
+or-zero : (a b : ℕ) → eqb (bitOr a b) 0 ≡ (eqb a 0 && eqb b 0)
+or-zero a b = both-ways (eqb (bitOr a b) 0) (eqb a 0 && eqb b 0)
+    (λ e.
+    let z = eqb-true (bitOr a b) 0 e in
+    rw (eq-eqb a 0 (omega (arith, or-add-and a b, and-le-r a b)), eq-eqb b 0 (omega (arith, or-add-and a b, and-le-l a b))))
+    (λ e.
+    let p = and-eq-true-iff (eqb a 0) (eqb b 0) .0 e in
+    eq-eqb (bitOr a b) 0 (omega (arith, or-add-and a b, eqb-true a 0 (p .0), eqb-true b 0 (p .1))))
+
+not-both : (p q : Bool) → not (p && q) ≡ (not p || not q)
+not-both true q = refl
+not-both false q = refl
+
+-- merge bytes taken together, one by one
+module _ (ms : List ℕ) (i any : ℕ) where
+  pub any-turn : i < length ms → (not (eqb (bitOr any (getD ms i 0)) 0) || anyMerged (drop (i + 1) ms)) ≡ (not (eqb any 0) || anyMerged (drop i ms))
+  unfolding anyMerged
+  any-turn h =
+      rw (drop-cons ms i 0 h, add-one i, or-zero any (getD ms i 0), not-both (eqb any 0) (eqb (getD ms i 0) 0))
+      (or-assoc (not (eqb any 0)) (not (eqb (getD ms i 0) 0)) (anyMerged (drop (suc i) ms)))
+
+  pub any-end : length ms ≤ i → (not (eqb any 0) || anyMerged (drop i ms)) ≡ not (eqb any 0)
+  unfolding anyMerged
+  any-end h = rw (drop-of-length-le ms h) (or-false (not (eqb any 0)))
+
+-- none merged: each byte is 0
+pub none-merged : (ms : List ℕ) → anyMerged ms ≡ false → (i : ℕ) → getD ms i 0 ≡ 0
+unfolding anyMerged
+none-merged [] e i = refl
+none-merged (m ∷ ms) e i = go (eqb m 0) refl (none-merged ms) e i
+  where
+    go : (z : Bool) → eqb m 0 ≡ z → (anyMerged ms ≡ false → (i : ℕ) → getD ms i 0 ≡ 0) → (not z || anyMerged ms) ≡ false → (i : ℕ) → getD (m ∷ ms) i 0 ≡ 0
+    go true f rest e zero = eqb-true m 0 f
+    go true f rest e (suc i) = rest e i
+    go false f rest e i = absurd (true≢false e)
+
+-- the sum of two bytes passes 255 where it carries
+carry-none : (a b : ℕ) → eqb ((a + b) / 256) 0 ≡ ltb (a + b) 256
+carry-none a b = elim (decLt (a + b) 256) [
+  | yes l ↦ eq-eqb ((a + b) / 256) 0 (omega arith) ∙ sym (lt-ltb (a + b) 256 l)
+  | no l ↦ ne-eqb ((a + b) / 256) 0 (λ e. omega arith) ∙ sym (le-ltb (a + b) 256 (omega arith))
+]
+
+module _ (xs ys : List ℕ) (i : ℕ) (h : i < length xs) (k : i < length ys) where
+  fit-cons : fit (drop i xs) (drop i ys) ≡ (ltb (getD xs i 0 + getD ys i 0) 256 && fit (drop (i + 1) xs) (drop (i + 1) ys))
+  unfolding fit
+  fit-cons = rw (drop-cons xs i 0 h, drop-cons ys i 0 k, add-one i)
+
+  -- sums tested one by one
+  pub fit-turn : (carries : ℕ)
+      → (eqb (bitOr carries ((getD xs i 0 + getD ys i 0) / 256)) 0 && fit (drop (i + 1) xs) (drop (i + 1) ys)) ≡ (eqb carries 0 && fit (drop i xs) (drop i ys))
+  fit-turn carries =
+      rw (or-zero carries ((getD xs i 0 + getD ys i 0) / 256), carry-none (getD xs i 0) (getD ys i 0), fit-cons)
+      (and-assoc (eqb carries 0) (ltb (getD xs i 0 + getD ys i 0) 256) (fit (drop (i + 1) xs) (drop (i + 1) ys)))
+
+  -- the first sum passes, and the rest
+  pub fit-first : fit (drop i xs) (drop i ys) ≡ true → (getD xs i 0 + getD ys i 0 < 256) × (fit (drop (i + 1) xs) (drop (i + 1) ys) ≡ true)
+  fit-first e =
+      let p = and-eq-true-iff (ltb (getD xs i 0 + getD ys i 0) 256) (fit (drop (i + 1) xs) (drop (i + 1) ys)) .0 (sym fit-cons ∙ e) in
+      (ltb-true _ _ (p .0), p .1)
+
+  -- sums stored one by one
+  pub sums-turn : take (i + 1) (set xs i (getD xs i 0 + getD ys i 0)) ++ sums (drop (i + 1) (set xs i (getD xs i 0 + getD ys i 0))) (drop (i + 1) ys)
+      ≡ take i xs ++ sums (drop i xs) (drop i ys)
+  unfolding sums
+  sums-turn =
+      let s = getD xs i 0 + getD ys i 0 in
+      rw (add-one i, take-suc-set xs i s h, drop-set-lt (suc i) xs i s (omega arith), drop-cons xs i 0 h, drop-cons ys i 0 k)
+      (append-snoc (take i xs) s (sums (drop (suc i) xs) (drop (suc i) ys)))
+
+pub fit-end : (xs ys : List ℕ) (i carries : ℕ) → length xs ≤ i → (eqb carries 0 && fit (drop i xs) (drop i ys)) ≡ eqb carries 0
+unfolding fit
+fit-end xs ys i carries h = rw (drop-of-length-le xs h) (and-true (eqb carries 0))
+
+pub sums-end : (xs ys : List ℕ) (i : ℕ) → length xs ≤ i → take i xs ++ sums (drop i xs) (drop i ys) ≡ xs
+unfolding sums
+sums-end xs ys i h = rw (drop-of-length-le xs h, take-all i xs h) (append-nil xs)

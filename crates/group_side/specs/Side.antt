@@ -1,0 +1,35 @@
+-- Unmerged groups side by side, by their count bytes and their merge bytes. The code's own terms: no call of the product cites them.
+use Prim.Native.Nat.{ℕ, zero, suc, _+_}
+use mathlib.Core.Bool.{Bool, true, false, not, _&&_, _||_}
+use mathlib.Core.List.{List, [], _∷_, _++_}
+use lib.Dec.{eqb, ltb}
+use lib.ListN.{take, drop}
+use Rattle.group.specs.declared.Group.{Group}
+use Rattle.group.specs.Group.{united}
+
+-- whether some merge byte is not 0
+unfoldable pub anyMerged : List ℕ → Bool
+anyMerged [] = false
+anyMerged (m ∷ ms) = not (eqb m 0) || anyMerged ms
+
+-- whether no sum of two bytes, one of either list, passes 255
+unfoldable pub fit : List ℕ → List ℕ → Bool
+fit [] ys = true
+fit (x ∷ xs) [] = true
+fit (x ∷ xs) (y ∷ ys) = ltb (x + y) 256 && fit xs ys
+
+-- those sums
+unfoldable pub sums : List ℕ → List ℕ → List ℕ
+sums [] ys = []
+sums (x ∷ xs) [] = x ∷ xs
+sums (x ∷ xs) (y ∷ ys) = (x + y) ∷ sums xs ys
+
+-- the unmerged group of eight count bytes
+abbrev pub unmerged : List ℕ → Group
+unmerged counts = record { counts = counts; merge = 0 }
+
+-- the count bytes of n unmerged groups, each united with that of a source
+unfoldable pub unitedSide : ℕ → List ℕ → List ℕ → List ℕ
+unitedSide zero counts source = counts
+unitedSide (suc n) counts source =
+    united (unmerged (take 8 counts)) (unmerged (take 8 source)) .group .counts ++ unitedSide n (drop 8 counts) (drop 8 source)

@@ -1,0 +1,61 @@
+// Unmerged groups side by side: the count bytes of eight of them united at once, and merge bytes tested together. Of loops with no test
+// on the way, and of 64 turns where they go over count bytes, the compiler makes vector code.
+ghost use mathlib.Core.Path.{_≡_};
+ghost use mathlib.Core.Bool.{true, cond};
+ghost use Prim.Native.Nat.{_+_, _/_};
+ghost use lib.ListN.{length};
+ghost use Rattle.group_side.specs.Side.{anyMerged, sums, unitedSide};
+ghost use Rattle.group_side.specs.Side as spec;
+
+// Whether some of these groups is merged, by their merge bytes.
+pub fn any_merged(merges: &[u8]) -> bool
+    ensures { λ r. ⌜ r ≡ anyMerged (now (merges .entry)) ⌝ }
+{
+    let mut any = 0u8;
+    for i in 0..merges.len() {
+        any = any | merges[i];
+    }
+    any != 0
+}
+
+// What the sum of two bytes carries: 1 where it passes 255.
+fn carry(a: u8, b: u8) -> u8
+    ensures { λ r. ⌜ r ≡ (a + b) / 256 ⌝ }
+{
+    if 255 - a < b { 1 } else { 0 }
+}
+
+// Whether no sum of two bytes passes 255.
+fn fit(counts: &[u8], source: &[u8]) -> bool
+    requires { ⌜ length (now counts) ≡ 64 ⌝ ∗ ⌜ length (now source) ≡ 64 ⌝ }
+    ensures { λ r. ⌜ r ≡ spec.fit (now (counts .entry)) (now (source .entry)) ⌝ }
+{
+    let mut carries = 0u8;
+    for i in 0..64 {
+        carries = carries | carry(counts[i], source[i]);
+    }
+    carries == 0
+}
+
+// The bytes of a source added.
+fn add(counts: &mut [u8], source: &[u8])
+    requires { ⌜ length (now counts) ≡ 64 ⌝ ∗ ⌜ length (now source) ≡ 64 ⌝ ∗ ⌜ spec.fit (now counts) (now source) ≡ true ⌝ }
+    ensures { λ _. ⌜ now (counts .exit) ≡ sums (now (counts .entry)) (now (source .entry)) ⌝ }
+{
+    for i in 0..64 {
+        counts[i] = counts[i] + source[i];
+    }
+}
+
+// Eight unmerged groups united with those of a source, if none of the unions is merged: no sum of two bytes passes 255.
+pub fn unite(counts: &mut [u8], source: &[u8]) -> bool
+    requires { ⌜ length (now counts) ≡ 64 ⌝ ∗ ⌜ length (now source) ≡ 64 ⌝ }
+    ensures { λ r. ⌜ r ≡ spec.fit (now (counts .entry)) (now (source .entry)) ⌝ }
+    ensures { λ r. ⌜ now (counts .exit) ≡ cond r (unitedSide 8 (now (counts .entry)) (now (source .entry))) (now (counts .entry)) ⌝ }
+{
+    if fit(counts, source) {
+        add(counts, source);
+        return true;
+    }
+    false
+}

@@ -1,0 +1,175 @@
+-- Runs of unmerged groups in two rows: their unions are accepted, and are made side by side where no sum of two bytes passes 255.
+use mathlib.Core.Path.{_≡_, refl, sym, ap, ap₂, _∙_}
+use mathlib.Core.Bool.{Bool, true, false, cond, not, _&&_, and-eq-true-iff}
+use mathlib.Core.List.{List, [], _∷_, _++_, append-assoc, append-nil}
+use Prim.Native.Nat.{ℕ, zero, suc, _+_, _-_, _*_, _/_, _≤_, _<_}
+use native.Mathlib.Nat.{add-zero}
+use native.Mathlib.Omega.{arith}
+use borrow.Author.Tests.{not-true}
+use borrow.Rule.Slice.PartMut.{putMid, post-is}
+use lib.ListN.{length, getD, take, drop, length-append, length-drop, take-append-drop}
+use lib.Seq.{length-take-le, take-nil, take-at, drop-at, drop-drop, getD-take, getD-drop, take-take, take-add}
+use Rattle.laws.proofs.Lists.{Bytes}
+use Rattle.group.specs.declared.Group.{Group}
+use Rattle.group.specs.Group.{united}
+use Rattle.group.proofs.Laws.{Eight}
+use Rattle.group.proofs.Outcomes.{united-eight}
+use Rattle.group_side.specs.Side.{anyMerged, fit, sums, unmerged, unitedSide}
+use Rattle.group_side.proofs.Bytes.{none-merged}
+use Rattle.group_side.proofs.Unions.{unmerged-status, fit-apart, fit-united}
+use Rattle.geometry.specs.Geometry.{validWidth, stride}
+use Rattle.geometry.specs.Order.{earlier, earliest}
+use Rattle.geometry.specs.Rows.{ofGroups, groupAt, withGroup}
+use Rattle.geometry.proofs.Lists.{bytes-drop, bytes-take, same-from}
+use Rattle.geometry.proofs.Widths.{group-in, stride-is}
+use Rattle.geometry.proofs.Groups.{eight-at, with-counts}
+use Rattle.meter_row.specs.Row.{unitedAt, unitedStatus, uniteStatus, uniteGroups}
+use Rattle.meter_row.specs.Runs.{mergesOf, countsOf, noneMerged, sideBySide}
+
+-- the merge bytes of the groups are 0
+module _ (w n g : ℕ) (row source : List ℕ) (e : noneMerged w n g row source ≡ true) where
+  merge-none : (xs : List ℕ) → not (anyMerged (mergesOf w n g xs)) ≡ true → (k : ℕ) → g ≤ k → k < g + n → getD xs (w + k) 0 ≡ 0
+  merge-none xs f k p q =
+      let i = k - g in
+      let at : w + g + i ≡ w + k = omega arith in
+      ap (λ (j : ℕ). getD xs j 0) (sym at)
+      ∙ sym (getD-drop (w + g) xs i 0)
+      ∙ sym (getD-take n (drop (w + g) xs) i 0 (omega arith))
+      ∙ none-merged (mergesOf w n g xs) (not-true _ f) i
+
+  none-either : (not (anyMerged (mergesOf w n g row)) ≡ true) × (not (anyMerged (mergesOf w n g source)) ≡ true)
+  unfolding noneMerged
+  none-either = and-eq-true-iff (not (anyMerged (mergesOf w n g row))) (not (anyMerged (mergesOf w n g source))) .0 e
+
+  pub row-none : (k : ℕ) → g ≤ k → k < g + n → getD row (w + k) 0 ≡ 0
+  row-none = merge-none row (none-either .0)
+
+  pub source-none : (k : ℕ) → g ≤ k → k < g + n → getD source (w + k) 0 ≡ 0
+  source-none = merge-none source (none-either .1)
+
+-- an unmerged group of a row
+group-none : (w g : ℕ) (row : List ℕ) → getD row (w + g) 0 ≡ 0 → groupAt w row g ≡ unmerged (take 8 (drop (8 * g) row))
+unfolding groupAt
+group-none w g row e = rw e
+
+-- a row of unmerged groups takes another
+groups-none : (f : ℕ → ℕ) (n g : ℕ) → ((i : ℕ) → g ≤ i → i < g + n → f i ≡ 0) → earliest (ofGroups f n g) ≡ 0
+unfolding earliest earlier ofGroups
+groups-none f zero g h = refl
+groups-none f (suc n) g h = rw (h g (omega arith) (omega arith)) (groups-none f n (g + 1) (λ i p q. h i (omega arith) (omega arith)))
+
+eight-of : (w g : ℕ) (row : List ℕ) → Bytes row → 8 * g + 8 ≤ w → w ≤ length row → Eight (take 8 (drop (8 * g) row))
+unfolding groupAt
+eight-of w g row b h l = record { long = eight-at w g row h l; small = bytes-take 8 (drop (8 * g) row) (bytes-drop (8 * g) row b) }
+
+pub status-none : (w : ℕ) (row source : List ℕ) → validWidth w ≡ true → length row ≡ stride w → length source ≡ stride w → Bytes row → Bytes source
+    → noneMerged w (w / 8) 0 row source ≡ true → uniteStatus w source row ≡ 0
+unfolding uniteStatus unitedStatus unitedAt
+status-none w row source v l m b c e =
+    groups-none (unitedStatus w source row) (w / 8) 0
+    (λ g h k.
+    let i = group-in w g v (omega arith) in
+    ap₂ (λ (x y : Group). united x y .status) (group-none w g row (row-none w (w / 8) 0 row source e g h k))
+    (group-none w g source (source-none w (w / 8) 0 row source e g h k))
+    ∙ unmerged-status (take 8 (drop (8 * g) row)) (take 8 (drop (8 * g) source)) (eight-of w g row b (i .0) (omega (arith, stride-is w)))
+    (eight-of w g source c (i .0) (omega (arith, stride-is w))))
+
+-- count bytes taken apart
+drop-take : (k n m : ℕ) (xs : List ℕ) → m ≡ n + k → drop k (take m xs) ≡ take n (drop k xs)
+drop-take zero n m xs e = ap (λ (i : ℕ). take i xs) (e ∙ add-zero n)
+drop-take (suc k) n zero xs e = absurd (omega arith)
+drop-take (suc k) n (suc m) [] e = sym (take-nil n)
+drop-take (suc k) n (suc m) (x ∷ xs) e = drop-take k n m xs (omega arith)
+
+counts-first : (n g : ℕ) (row : List ℕ) → take 8 (countsOf (suc n) g row) ≡ take 8 (drop (8 * g) row)
+counts-first n g row = take-take 8 (8 * suc n) (drop (8 * g) row) (omega arith)
+
+counts-rest : (n g : ℕ) (row : List ℕ) → drop 8 (countsOf (suc n) g row) ≡ countsOf n (g + 1) row
+counts-rest n g row =
+    let at : 8 * g + 8 ≡ 8 * (g + 1) = omega arith in
+    drop-take 8 (8 * n) (8 * suc n) (drop (8 * g) row) (omega arith)
+    ∙ ap (take (8 * n)) (drop-drop 8 (8 * g) row ∙ ap (λ (i : ℕ). drop i row) at)
+
+-- a row with other bytes before place a
+module _ (a : ℕ) (front row : List ℕ) (long : length front ≡ a) (h : a ≤ length row) where
+  joined-length : length (front ++ drop a row) ≡ length row
+  joined-length = rw (length-append front (drop a row), long, length-drop a row) (omega arith)
+
+  joined-drop : (k : ℕ) → a ≤ k → drop k (front ++ drop a row) ≡ drop k row
+  joined-drop k l =
+      let e : k ≡ a + (k - a) = omega arith in
+      rw (e, ← drop-drop (k - a) a (front ++ drop a row), drop-at front (drop a row) a long) (drop-drop (k - a) a row)
+
+-- the groups of a row united side by side
+module _ (w : ℕ) (source : List ℕ) where
+  abbrev Unmerged : ℕ → ℕ → List ℕ → Type 0
+  Unmerged n g row = (k : ℕ) → g ≤ k → k < g + n → getD row (w + k) 0 ≡ 0
+
+  -- one of them
+  united-at : (g : ℕ) (row : List ℕ) → getD row (w + g) 0 ≡ 0 → getD source (w + g) 0 ≡ 0 → (zs : List ℕ)
+      → united (unmerged (take 8 (drop (8 * g) row))) (unmerged (take 8 (drop (8 * g) source))) .group ≡ unmerged zs → length zs ≡ 8
+      → 8 * g + 8 ≤ w → w + g < length row → withGroup w row g (unitedAt w source row g .group) ≡ take (8 * g) row ++ zs ++ drop (8 * g + 8) row
+  unfolding unitedAt
+  united-at g row p q zs u eight h l =
+      rw (group-none w g row p, group-none w g source q, u) (with-counts w row g (unmerged zs) eight h l (sym p))
+
+  pub unite-side : (n g : ℕ) (row : List ℕ) → 8 * (g + n) ≤ w → w + (g + n) ≤ length row → w + (g + n) ≤ length source
+      → Unmerged n g row → Unmerged n g source → fit (countsOf n g row) (countsOf n g source) ≡ true
+      → take (8 * g) row ++ unitedSide n (countsOf n g row) (countsOf n g source) ++ drop (8 * (g + n)) row ≡ uniteGroups w source n g row
+  unfolding uniteGroups unitedSide
+  unite-side zero g row h l m p q e =
+      let f : g + 0 ≡ g = omega arith in
+      rw (f, append-nil (take (8 * g) row)) (take-append-drop (8 * g) row)
+  unite-side (suc n) g row h l m p q e =
+      let xs = take 8 (drop (8 * g) row) in
+      let ys = take 8 (drop (8 * g) source) in
+      let zs = sums xs ys in
+      let a = 8 * g + 8 in
+      let next = take (8 * g) row ++ zs ++ drop a row in
+      let counts = countsOf n (g + 1) row in
+      let others = countsOf n (g + 1) source in
+      let row-eight : length xs ≡ 8 = length-take-le 8 (drop (8 * g) row) (rw (length-drop (8 * g) row) (omega arith)) in
+      let source-eight : length ys ≡ 8 = length-take-le 8 (drop (8 * g) source) (rw (length-drop (8 * g) source) (omega arith)) in
+      let e8 = fit-apart 8 (countsOf (suc n) g row) (countsOf (suc n) g source) e in
+      let first : fit xs ys ≡ true = rw (counts-first n g row, counts-first n g source) at (e8 .0) in
+      let rest : fit counts others ≡ true = rw (counts-rest n g row, counts-rest n g source) at (e8 .1) in
+      let u = fit-united xs ys row-eight source-eight first in
+      let eight : length zs ≡ 8 = ap (λ (x : Group). length (x .counts)) (sym u) ∙ united-eight (unmerged xs) (unmerged ys) row-eight in
+      let front : length (take (8 * g) row ++ zs) ≡ a = rw (length-append (take (8 * g) row) zs, length-take-le (8 * g) row (omega arith), eight) in
+      let fit-in : a ≤ length row = omega arith in
+      let same = joined-drop a (take (8 * g) row ++ zs) row front fit-in in
+      let at : 8 * (g + 1) ≡ a = omega arith in
+      let end : 8 * (g + 1 + n) ≡ 8 * (g + suc n) = omega arith in
+      let stored : withGroup w row g (unitedAt w source row g .group) ≡ next =
+      united-at g row (p g (omega arith) (omega arith)) (q g (omega arith) (omega arith)) zs u eight (omega arith) (omega arith) in
+      let ih = unite-side n (g + 1) next (omega arith) (rw (joined-length a (take (8 * g) row ++ zs) row front fit-in) (omega arith)) (omega arith)
+      (λ k b c. same-from (w + k) next row (same (w + k) (omega arith)) ∙ p k (omega arith) (omega arith)) (λ k b c. q k (omega arith) (omega arith))
+      (rw (same (8 * (g + 1)) (omega arith)) rest) in
+      let whole : take (8 * g) row ++ zs ++ unitedSide n counts others ++ drop (8 * (g + suc n)) row ≡ uniteGroups w source n (g + 1) next =
+      rw (same (8 * (g + 1)) (omega arith), same (8 * (g + 1 + n)) (omega arith), end, take-at (take (8 * g) row ++ zs) (drop a row) (8 * (g + 1)) (front ∙ sym at)) at ih in
+      rw (counts-first n g row, counts-first n g source, counts-rest n g row, counts-rest n g source, u, stored)
+      (ap (λ (l : List ℕ). l ++ drop (8 * (g + suc n)) row) (sym (append-assoc (take (8 * g) row) zs (unitedSide n counts others))) ∙ whole)
+
+-- a run of eight groups that was lent
+put-back : (a e : ℕ) (xs ys : List ℕ) → a ≤ e → putMid a (e - a) xs ys ≡ take a xs ++ ys ++ drop e xs
+put-back a e xs ys h = ap (λ (zs : List ℕ). take a xs ++ (ys ++ zs)) (post-is a e xs h) ∙ sym (append-assoc (take a xs) ys (drop e xs))
+
+put-same : (a : ℕ) (xs : List ℕ) → take a xs ++ take 64 (drop a xs) ++ drop (a + 64) xs ≡ xs
+put-same a xs = rw (← take-add a 64 xs) (take-append-drop (a + 64) xs)
+
+module _ (w g : ℕ) (row source : List ℕ) (h : 8 * (g + 8) ≤ w) (l : w + (g + 8) ≤ length row) (m : w + (g + 8) ≤ length source)
+    (none : noneMerged w 8 g row source ≡ true) where
+  after : 8 * g + 64 ≡ 8 * (g + 8)
+  after = omega arith
+
+  pub side-back : (r : Bool) (last : List ℕ) → r ≡ fit (countsOf 8 g row) (countsOf 8 g source)
+      → last ≡ cond r (unitedSide 8 (countsOf 8 g row) (countsOf 8 g source)) (countsOf 8 g row)
+      → (r ≡ sideBySide w 8 g row source) × (putMid (8 * g) (8 * g + 64 - 8 * g) row last ≡ cond r (uniteGroups w source 8 g row) row)
+  unfolding sideBySide
+  side-back true last e f = (
+    rw (none, ← e),
+    put-back (8 * g) (8 * g + 64) row last (omega arith)
+        ∙ rw f (ap (λ (i : ℕ). take (8 * g) row ++ unitedSide 8 (countsOf 8 g row) (countsOf 8 g source) ++ drop i row) after
+        ∙ unite-side w source 8 g row h l m (row-none w 8 g row source none) (source-none w 8 g row source none) (sym e)),
+  )
+  side-back false last e f = (rw (none, ← e), put-back (8 * g) (8 * g + 64) row last (omega arith) ∙ rw f (put-same (8 * g) row))

@@ -1,0 +1,21 @@
+-- Runs of groups in a row of w slots: n of them, the first of which is group g. The code's own terms.
+use Prim.Native.Nat.{ℕ, _+_, _*_}
+use mathlib.Core.Bool.{Bool, not, _&&_}
+use mathlib.Core.List.{List}
+use lib.ListN.{take, drop}
+use Rattle.group_side.specs.Side.{anyMerged, fit}
+
+-- their merge bytes and their count bytes
+abbrev pub mergesOf : ℕ → ℕ → ℕ → List ℕ → List ℕ
+mergesOf w n g row = take n (drop (w + g) row)
+
+abbrev pub countsOf : ℕ → ℕ → List ℕ → List ℕ
+countsOf n g row = take (8 * n) (drop (8 * g) row)
+
+-- whether none is merged in either of two rows
+unfoldable pub noneMerged : ℕ → ℕ → ℕ → List ℕ → List ℕ → Bool
+noneMerged w n g row source = not (anyMerged (mergesOf w n g row)) && not (anyMerged (mergesOf w n g source))
+
+-- whether their unions are made side by side: none is merged, and no sum of two count bytes passes 255
+unfoldable pub sideBySide : ℕ → ℕ → ℕ → List ℕ → List ℕ → Bool
+sideBySide w n g row source = noneMerged w n g row source && fit (countsOf n g row) (countsOf n g source)
