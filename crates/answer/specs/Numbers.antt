@@ -1,0 +1,48 @@
+-- Document 01's numbers of refusals, in checking order. Cited by contracts and theorems.
+use Prim.Native.Nat.{ℕ}
+use mathlib.Core.List.{List, [], _∷_}
+
+abbrev pub invalidDepth : ℕ
+invalidDepth = 1
+
+abbrev pub invalidWidth : ℕ
+invalidWidth = 2
+
+abbrev pub wrongLength : ℕ
+wrongLength = 3
+
+abbrev pub invalidKeyLength : ℕ
+invalidKeyLength = 4
+
+abbrev pub invalidMerge : ℕ
+invalidMerge = 5
+
+abbrev pub counterFull : ℕ
+counterFull = 6
+
+abbrev pub tooFewWords : ℕ
+tooFewWords = 7
+
+abbrev pub badWord : ℕ
+badWord = 8
+
+abbrev pub badPayload : ℕ
+badPayload = 9
+
+abbrev pub otherMeter : ℕ
+otherMeter = 10
+
+-- The list. A number's line comes before another's where it stands before it here, whatever their sizes.
+abbrev pub order : List ℕ
+order =
+    invalidDepth
+    ∷ invalidWidth
+    ∷ wrongLength
+    ∷ invalidKeyLength
+    ∷ invalidMerge
+    ∷ counterFull
+    ∷ tooFewWords
+    ∷ badWord
+    ∷ badPayload
+    ∷ otherMeter
+    ∷ []
