@@ -12,7 +12,7 @@ use lib.Dec.{eqb, leb}
 use lib.ListN.{length, getD, drop, drop-of-length-le}
 use lib.Seq.{drop-cons}
 use Rattle.answer.specs.Numbers.{order}
-use Rattle.answer.specs.Order.{firstOf, placeIn, earlier, earliest}
+use Rattle.answer.specs.Order.{firstOf, placeIn, earlier}
 
 -- a list gone through from i on
 pub place-more : (ns : List ℕ) (s i : ℕ) → i < length ns → (getD ns i 0 ≡ s → ⊥) → placeIn (drop i ns) s ≡ suc (placeIn (drop (i + 1) ns) s)

@@ -6,28 +6,28 @@ use native.Mathlib.Nat.{sub-zero}
 use native.Mathlib.Omega.{arith}
 use lib.ListN.{length, take}
 use borrow.Author.Tests.{eq-eqb, ne-eqb}
-use Rattle.geometry.specs.Order.{badShape, badKey}
+use Rattle.geometry.specs.Checks.{badShape, badKey}
 use Rattle.meter.specs.Meter.{badCall, estimated}
 use Rattle.meter.proofs.Calls.{call-key}
 use Rattle.feed_records.specs.declared.Body.{Body}
 use Rattle.feed_records.specs.declared.Body.the-variants as body
-use Rattle.group.specs.declared.Answer.{Answer}
+use Rattle.answer.specs.declared.Answer.{Answer}
 use Rattle.feed.specs.declared.Recorded.{Recorded}
 use Rattle.feed.specs.declared.Recorded.the-variants as case
 use Rattle.feed_records.specs.Answers.{bodyAnswer}
-use Rattle.feed.specs.Record.{rejection, outcomeOf, carriedUpdate, queried, carried, carriedAfter, recorded}
+use Rattle.feed.specs.Record.{refusal, outcomeOf, carriedUpdate, queried, carried, carriedAfter, recorded}
 use Rattle.feed_keys.specs.Keys.{keyOf}
 use Rattle.feed_records.specs.Words.{opened}
 use Rattle.feed_keys.proofs.Laws.{key-length}
 use Rattle.feed_records.proofs.Laws.{HasTag}
 
 pub update-refused : (d w : ℕ) (memory : List ℕ) (n : ℕ) (words : List ℕ) (b : Body) → HasTag 1 b
-    → carriedUpdate d w memory n words b ≡ record { outcome = rejection (bodyAnswer b); memory = memory }
+    → carriedUpdate d w memory n words b ≡ record { outcome = refusal (bodyAnswer b); memory = memory }
 unfolding carriedUpdate
 update-refused d w memory n words (body.Sound a) h = absurd (omega arith)
 update-refused d w memory n words (body.Refused s p) h = refl
 
-pub query-refused : (d w : ℕ) (memory : List ℕ) (n : ℕ) (words : List ℕ) (b : Body) → HasTag 1 b → queried d w memory n words b ≡ rejection (bodyAnswer b)
+pub query-refused : (d w : ℕ) (memory : List ℕ) (n : ℕ) (words : List ℕ) (b : Body) → HasTag 1 b → queried d w memory n words b ≡ refusal (bodyAnswer b)
 unfolding queried
 query-refused d w memory n words (body.Sound a) h = absurd (omega arith)
 query-refused d w memory n words (body.Refused s p) h = refl
@@ -45,9 +45,9 @@ call-passes d w memory n words key s k e =
     sym (call-key d w memory key s) ∙ ap badKey (ap length e ∙ key-length n words 0) ∙ k
 
 -- the outcome by an answer, as the code finds it
-pub outcome-rejected : (a : Answer) (r : Recorded) → (a .status ≡ 0 → ⊥) → outcomeOf a r ≡ rejection a
+pub outcome-refused : (a : Answer) (r : Recorded) → (a .status ≡ 0 → ⊥) → outcomeOf a r ≡ refusal a
 unfolding outcomeOf
-outcome-rejected a r h = rw (ne-eqb (a .status) 0 h)
+outcome-refused a r h = rw (ne-eqb (a .status) 0 h)
 
 pub outcome-accepted : (a : Answer) (r : Recorded) → a .status ≡ 0 → outcomeOf a r ≡ r
 unfolding outcomeOf
@@ -64,7 +64,7 @@ unfolding recorded carriedAfter
 record-good d w memory before words e = rw e
 
 pub record-bad : (d w : ℕ) (memory : List ℕ) (before : ℕ) (words : List ℕ) (s : ℕ) → badShape d w (length memory) ≡ s → (s ≡ 0 → ⊥)
-    → recorded d w memory before words ≡ record { outcome = case.Rejected s 0; memory = memory }
+    → recorded d w memory before words ≡ record { outcome = case.Refused s 0; memory = memory }
 unfolding recorded carriedAfter
 record-bad d w memory before words zero e h = absurd (h refl)
 record-bad d w memory before words (suc s) e h = rw e

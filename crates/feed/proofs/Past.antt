@@ -4,7 +4,7 @@ use mathlib.Core.List.{List}
 use Prim.Native.Nat.{ℕ, zero, suc, _≤_}
 use native.Mathlib.Omega.{arith}
 use lib.ListN.{length, take}
-use Rattle.geometry.specs.Order.{badShape}
+use Rattle.geometry.specs.Checks.{badShape}
 use Rattle.feed_records.specs.declared.Opening.{Opening}
 use Rattle.feed_records.specs.declared.Opening.the-variants as opening
 use Rattle.feed_records.specs.declared.Body.{Body}

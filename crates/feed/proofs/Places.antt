@@ -1,4 +1,4 @@
--- A rejected record's place is a lent word's index, or the number of words lent.
+-- A refused record's place is a lent word's index, or the number of words lent.
 use mathlib.Core.Path.{_≡_, refl, sym, ap, _∙_}
 use mathlib.Core.Bool.{Bool, true, false, cond}
 use mathlib.Core.List.{List}
@@ -7,8 +7,9 @@ use native.Mathlib.Decide.{decLt}
 use native.Mathlib.Omega.{arith}
 use lib.Dec.{eqb}
 use lib.ListN.{length}
-use Rattle.group.specs.declared.Answer.{Answer}
-use Rattle.geometry.specs.Order.{badShape, answerOf, finish}
+use Rattle.answer.specs.declared.Answer.{Answer}
+use Rattle.answer.specs.Answers.{answerOf, finish, leaves}
+use Rattle.geometry.specs.Checks.{badShape}
 use Rattle.meter.specs.Meter.{updated, estimated}
 use Rattle.feed_records.specs.declared.Opening.{Opening}
 use Rattle.feed_records.specs.declared.Opening.the-variants as opening
@@ -36,12 +37,12 @@ outcome-in : (n : ℕ) (a : Answer) (r : Recorded) → a .position ≡ 0 → Ins
 unfolding outcomeOf
 outcome-in n a r e h = test (eqb (a .status) 0)
   where
-    test : (t : Bool) → Inside n (cond t r (case.Rejected (a .status) (a .position)))
+    test : (t : Bool) → Inside n (cond t r (case.Refused (a .status) (a .position)))
     test true = h
     test false = omega arith
 
 update-place : (d w : ℕ) (memory : List ℕ) (n : ℕ) (words : List ℕ) → 1 ≤ length words → Inside (length words) (carriedUpdate d w memory n words (updateBody n words) .outcome)
-unfolding carriedUpdate updateBody bodyOf updated finish
+unfolding carriedUpdate updateBody bodyOf updated finish leaves
 update-place d w memory n words h = test (eqb (updateStep n words .status) 0)
   where
     test : (t : Bool) → Inside (length words) (carriedUpdate d w memory n words (cond t (body.Sound (amountOf n words)) (body.Refused (updateStep n words .status) (updateStep n words .position))) .outcome)

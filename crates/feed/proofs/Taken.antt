@@ -1,4 +1,4 @@
--- A record or the end that is carried out, or rejected by the meter and not by its words, takes no more words than are lent.
+-- A record or the end that is carried out, or refused by the meter and not by its words, takes no more words than are lent.
 use mathlib.Core.Logic.{⊎-elim}
 use mathlib.Core.Path.{_≡_, refl, sym, ap, _∙_}
 use mathlib.Core.List.{List}
@@ -6,17 +6,17 @@ use Prim.Native.Nat.{ℕ, zero, suc, _≤_}
 use native.Mathlib.Omega.{arith}
 use borrow.Author.Tests.{ne-eqb}
 use lib.ListN.{length}
-use Rattle.geometry.specs.Order.{badShape}
+use Rattle.geometry.specs.Checks.{badShape}
 use Rattle.feed_records.specs.declared.Opening.{Opening}
 use Rattle.feed_records.specs.declared.Opening.the-variants as opening
 use Rattle.feed_records.specs.Words.{opened, updateStep, queryStep, bodyOf, updateBody, queryBody, wordsTaken}
 use Rattle.feed_records.proofs.Past.{some-taken}
-use Rattle.feed_records.proofs.Taken.{fault, OfWords, opened-status, sound-taken}
+use Rattle.feed_records.proofs.Taken.{fault, opened-status, sound-taken}
 use Rattle.feed.specs.Answers.{recordAnswer}
 use Rattle.feed.specs.Record.{Carried, carriedUpdate, queried, carried, carriedAfter, recorded}
 use Rattle.feed.proofs.Laws.{record-good}
 
--- a record with a faulty word is rejected by that word
+-- a record with a faulty word is refused by that word
 carried-fault : (d w : ℕ) (memory words : List ℕ) (o : Opening) → (fault words o ≡ 0 → ⊥) → recordAnswer (carried d w memory words o .outcome) .status ≡ fault words o
 unfolding carried carriedUpdate queried updateBody queryBody bodyOf
 carried-fault d w memory words (opening.Update n) h = rw (ne-eqb (updateStep n words .status) 0 h)

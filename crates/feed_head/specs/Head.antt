@@ -3,12 +3,12 @@ use Prim.Native.Nat.{ℕ, _/_, _%_, _^_}
 use mathlib.Core.Bool.{cond}
 use mathlib.Core.List.{List, [], _∷_}
 use lib.Dec.{eqb}
-use Rattle.group.specs.declared.Answer.{Answer}
-use Rattle.group.specs.Status.{accepted}
-use Rattle.geometry.specs.Order.{firstOf, badDepth, badWidth}
+use Rattle.answer.specs.declared.Answer.{Answer}
+use Rattle.answer.specs.Answers.{accepted, refusedAt}
+use Rattle.answer.specs.Order.{firstOf}
+use Rattle.geometry.specs.Checks.{badDepth, badWidth}
 use Rattle.word.specs.declared.Step.{Step}
 use Rattle.word.specs.Word.{headKind, stop, next, payload, below}
-use Rattle.feed_records.specs.Answers.{faulty}
 
 -- d is in the low four bits of the head's payload, log2 w in the next five
 abbrev pub headDepth : ℕ → ℕ
@@ -27,4 +27,4 @@ headStep words = next (below words 0 headKind (2 ^ 9)) (λ p. stop (badGeometry 
 
 -- The value of an accepted head is its payload.
 unfoldable pub headed : List ℕ → Answer
-headed words = cond (eqb (headStep words .status) 0) (accepted (payload words 0)) (faulty (headStep words .status) (headStep words .position))
+headed words = cond (eqb (headStep words .status) 0) (accepted (payload words 0)) (refusedAt (headStep words .status) (headStep words .position))

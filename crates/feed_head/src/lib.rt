@@ -1,7 +1,6 @@
 // The head of a feed: the depth and the width of the meter that its records are for.
-use group::Answer;
+use answer::Answer;
 ghost use mathlib.Core.Path.{_≡_};
-ghost use Rattle.feed_records.specs.Answers as answers;
 ghost use Rattle.feed_head.specs.Head.{headDepth, headWidth, badGeometry, headed};
 
 // The depth and the width that a head's payload gives.
@@ -21,22 +20,12 @@ fn bad_geometry(payload: u64) -> u8
     ensures { λ r. ⌜ r ≡ badGeometry payload ⌝ }
 {
     if !geometry::valid_depth(head_depth(payload)) {
-        return 1;
+        return answer::INVALID_DEPTH;
     }
     if !geometry::valid_width(head_width(payload)) {
-        return 2;
+        return answer::INVALID_WIDTH;
     }
     0
-}
-
-fn faulty(status: u8, position: usize) -> Answer
-    ensures { λ r. ⌜ r ≡ answers.faulty status position ⌝ }
-{
-    Answer {
-        status,
-        position: position as u64,
-        value: 0,
-    }
 }
 
 // The head of a feed. The value of an accepted head is its payload.
@@ -45,12 +34,12 @@ pub fn head(words: &[u32]) -> Answer
 {
     let s = word::below(words, 0, word::HEAD, 512);
     if s.status != 0 {
-        return faulty(s.status, s.position);
+        return answer::refused_at(s.status, s.position as u64);
     }
     let payload = word::payload(words, 0) as u64;
     let bad = bad_geometry(payload);
     if bad != 0 {
-        return faulty(bad, 0);
+        return answer::refused(bad);
     }
-    geometry::answer(0, payload)
+    answer::accepted(payload)
 }

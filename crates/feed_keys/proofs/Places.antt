@@ -5,9 +5,9 @@ use Prim.Native.Nat.{ℕ, zero, suc, _+_, _-_, _/_, _≤_, _<_}
 use native.Mathlib.Nat.{add-zero}
 use native.Mathlib.Omega.{arith}
 use lib.ListN.{length, take}
-use Rattle.group.specs.Status.{badPayload}
+use Rattle.answer.specs.Numbers.{badPayload, badWord}
 use Rattle.word.specs.declared.Step.{Step}
-use Rattle.word.specs.Word.{badWord, go, payload}
+use Rattle.word.specs.Word.{go, payload}
 use Rattle.word.proofs.Passed.{passed, tested-is}
 use Rattle.word.proofs.Places.{In, tested-in, next-in, tested-on, next-on, tested-status, next-status}
 use Rattle.word.proofs.Before.{next-same, payload-same, tested-same}

@@ -46,10 +46,10 @@ fn key_word(words: &[u32], p: usize, n: usize) -> Step
     ensures { λ r. ⌜ r ≡ keyWord n (now (words .entry)) p ⌝ }
 {
     if !is_due(words, p, KEY) {
-        return stop(word::BAD_WORD, p);
+        return stop(answer::BAD_WORD, p);
     }
     let holds = key_payload(n, payload(words, p));
-    tested(words, p, KEY, holds, group::BAD_PAYLOAD)
+    tested(words, p, KEY, holds, answer::BAD_PAYLOAD)
 }
 
 // Puts the three bytes of key word i into `key`, the earliest the highest.

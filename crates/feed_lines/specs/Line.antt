@@ -3,7 +3,7 @@ use Prim.Native.Nat.{ℕ, _+_, _≤_, _<_}
 use mathlib.Core.Bool.{Bool, true, false, cond, _||_}
 use mathlib.Core.List.{List, [], _∷_, _++_}
 use lib.Dec.{eqb, leb}
-use Rattle.group.specs.declared.Answer.{Answer}
+use Rattle.answer.specs.declared.Answer.{Answer}
 use Rattle.feed.specs.Head.{headDepth, headWidth}
 use Rattle.feed.specs.declared.Recorded.{Recorded}
 use Rattle.feed.specs.declared.Recorded.the-variants as recorded
@@ -71,15 +71,15 @@ headLine a =
 unfoldable pub stops : ℕ → Bool
 stops s = eqb s 1 || eqb s 2 || eqb s 4 || eqb s 8 || eqb s 9
 
-unfoldable pub rejectedLine : ℕ → ℕ → Line
-rejectedLine s i = cond (stops s) (line.Stopped s i) (line.Refused s)
+unfoldable pub refusedLine : ℕ → ℕ → Line
+refusedLine s i = cond (stops s) (line.Stopped s i) (line.Refused s)
 
 -- the line of a record or the end, after so many words of the feed and so many records
 unfoldable pub lineOf : Recorded → ℕ → ℕ → Line
 lineOf recorded.Updated before records = line.Updated
 lineOf (recorded.Estimate v) before records = line.Estimate v
 lineOf recorded.Ended before records = line.End records
-lineOf (recorded.Rejected s p) before records = rejectedLine s (before + p)
+lineOf (recorded.Refused s p) before records = refusedLine s (before + p)
 
 -- whether a record follows
 unfoldable pub continues : Line → Bool

@@ -3,7 +3,7 @@ mod text;
 mod words;
 
 use feed::Recorded;
-use group::Answer;
+use answer::Answer;
 pub use text::Text;
 use text::begin;
 use text::pair;
@@ -107,12 +107,12 @@ pub fn line_of(r: Recorded, before: u64, records: u64) -> Line
         Recorded::Updated => Line::Updated,
         Recorded::Estimate { value } => Line::Estimate { value },
         Recorded::Ended => Line::End { records },
-        Recorded::Rejected { status, position } => rejected_line(status, before + position),
+        Recorded::Refused { status, position } => rejected_line(status, before + position),
     }
 }
 
 fn rejected_line(status: u8, index: u64) -> Line
-    ensures { λ l. ⌜ l ≡ spec.rejectedLine status index ⌝ }
+    ensures { λ l. ⌜ l ≡ spec.refusedLine status index ⌝ }
 {
     if stops(status) {
         return Line::Stopped { status, index };

@@ -6,7 +6,8 @@ use Prim.Native.Nat.{ℕ, zero, suc, _%_, _^_, _≤_}
 use native.Mathlib.Omega.{arith}
 use lib.Dec.{eqb, leb}
 use borrow.Author.Tests.{leb-true, eqb-true, ne-eqb}
-use Rattle.geometry.specs.Order.{unless, badKey}
+use Rattle.answer.specs.Order.{unless}
+use Rattle.geometry.specs.Checks.{badKey}
 use Rattle.word.specs.declared.Step.{Step}
 use Rattle.word.specs.Word.{endKind, payload, isDue}
 use Rattle.word.proofs.Laws.{both}
@@ -16,7 +17,7 @@ use Rattle.feed_records.specs.declared.Opening.{Opening}
 use Rattle.feed_records.specs.declared.Opening.the-variants as opening
 use Rattle.feed_records.specs.declared.Body.{Body}
 use Rattle.feed_records.specs.declared.Body.the-variants as body
-use Rattle.group.specs.Status.{accepted}
+use Rattle.answer.specs.Answers.{accepted}
 use Rattle.feed_records.proofs.Opening as the-opening
 use Rattle.feed_records.proofs.Body as the-body
 use Rattle.feed_records.specs.Answers.{bodyAnswer}

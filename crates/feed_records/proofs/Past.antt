@@ -6,9 +6,9 @@ use Prim.Native.Nat.{ℕ, _+_, _%_, _^_, _≤_}
 use native.Mathlib.Omega.{arith}
 use lib.Dec.{eqb}
 use lib.ListN.{take}
-use Rattle.group.specs.Status.{badPayload}
-use Rattle.geometry.specs.Order.{badKey}
-use Rattle.word.specs.Word.{endKind, badWord, next, payload, isDue, below}
+use Rattle.answer.specs.Numbers.{badPayload, badWord}
+use Rattle.geometry.specs.Checks.{badKey}
+use Rattle.word.specs.Word.{endKind, next, payload, isDue, below}
 use Rattle.word.proofs.Places.{below-on}
 use Rattle.word.proofs.Before.{next-same, payload-same, due-same, below-same}
 use Rattle.feed_keys.proofs.Places.{key-on, key-words-same}

@@ -3,7 +3,8 @@ use mathlib.Core.Path.{_≡_}
 use mathlib.Core.List.{List}
 use Prim.Native.Nat.{ℕ, _^_, _≤_}
 use lib.ListN.{length}
-use Rattle.word.specs.Word.{badWord, isDue, below}
+use Rattle.answer.specs.Numbers.{badWord}
+use Rattle.word.specs.Word.{isDue, below}
 use Rattle.word.proofs.Places.{In, below-in, next-in}
 use Rattle.feed_keys.proofs.Places.{key-in}
 use Rattle.feed_records.specs.declared.Opening.the-variants as opening

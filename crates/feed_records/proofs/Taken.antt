@@ -9,9 +9,9 @@ use borrow.Author.Tests.{eqb-false}
 use borrow.Table.Steps.{cases}
 use lib.Dec.{eqb, ltb, leb}
 use lib.ListN.{length}
-use Rattle.group.specs.Status.{badPayload}
-use Rattle.geometry.specs.Order.{badKey}
-use Rattle.word.specs.Word.{endKind, badWord, go, payload, isDue, below}
+use Rattle.answer.specs.Numbers.{badPayload, badWord}
+use Rattle.geometry.specs.Checks.{badKey}
+use Rattle.word.specs.Word.{endKind, go, payload, isDue, below}
 use Rattle.word.proofs.Laws.{due-in}
 use Rattle.word.proofs.Passed.{goes, passed, below-is}
 use Rattle.word.proofs.Places.{tested-status, next-status}

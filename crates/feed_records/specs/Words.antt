@@ -3,10 +3,10 @@ use Prim.Native.Nat.{ℕ, _+_, _*_, _%_, _^_}
 use mathlib.Core.Bool.{cond}
 use mathlib.Core.List.{List}
 use lib.Dec.{eqb}
-use Rattle.group.specs.Status.{badPayload}
-use Rattle.geometry.specs.Order.{badKey}
+use Rattle.answer.specs.Numbers.{badPayload, badWord}
+use Rattle.geometry.specs.Checks.{badKey}
 use Rattle.word.specs.declared.Step.{Step}
-use Rattle.word.specs.Word.{endKind, badWord, next, payload, isDue, below}
+use Rattle.word.specs.Word.{endKind, next, payload, isDue, below}
 use Rattle.feed_records.specs.declared.Opening.{Opening}
 use Rattle.feed_records.specs.declared.Opening.the-variants as opening
 use Rattle.feed_records.specs.declared.Body.{Body}

@@ -58,12 +58,12 @@ pub fn first_word(before: u64, words: &[u32]) -> Opening
     }
     if !is_due(words, 0, word::END) {
         return Opening::Refused {
-            status: word::BAD_WORD,
+            status: answer::BAD_WORD,
         };
     }
     if n as u64 != before % 268435456 {
         return Opening::Refused {
-            status: group::BAD_PAYLOAD,
+            status: answer::BAD_PAYLOAD,
         };
     }
     Opening::End

@@ -14,8 +14,8 @@ use Rattle.laws.proofs.Lists.{Bytes}
 use Rattle.geometry.specs.Geometry.{size, RowIn, RowsIn}
 use Rattle.geometry.specs.Geometry as geometry
 use Rattle.geometry.specs.Rows.{mapRows, ofRows, ofGroups, largest}
-use Rattle.geometry.specs.Order.{earlier, earliest}
-use Rattle.geometry.proofs.Widths.{earlier-none, earlier-assoc}
+use Rattle.answer.specs.Order.{earlier, earliest}
+use Rattle.answer.proofs.Order.{earlier-none, earlier-assoc}
 
 -- a copy from the front: one element more, and all
 pub copy-more : (s d : List ℕ) (i : ℕ) → i < length s → i < length d → set (take i s ++ drop i d) i (getD s i 0) ≡ take (i + 1) s ++ drop (i + 1) d

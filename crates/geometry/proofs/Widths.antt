@@ -1,4 +1,4 @@
--- Laws of widths and of the order of rejections.
+-- Laws of widths and of the order of refusals.
 use mathlib.Core.Path.{_≡_, refl, sym, ap, _∙_}
 use mathlib.Core.Bool.{Bool, true, false, true≢false, or-true, and-eq-true-iff}
 use mathlib.Core.Logic.{⊎-elim}
@@ -15,8 +15,8 @@ use lib.Pow.{pow-add, pow-mono, pow-lt}
 use Rattle.laws.proofs.Tests.{or-cases}
 use Rattle.laws.proofs.Tests.{both-ways}
 use Rattle.geometry.specs.Geometry.{oneOfPowers, validDepth, validWidth, stride, size, RowsIn}
-use Rattle.geometry.specs.Order.{firstOf, unless, badShape, earlier, answerOf}
-use Rattle.group.specs.Status.{rejected}
+use Rattle.answer.specs.Order.{firstOf, unless}
+use Rattle.geometry.specs.Checks.{badShape}
 
 shift : (p i : ℕ) → p * 2 * 2 ^ i ≡ p * 2 ^ suc i
 shift p i = mul-assoc p 2 (2 ^ i) ∙ ap (λ (x : ℕ). p * x) (mul-comm 2 (2 ^ i) ∙ sym (pow-suc 2 i))
@@ -115,49 +115,6 @@ width-test w l h =
 pub stride-is : (w : ℕ) → stride w ≡ w + w / 8
 unfolding stride
 stride-is w = omega arith
-
--- tests in checking order, taken in two parts
-pub first-rest : (xs ys : List ℕ) → firstOf xs ≡ 0 → firstOf (xs ++ ys) ≡ firstOf ys
-unfolding firstOf
-first-rest [] ys e = refl
-first-rest (zero ∷ xs) ys e = first-rest xs ys e
-first-rest (suc s ∷ xs) ys e = absurd (omega arith)
-
-pub first-part : (xs ys : List ℕ) → 0 < firstOf xs → firstOf (xs ++ ys) ≡ firstOf xs
-unfolding firstOf
-first-part [] ys e = absurd (omega arith)
-first-part (zero ∷ xs) ys e = first-part xs ys e
-first-part (suc s ∷ xs) ys e = refl
-
-pub first-one : (s : ℕ) → firstOf (s ∷ []) ≡ s
-unfolding firstOf
-first-one zero = refl
-first-one (suc s) = refl
-
-pub earlier-none : (a : ℕ) → earlier a 0 ≡ a
-unfolding earlier
-earlier-none zero = refl
-earlier-none (suc a) = refl
-
-pub earlier-least : (a b : ℕ) → 0 < a → 0 < b → earlier a b ≡ min a b
-unfolding earlier
-earlier-least zero b h k = absurd (omega arith)
-earlier-least (suc a) zero h k = absurd (omega arith)
-earlier-least (suc a) (suc b) h k = refl
-
--- which of several groups' answers comes first does not depend on how they are taken together
-pub earlier-assoc : (a b c : ℕ) → earlier (earlier a b) c ≡ earlier a (earlier b c)
-unfolding earlier
-earlier-assoc zero b c = refl
-earlier-assoc (suc a) zero c = refl
-earlier-assoc (suc a) (suc b) zero = earlier-none (min (suc a) (suc b))
-earlier-assoc (suc a) (suc b) (suc c) =
-    rw (earlier-least (min (suc a) (suc b)) (suc c) (omega arith) (omega arith), earlier-least (suc a) (min (suc b) (suc c)) (omega arith) (omega arith)) (omega arith)
-
-pub answer-rejected : (s v : ℕ) → (s ≡ 0 → ⊥) → rejected s ≡ answerOf s v
-unfolding answerOf
-answer-rejected zero v h = absurd (h refl)
-answer-rejected (suc s) v h = refl
 
 pub depth-in : (d : ℕ) → validDepth d ≡ true → (1 ≤ d) × (d ≤ 8)
 unfolding validDepth

@@ -1,3 +1,3 @@
 pub mod Geometry
-pub mod Order
+pub mod Checks
 pub mod Rows

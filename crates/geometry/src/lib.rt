@@ -1,5 +1,4 @@
-// The geometry of a meter, the order of rejections, and where rows and groups lie.
-use group::Answer;
+// The geometry of a meter, and where rows and groups lie.
 use group::Group;
 ghost use mathlib.Core.Path.{_≡_};
 ghost use mathlib.Core.Bool.{true};
@@ -8,8 +7,7 @@ ghost use Prim.Native.Nat.{_+_, _*_, _<_, _≤_};
 ghost use lib.ListN.{length, take, drop};
 ghost use Rattle.geometry.specs.Geometry.{validDepth, validWidth, RowIn};
 ghost use Rattle.geometry.specs.Geometry as geometry;
-ghost use Rattle.geometry.specs.Order.{badKey, badShape, answerOf};
-ghost use Rattle.geometry.specs.Order as order;
+ghost use Rattle.geometry.specs.Checks.{badKey, badShape};
 ghost use Rattle.geometry.specs.Rows.{groupAt, withGroup};
 
 // The largest width of a row.
@@ -50,13 +48,13 @@ pub fn bad_shape(d: usize, w: usize, bytes: usize) -> u8
     ensures { λ r. ⌜ r ≡ badShape d w bytes ⌝ }
 {
     if !valid_depth(d) {
-        return 1;
+        return answer::INVALID_DEPTH;
     }
     if !valid_width(w) {
-        return 2;
+        return answer::INVALID_WIDTH;
     }
     if bytes != d * stride(w) {
-        return 3;
+        return answer::WRONG_LENGTH;
     }
     0
 }
@@ -66,43 +64,12 @@ pub fn bad_key(bytes: usize) -> u8
     ensures { λ r. ⌜ r ≡ badKey bytes ⌝ }
 {
     if bytes < 1 {
-        return 4;
+        return answer::INVALID_KEY_LENGTH;
     }
     if 64 < bytes {
-        return 4;
+        return answer::INVALID_KEY_LENGTH;
     }
     0
-}
-
-// Of two groups' statuses the one whose line comes first.
-pub fn earlier(a: u8, b: u8) -> u8
-    ensures { λ r. ⌜ r ≡ order.earlier a b ⌝ }
-{
-    if a == 0 {
-        return b;
-    }
-    if b == 0 {
-        return a;
-    }
-    if a < b { a } else { b }
-}
-
-// An answer by its status.
-pub fn answer(status: u8, value: u64) -> Answer
-    ensures { λ r. ⌜ r ≡ answerOf status value ⌝ }
-{
-    if status == 0 {
-        return Answer {
-            status: 0,
-            position: 0,
-            value,
-        };
-    }
-    Answer {
-        status,
-        position: 0,
-        value: 0,
-    }
 }
 
 // Row r of a memory.

@@ -25,7 +25,7 @@ use Rattle.group.specs.declared.Group.{Group}
 use Rattle.group.specs.declared.Kept.{Kept}
 use Rattle.group.specs.declared.Outcome.{Outcome}
 use Rattle.group.specs.Group.{decode, encode, stored, settle, unchanged, added, holds, united}
-use Rattle.group.specs.Status.{invalidMerge, counterFull}
+use Rattle.answer.specs.Numbers.{invalidMerge, counterFull}
 
 -- a counter of level 3 holds 64 bits
 pub cap-three : cap 3 ≡ 2 ^ 64

@@ -9,7 +9,7 @@ use Rattle.group_layout.specs.Layout.{valid}
 use Rattle.group_block.specs.Block.{word}
 use Rattle.group_block.specs.Sum.{Sum, fits, over, add, unite}
 use Rattle.group.specs.declared.Group.{Group}
-use Rattle.group.specs.Status.{invalidMerge}
+use Rattle.answer.specs.Numbers.{invalidMerge}
 use Rattle.group.specs.Group.{decode, encode, settle, unchanged, added, united}
 use Rattle.group.proofs.Laws.{encode-valid}
 

@@ -11,11 +11,12 @@ use Rattle.group_block.specs.Block.{Block, cap, shape, word, block, counterAt}
 use Rattle.group_block.specs.Change.{change}
 use Rattle.group_block.specs.Sum.{Sum, fits, over}
 use Rattle.group_block.specs.Sum as sum
-use Rattle.group.specs.declared.Answer.{Answer}
+use Rattle.answer.specs.declared.Answer.{Answer}
 use Rattle.group.specs.declared.Group.{Group}
 use Rattle.group.specs.declared.Reading.{Reading}
 use Rattle.group.specs.declared.Outcome.{Outcome}
-use Rattle.group.specs.Status.{invalidMerge, counterFull, accepted, rejected}
+use Rattle.answer.specs.Answers.{accepted, refused}
+use Rattle.answer.specs.Numbers.{invalidMerge, counterFull}
 
 -- whether a merge byte is one of the 26 valid ones
 abbrev pub validMerge : ℕ → Bool
@@ -35,7 +36,7 @@ reading c = record { status = 0; value = c .value; level = c .level }
 unfoldable pub read : Group → ℕ → Reading
 read g slot = cond (valid 3 (g .merge)) (reading (counterAt (decode g) (slot % 8))) (record { status = invalidMerge; value = 0; level = 0 })
 
--- a rejected call leaves the group as it was
+-- a refused call leaves the group as it was
 abbrev pub unchanged : ℕ → Group → Outcome
 unchanged s g = record { status = s; group = g }
 
@@ -62,7 +63,7 @@ united target source =
 
 -- the largest level of a group's counters
 unfoldable pub widestOf : ℕ → Answer
-widestOf m = cond (valid 3 m) (accepted (layout-spec.widest (layout 3 m))) (rejected invalidMerge)
+widestOf m = cond (valid 3 m) (accepted (layout-spec.widest (layout 3 m))) (refused invalidMerge)
 
 -- another value in the counter of a slot; the layout stays
 unfoldable pub changed : Group → ℕ → ℕ → Outcome

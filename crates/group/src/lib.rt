@@ -1,4 +1,5 @@
 // A group of eight slots: its counters, its merge byte and its layout code.
+use answer::Answer;
 use group_block::Summed;
 use group_levels::level_at;
 use group_levels::widest_level;
@@ -9,21 +10,6 @@ ghost use mathlib.Core.Bool.{false, cond};
 ghost use Rattle.group_layout.specs.Layout.{valid};
 ghost use Rattle.group.specs.Group.{read, stored, holds, added, united, widestOf, changed};
 ghost use Rattle.group.specs.Group as spec;
-ghost use Rattle.group.specs.Status as status_spec;
-
-// Document 01's numbers of rejected calls.
-pub const INVALID_MERGE: u8 = 5;
-
-pub const COUNTER_FULL: u8 = 6;
-
-pub const BAD_PAYLOAD: u8 = 9;
-
-// What a call answers: document 01's number, place and figure.
-pub struct Answer {
-    pub status: u8,
-    pub position: u64,
-    pub value: u64,
-}
 
 // Eight count bytes and their merge byte.
 pub struct Group {
@@ -38,30 +24,10 @@ pub struct Reading {
     pub level: u32,
 }
 
-// A group after an addition or a union; if rejected, as it was before.
+// A group after an addition or a union; if refused, as it was before.
 pub struct Outcome {
     pub status: u8,
     pub group: Group,
-}
-
-pub fn accepted(value: u64) -> Answer
-    ensures { λ r. ⌜ r ≡ status_spec.accepted value ⌝ }
-{
-    Answer {
-        status: 0,
-        position: 0,
-        value,
-    }
-}
-
-pub fn rejected(status: u8) -> Answer
-    ensures { λ r. ⌜ r ≡ status_spec.rejected status ⌝ }
-{
-    Answer {
-        status,
-        position: 0,
-        value: 0,
-    }
 }
 
 // Whether a merge byte is one of the 26 valid ones.
@@ -78,7 +44,7 @@ pub fn counter(g: Group, slot: usize) -> Reading
     let counts = g.counts;
     if !is_valid(g.merge) {
         return Reading {
-            status: INVALID_MERGE,
+            status: answer::INVALID_MERGE,
             value: 0,
             level: 0,
         };
@@ -104,7 +70,7 @@ fn settled(s: Summed) -> Outcome
     }
 }
 
-// A rejected group, as it was.
+// A refused group, as it was.
 fn unchanged(status: u8, g: Group) -> Outcome
     ensures { λ r. ⌜ r ≡ spec.unchanged status g ⌝ }
 {
@@ -149,13 +115,13 @@ pub fn add_widening(g: Group, slot: usize, amount: u32) -> Outcome
 {
     let counts = g.counts;
     if !is_valid(g.merge) {
-        return unchanged(INVALID_MERGE, g);
+        return unchanged(answer::INVALID_MERGE, g);
     }
     let word = group_bytes::number_of(counts);
     let k = slot % 8;
     let level = level_at(g.merge, k);
     if level == 3 {
-        return unchanged(COUNTER_FULL, g);
+        return unchanged(answer::COUNTER_FULL, g);
     }
     settled(group_sums::add_widening(word, g.merge, level, k, amount))
 }
@@ -185,15 +151,15 @@ pub fn unite_status(target: Group, source: Group) -> u8
     let target_counts = target.counts;
     let source_counts = source.counts;
     if !is_valid(target.merge) {
-        return INVALID_MERGE;
+        return answer::INVALID_MERGE;
     }
     if !is_valid(source.merge) {
-        return INVALID_MERGE;
+        return answer::INVALID_MERGE;
     }
     let target_word = group_bytes::number_of(target_counts);
     let source_word = group_bytes::number_of(source_counts);
     if !sum_fits(target_word, target.merge, source_word, source.merge) {
-        return COUNTER_FULL;
+        return answer::COUNTER_FULL;
     }
     0
 }
@@ -218,9 +184,9 @@ pub fn widest(merge: u8) -> Answer
     ensures { λ r. ⌜ r ≡ widestOf merge ⌝ }
 {
     if !is_valid(merge) {
-        return rejected(INVALID_MERGE);
+        return answer::refused(answer::INVALID_MERGE);
     }
-    accepted(widest_level(merge) as u64)
+    answer::accepted(widest_level(merge) as u64)
 }
 
 // Another value in the counter that a slot is in: of the value the bits that the counter holds. The layout stays.
@@ -229,7 +195,7 @@ pub fn change(g: Group, slot: usize, value: u64) -> Outcome
 {
     let counts = g.counts;
     if !is_valid(g.merge) {
-        return unchanged(INVALID_MERGE, g);
+        return unchanged(answer::INVALID_MERGE, g);
     }
     let word = with_value(group_bytes::number_of(counts), g.merge, slot % 8, value);
     Outcome {

@@ -9,7 +9,7 @@ use Rattle.group_layout.specs.Layout.{layout, valid, ones}
 use Rattle.group_layout.specs.Code.{layouts, uncode}
 use Rattle.group_layout.proofs.Laws.{layout-marks, marks-layout, valid-marks}
 use Rattle.group_layout.proofs.Codes.{code-lt, uncode-code, code-uncode}
-use Rattle.group.specs.Status.{accepted}
+use Rattle.answer.specs.Answers.{accepted}
 use Rattle.group_codes.specs.Pack.{mergeCode, codeMerge, fourCode, packed, fourMerges, unpacked}
 
 -- how many numbers below n pass a test

@@ -2,10 +2,11 @@
 use Prim.Native.Nat.{ℕ}
 use mathlib.Core.Path.{_≡_}
 use mathlib.Core.List.{List, [], _∷_}
-use Rattle.group.specs.declared.Answer.{Answer}
+use Rattle.answer.specs.declared.Answer.{Answer}
 use Rattle.group.specs.declared.Group.{Group}
 use Rattle.group.specs.declared.Outcome.{Outcome}
-use Rattle.group.specs.Status.{invalidMerge, counterFull, accepted, rejected}
+use Rattle.answer.specs.Answers.{accepted, refused}
+use Rattle.answer.specs.Numbers.{invalidMerge, counterFull}
 use Rattle.group.specs.Group.{unchanged, added, united}
 use Rattle.group_codes.specs.Pack.{groupCode, packed}
 
@@ -63,9 +64,9 @@ cases =
     ∷ codes 0x07 (accepted 20)
     ∷ codes 0x77 (accepted 24)
     ∷ codes 0x7f (accepted 25)
-    ∷ codes 0x02 (rejected invalidMerge)
-    ∷ codes 0x08 (rejected invalidMerge)
-    ∷ codes 0x80 (rejected invalidMerge)
+    ∷ codes 0x02 (refused invalidMerge)
+    ∷ codes 0x08 (refused invalidMerge)
+    ∷ codes 0x80 (refused invalidMerge)
     -- P10
     ∷ packs 0x70 0x44 0x00 0x00 (accepted 74360)
     ∷ packs 0x7f 0x7f 0x7f 0x7f (accepted 456975)

@@ -1,11 +1,11 @@
 // Layout codes of a group and of four groups.
-use group::Answer;
+use answer::Answer;
 ghost use mathlib.Core.Path.{_≡_};
 ghost use mathlib.Core.Bool.{_&&_};
 ghost use Rattle.group_layout.specs.Layout.{valid};
 ghost use Rattle.group_codes.specs.Pack.{groupCode, packed, unpacked};
 
-// The merge bytes of four groups; all 0 if rejected.
+// The merge bytes of four groups; all 0 if refused.
 pub struct Unpacked {
     pub answer: Answer,
     pub merges: [u8; 4],
@@ -16,9 +16,9 @@ pub fn code(merge: u8) -> Answer
     ensures { λ r. ⌜ r ≡ groupCode merge ⌝ }
 {
     if !group::is_valid(merge) {
-        return group::rejected(group::INVALID_MERGE);
+        return answer::refused(answer::INVALID_MERGE);
     }
-    group::accepted(group_layout::code(3, merge) as u64)
+    answer::accepted(group_layout::code(3, merge) as u64)
 }
 
 fn four_valid(a: u8, b: u8, c: u8, d: u8) -> bool
@@ -39,10 +39,10 @@ pub fn pack(a: u8, b: u8, c: u8, d: u8) -> Answer
     ensures { λ r. ⌜ r ≡ packed a b c d ⌝ }
 {
     if !four_valid(a, b, c, d) {
-        return group::rejected(group::INVALID_MERGE);
+        return answer::refused(answer::INVALID_MERGE);
     }
     let high = group_layout::code(3, a) * 17576 + group_layout::code(3, b) * 676;
-    group::accepted((high + group_layout::code(3, c) * 26 + group_layout::code(3, d)) as u64)
+    answer::accepted((high + group_layout::code(3, c) * 26 + group_layout::code(3, d)) as u64)
 }
 
 // The merge bytes of the four groups that a layout code stands for.
@@ -51,7 +51,7 @@ pub fn unpack(code: u32) -> Unpacked
 {
     if 456976 <= code {
         return Unpacked {
-            answer: group::rejected(group::BAD_PAYLOAD),
+            answer: answer::refused(answer::BAD_PAYLOAD),
             merges: [0; 4],
         };
     }
@@ -60,7 +60,7 @@ pub fn unpack(code: u32) -> Unpacked
     let c = group_layout::unpack(3, code / 26 % 26);
     let d = group_layout::unpack(3, code % 26);
     Unpacked {
-        answer: group::accepted(0),
+        answer: answer::accepted(0),
         merges: [a, b, c, d],
     }
 }

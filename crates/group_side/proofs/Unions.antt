@@ -15,7 +15,6 @@ use Rattle.laws.proofs.Lists.{Bytes}
 use Rattle.group_bytes.specs.Bytes.{number, bytes}
 use Rattle.group_bytes.proofs.Bytes.{number-lt, bytes-number}
 use Rattle.group_layout.specs.Layout.{Layout, merged, halves, bit, ones, layout, valid}
-use Rattle.group_block.specs.Kind.{ordinary}
 use Rattle.group_block.specs.Block.{Block, cap, Fits, fill, block, total}
 use Rattle.group_block.specs.Sum.{fits, held, join, unite}
 use Rattle.group_block.proofs.Laws.{fill-fits, total-lt}

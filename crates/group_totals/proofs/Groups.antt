@@ -13,11 +13,11 @@ use Rattle.group_layout.proofs.Laws.{layout-marks, marks-in, widest-le}
 use Rattle.group_block.specs.Kind.{ordinary}
 use Rattle.group_block.specs.Block.{cap, shape, word, counterAt}
 use Rattle.group_block.specs.Counts.{Adds}
-use Rattle.group.specs.declared.Answer.{Answer}
+use Rattle.answer.specs.declared.Answer.{Answer}
 use Rattle.group.specs.declared.Group.{Group}
 use Rattle.group.specs.declared.Outcome.{Outcome}
 use Rattle.group.specs.declared.Reading.{Reading}
-use Rattle.group.specs.Status.{accepted}
+use Rattle.answer.specs.Answers.{accepted}
 use Rattle.group.specs.Group.{encode, read, reading, settle, added, united, widestOf}
 use Rattle.group.proofs.Laws.{decode-encode, encode-valid}
 use Rattle.group_totals.proofs.Canon.{small, canon, canonSum, canon-same, canon-fits, sum-cases, plus-off, canon-off, add-canon, unite-canon, counter-is, Cause, level-le}

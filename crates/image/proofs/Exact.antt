@@ -10,7 +10,7 @@ use borrow.Author.Tests.{lt-ltb, ltb-true}
 use lib.ListN.{length, getD, take, drop, length-append, length-drop, List·getD-append, List·getD-eq-default}
 use lib.Seq.{getD-take, getD-drop, getD-append-add, ext-getD, length-take-le, take-at, drop-at}
 use Rattle.laws.proofs.Lists.{Bytes}
-use Rattle.group.specs.declared.Answer.{Answer}
+use Rattle.answer.specs.declared.Answer.{Answer}
 use Rattle.group.specs.declared.Group.{Group}
 use Rattle.group.specs.Group.{validMerge}
 use Rattle.group_codes.specs.Pack.{packed, fourMerges, unpacked}

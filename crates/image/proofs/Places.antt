@@ -7,13 +7,14 @@ use native.Mathlib.Omega.{arith}
 use borrow.Table.Steps.{cases}
 use lib.Dec.{eqb}
 use lib.ListN.{length}
-use Rattle.group.specs.declared.Answer.{Answer}
-use Rattle.group.specs.Status.{badPayload}
-use Rattle.geometry.specs.Order.{badShape, Done}
-use Rattle.word.specs.Word.{headKind, endKind, go, stop, badWord, next, payload, tested, below}
+use Rattle.answer.specs.declared.Answer.{Answer}
+use Rattle.answer.specs.Numbers.{badPayload, badWord, otherMeter}
+use Rattle.answer.specs.Answers.{Done}
+use Rattle.geometry.specs.Checks.{badShape}
+use Rattle.word.specs.Word.{headKind, endKind, go, stop, next, payload, tested, below}
 use Rattle.word.proofs.Places.{In, tested-in, below-in, next-in}
 use Rattle.image_format.specs.Image.{headPayload}
-use Rattle.image_format.specs.Read.{otherMeter, checkHead, checkFours, checkEnd, checked, finishRead, readAfter, taken}
+use Rattle.image_format.specs.Read.{checkHead, checkFours, checkEnd, checked, finishRead, readAfter, taken}
 use Rattle.image.proofs.Sharp.{fours-cut}
 
 end-in : (words : List ℕ) (p : ℕ) → p ≤ length words → In (length words) (checkEnd words p)

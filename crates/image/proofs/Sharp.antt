@@ -9,16 +9,15 @@ use borrow.Author.Tests.{eqb-true, eqb-false, eq-eqb, lt-ltb}
 use borrow.Table.Steps.{cases}
 use lib.Dec.{eqb, ltb}
 use lib.ListN.{length, take, length-take}
-use Rattle.group.specs.Status.{badPayload}
+use Rattle.answer.specs.Numbers.{badPayload, badWord, otherMeter}
 use Rattle.group_codes.specs.Pack.{unpacked}
-use Rattle.word.specs.declared.Step.{Step}
-use Rattle.word.specs.Word.{headKind, endKind, go, stop, badWord, next, payload, isDue, tested, below}
+use Rattle.word.specs.Word.{headKind, endKind, go, stop, next, payload, isDue, tested, below}
 use Rattle.word.proofs.Laws.{due-in}
 use Rattle.word.proofs.Passed.{goes, below-is}
 use Rattle.word.proofs.Places.{tested-at}
 use Rattle.word.proofs.Before.{Cut, cut-go, next-cut, payload-same, due-same, none-due, below-cut}
 use Rattle.image_format.specs.Image.{headPayload, layoutKind, countKind, wordsOf, levelAt, isFirst}
-use Rattle.image_format.specs.Read.{otherMeter, checkHead, checkEnd, checked, firstBits, checkParts, checkSlot, checkSlots, checkGroups, mergesAt, checkFour, checkFours}
+use Rattle.image_format.specs.Read.{checkHead, checkEnd, checked, firstBits, checkParts, checkSlot, checkSlots, checkGroups, mergesAt, checkFour, checkFours}
 
 module _ (words : List ℕ) (q : ℕ) where
   abbrev front : List ℕ

@@ -1,5 +1,5 @@
 // The image of a meter: 32-bit words that hold its depth, its width, and every counter at its layout.
-use group::Answer;
+use answer::Answer;
 ghost use mathlib.Core.Path.{_≡_};
 ghost use Prim.Native.Nat.{_≤_};
 ghost use lib.ListN.{length};
@@ -13,16 +13,16 @@ pub fn write(d: usize, w: usize, memory: &[u8], words: &mut [u32]) -> Answer
 {
     let status = geometry::bad_shape(d, w, memory.len());
     if status != 0 {
-        return rejected(status, 0);
+        return refused(status, 0);
     }
     if !image_writer::rows_valid(memory, d, w) {
-        return rejected(group::INVALID_MERGE, 0);
+        return refused(answer::INVALID_MERGE, 0);
     }
     let n = image_writer::table_size(memory, w);
     let sizes = image_format::size_table(n);
     let count = image_writer::rows_size(memory, d, w, &sizes[0..n]) + 2;
     if words.len() < count {
-        return rejected(image_format::TOO_FEW_WORDS, 0);
+        return refused(answer::TOO_FEW_WORDS, 0);
     }
     let codes = image_format::code_table(n);
     // all layout codes or none, as with the merge bytes
@@ -40,14 +40,14 @@ pub fn read(d: usize, w: usize, memory: &mut [u8], words: &[u32]) -> Answer
 {
     let status = geometry::bad_shape(d, w, memory.len());
     if status != 0 {
-        return rejected(status, 0);
+        return refused(status, 0);
     }
     let n = image_reader::table_size(words.len(), d, w);
     let layouts = image_reader::layout_table(n);
     let fields = image_format::field_table(n);
     let s = image_reader::check(words, d, w, &layouts[0..n], &fields[0..17 * n]);
     if s.status != 0 {
-        return rejected(s.status, s.position);
+        return refused(s.status, s.position);
     }
     image_reader::read_rows(memory, d, w, words, &layouts[0..n], &fields[0..17 * n]);
     accepted(s.position)
@@ -63,7 +63,7 @@ fn accepted(count: usize) -> Answer
     }
 }
 
-fn rejected(status: u8, position: usize) -> Answer
+fn refused(status: u8, position: usize) -> Answer
     ensures { λ r. ⌜ r ≡ record { status = status; position = position; value = 0 } ⌝ }
 {
     Answer {

@@ -15,7 +15,7 @@ use Rattle.group_block.proofs.Slots.{level-le}
 use Rattle.group.specs.declared.Group.{Group}
 use Rattle.group.specs.declared.Reading.{Reading}
 use Rattle.group.specs.Group.{decode, read, reading}
-use Rattle.group.specs.Status.{invalidMerge}
+use Rattle.answer.specs.Numbers.{invalidMerge}
 use Rattle.geometry.specs.Geometry.{validWidth}
 use Rattle.geometry.proofs.Widths.{width-is as power-is}
 use Rattle.image_format.specs.Image.{parts, wordsOf, levelAt, isFirst, slotWords, logFrom}

@@ -13,7 +13,7 @@ use Rattle.group_block.specs.Block.{counterAt}
 use Rattle.group_block.proofs.Slots.{levelOf, level-is}
 use Rattle.group.specs.declared.Group.{Group}
 use Rattle.group.specs.Group.{decode, read, reading}
-use Rattle.group.specs.Status.{invalidMerge}
+use Rattle.answer.specs.Numbers.{invalidMerge}
 use Rattle.group_codes.specs.Pack.{mergeCode}
 use Rattle.group.proofs.Changing.{shape-decode}
 use Rattle.image_format.specs.Image.{wordsOf, levelAt, isFirst}

@@ -5,20 +5,17 @@ use mathlib.Core.List.{List, [], _∷_, _++_}
 use lib.Dec.{eqb}
 use lib.ListN.{length, take, drop, replicate}
 use Rattle.group.specs.declared.Group.{Group}
-use Rattle.group.specs.Status.{badPayload, accepted, rejected}
+use Rattle.answer.specs.Answers.{accepted, refused, Done}
+use Rattle.answer.specs.Numbers.{badPayload, badWord, otherMeter}
 use Rattle.group.specs.Group.{changed}
 use Rattle.group_codes.specs.Pack.{unpacked}
 use Rattle.geometry.specs.Geometry.{stride}
-use Rattle.geometry.specs.Order.{badShape, Done}
+use Rattle.geometry.specs.Checks.{badShape}
 use Rattle.geometry.specs.Rows.{withGroup}
-use Rattle.word.specs.Word.{headKind, endKind, badWord, go, stop, next, payload, tested, below}
+use Rattle.word.specs.Word.{headKind, endKind, go, stop, next, payload, tested, below}
 use Rattle.image_format.specs.Image.{layoutKind, countKind, headPayload, wordsOf, levelAt, isFirst}
 use Rattle.image_format.specs.Write.{slotSize, groupSize}
 use Rattle.word.specs.declared.Step.{Step}
-
--- line 10
-abbrev pub otherMeter : ℕ
-otherMeter = 10
 
 -- The head's bits 9 to 27 are 0; then 10.
 unfoldable pub checkHead : ℕ → ℕ → List ℕ → Step
@@ -119,7 +116,7 @@ finishRead s new memory =
 
 unfoldable pub readAfter : ℕ → ℕ → ℕ → List ℕ → List ℕ → Done
 readAfter zero d w memory words = finishRead (checked d w words) (readRows d w memory words 1) memory
-readAfter (suc s) d w memory words = record { answer = rejected (suc s); memory = memory }
+readAfter (suc s) d w memory words = record { answer = refused (suc s); memory = memory }
 
 unfoldable pub taken : ℕ → ℕ → List ℕ → List ℕ → Done
 taken d w memory words = readAfter (badShape d w (length memory)) d w memory words

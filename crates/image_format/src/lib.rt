@@ -18,10 +18,6 @@ pub const LAYOUT: u32 = 2;
 
 pub const COUNT: u32 = 3;
 
-pub const TOO_FEW_WORDS: u8 = 7;
-
-pub const OTHER_METER: u8 = 10;
-
 // A word has its kind in the top four bits.
 pub fn word(kind: u32, payload: u32) -> u32
     requires { ⌜ kind < 2 ^ 4 ⌝ ∗ ⌜ payload < 2 ^ 28 ⌝ }

@@ -15,7 +15,7 @@ use Rattle.group_block.specs.Change.{change}
 use Rattle.group.specs.declared.Group.{Group}
 use Rattle.group_bytes.specs.Bytes.{bytes}
 use Rattle.group.specs.Group.{decode, changed, unchanged}
-use Rattle.group.specs.Status.{invalidMerge}
+use Rattle.answer.specs.Numbers.{invalidMerge}
 use Rattle.geometry.specs.Geometry.{stride}
 use Rattle.geometry.specs.Rows.{withGroup}
 use Rattle.word.specs.Word.{next, below, payload}

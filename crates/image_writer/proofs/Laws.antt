@@ -13,7 +13,8 @@ use lib.Seq.{sets, drop-cons, drop-drop, sets-eq}
 use Rattle.group_layout.specs.Layout.{valid}
 use Rattle.group.specs.declared.Group.{Group}
 use Rattle.group.specs.Group.{read}
-use Rattle.group.specs.Status.{invalidMerge, accepted, rejected}
+use Rattle.answer.specs.Answers.{accepted, refused}
+use Rattle.answer.specs.Numbers.{invalidMerge}
 use Rattle.group_codes.specs.Pack.{fourCode, packed, mergeCode}
 use Rattle.group_codes.proofs.Packing.{four-below, code-below}
 use Rattle.geometry.specs.Geometry.{stride}
@@ -57,7 +58,7 @@ pub packed-lt : (a b c d : ℕ) → packed a b c d .value < 456976
 unfolding packed
 packed-lt a b c d = go (valid 3 a && valid 3 b && valid 3 c && valid 3 d)
   where
-    go : (t : Bool) → cond t (accepted (fourCode a b c d)) (rejected invalidMerge) .value < 456976
+    go : (t : Bool) → cond t (accepted (fourCode a b c d)) (refused invalidMerge) .value < 456976
     go true = four-below a b c d
     go false = omega arith
 
@@ -74,7 +75,7 @@ packed-by a b c d =
     go (mergeCode a) (mergeCode b) (mergeCode c) (mergeCode d) (code-below a) (code-below b) (code-below c) (code-below d) (valid 3 a) (valid 3 b) (valid 3 c) (valid 3 d)
   where
     go : (w x y z : ℕ) → w < 26 → x < 26 → y < 26 → z < 26 → (p q r s : Bool)
-        → cond (p && q && r && s) (accepted (w * 17576 + x * 676 + y * 26 + z)) (rejected invalidMerge) .value
+        → cond (p && q && r && s) (accepted (w * 17576 + x * 676 + y * 26 + z)) (refused invalidMerge) .value
         ≡ cond (ltb (cond p w 26) 26 && ltb (cond q x 26) 26 && ltb (cond r y 26) 26 && ltb (cond s z 26) 26)
         (cond p w 26 * 17576 + cond q x 26 * 676 + cond r y 26 * 26 + cond s z 26) 0
     go w x y z hw hx hy hz false q r s = refl

@@ -10,12 +10,15 @@ use lib.Dec.{eqb}
 use lib.ListN.{length, replicate}
 use Rattle.hash.specs.Hash.{basis}
 use Rattle.geometry.specs.Geometry.{stride, size, RowsIn}
-use Rattle.geometry.specs.Order.{firstOf, earliest, badDepth, badWidth, badLength, badShape, badKey, answerOf, finish}
+use Rattle.answer.specs.Answers.{answerOf, finish, leaves}
+use Rattle.answer.specs.Order.{firstOf, earliest}
+use Rattle.geometry.specs.Checks.{badDepth, badWidth, badLength, badShape, badKey}
 use Rattle.geometry.specs.Rows.{mapRows, ofRows, least, largest}
 use Rattle.meter_row.specs.Row.{updateStatus, updateRow}
-use Rattle.geometry.proofs.Widths.{shape-good, first-rest, first-part, first-one}
+use Rattle.answer.proofs.Order.{first-rest, first-part, first-one, first-stop, first-skip}
+use Rattle.geometry.proofs.Widths.{shape-good}
 use Rattle.meter.specs.Meter.{badCall, cleared, updated, readStatus, readValue, estimated, rowStatus, rowLevel, widest, sourceStatus, sourceAdded, united}
-use Rattle.meter.proofs.Tests.{first-stop, first-skip, answer-bad, rejecting, accepting}
+use Rattle.answer.proofs.Answers.{answer-bad, refusing, accepting}
 
 -- a call with a key: its shape comes first
 pub call-shape-bad : (d w : ℕ) (memory key : List ℕ) → (badShape d w (length memory) ≡ 0 → ⊥) → badShape d w (length memory) ≡ badCall d w memory key
@@ -38,7 +41,7 @@ call-rows d w memory key e = shape-good d w (length memory) (call-good d w memor
 module _ (d w : ℕ) (memory : List ℕ) where
   pub cleared-bad : (s : ℕ) → s ≡ badShape d w (length memory) → (s ≡ 0 → ⊥) → (answerOf s 0 ≡ cleared d w memory .answer) × (memory ≡ cleared d w memory .memory)
   unfolding cleared
-  cleared-bad s e h = rejecting s (badShape d w (length memory)) (replicate (length memory) 0) memory (sym e) h
+  cleared-bad s e h = refusing s (badShape d w (length memory)) (replicate (length memory) 0) memory (sym e) h
 
   pub cleared-good : badShape d w (length memory) ≡ 0 → (answerOf 0 0 ≡ cleared d w memory .answer) × (replicate (length memory) 0 ≡ cleared d w memory .memory)
   unfolding cleared
@@ -55,12 +58,12 @@ module _ (d w : ℕ) (memory : List ℕ) where
         → (answerOf s 0 ≡ updated d w memory key amount .answer) × (memory ≡ updated d w memory key amount .memory)
     unfolding updated rows after
     updated-bad s e h =
-        rejecting s (firstOf (badCall d w memory key ∷ rows ∷ [])) after memory (rw (← e) (first-stop s (rows ∷ []) h)) h
+        refusing s (firstOf (badCall d w memory key ∷ rows ∷ [])) after memory (rw (← e) (first-stop s (rows ∷ []) h)) h
 
     pub updated-rows : badCall d w memory key ≡ 0 → (s : ℕ) (m : List ℕ) → s ≡ earliest (ofRows (updateStatus basis w key amount) (stride w) d 0 memory)
         → m ≡ cond (eqb s 0) (mapRows (updateRow basis w key amount) (stride w) d 0 memory) memory
         → (answerOf s 0 ≡ updated d w memory key amount .answer) × (m ≡ updated d w memory key amount .memory)
-    unfolding updated finish rows after
+    unfolding updated finish leaves rows after
     updated-rows b s m e h =
         let t : firstOf (badCall d w memory key ∷ rows ∷ []) ≡ s = first-skip (badCall d w memory key) (rows ∷ []) b ∙ first-one rows ∙ sym e in
         rw t (refl, h)
@@ -105,14 +108,14 @@ module _ (d w : ℕ) (memory : List ℕ) where
 
     pub united-bad : (s : ℕ) → s ≡ badShape d w (length memory) → (s ≡ 0 → ⊥) → (answerOf s 0 ≡ united d w memory source .answer) × (memory ≡ united d w memory source .memory)
     unfolding united sources tests sum
-    united-bad s e h = rejecting s tests sum memory (rw (← e) (first-stop s (badLength d w (length source) ∷ sources ∷ []) h)) h
+    united-bad s e h = refusing s tests sum memory (rw (← e) (first-stop s (badLength d w (length source) ∷ sources ∷ []) h)) h
 
     pub united-length : badShape d w (length memory) ≡ 0 → (length source ≡ length memory → ⊥)
         → (answerOf 3 0 ≡ united d w memory source .answer) × (memory ≡ united d w memory source .memory)
     unfolding united sources tests sum
     united-length b h =
         let long : length memory ≡ size d w = shape-good d w (length memory) b .1 .2 in
-        rejecting 3 tests sum memory
+        refusing 3 tests sum memory
         (first-skip (badShape d w (length memory)) (badLength d w (length source) ∷ sources ∷ []) b
         ∙ rw (ne-eqb (length source) (size d w) (λ e. h (e ∙ sym long))) (first-stop 3 (sources ∷ []) (λ z. omega arith))) (λ z. omega arith)
 
@@ -128,7 +131,7 @@ module _ (d w : ℕ) (memory : List ℕ) where
         → (s : ℕ) → s ≡ earliest (ofRows (sourceStatus w source) (stride w) d 0 memory) → (s ≡ 0 → ⊥)
         → (answerOf s 0 ≡ united d w memory source .answer) × (memory ≡ united d w memory source .memory)
     unfolding united sources tests sum
-    united-full b l s e h = rejecting s tests sum memory (united-tests b l ∙ sym e) h
+    united-full b l s e h = refusing s tests sum memory (united-tests b l ∙ sym e) h
 
     pub united-good : badShape d w (length memory) ≡ 0 → length source ≡ length memory → earliest (ofRows (sourceStatus w source) (stride w) d 0 memory) ≡ 0
         → (answerOf 0 0 ≡ united d w memory source .answer) × (mapRows (sourceAdded w source) (stride w) d 0 memory ≡ united d w memory source .memory)

@@ -10,17 +10,21 @@ use borrow.Author.Tests.{eqb-true}
 use lib.Dec.{eqb}
 use lib.ListN.{length, getD, take, drop, replicate, length-replicate}
 use lib.Seq.{drop-drop, getD-take, getD-drop}
+use Rattle.answer.proofs.Answers.{status-is}
 use Rattle.group_side.proofs.Unions.{unmerged-valid}
 use lib.Bits.{bitXor}
 use Rattle.hash.specs.Hash.{basis, fnv, fnvStep}
 use Rattle.hash.proofs.Hashing.{slot-lt}
 use Rattle.group.proofs.Outcomes.{added-eight, added-valid, united-valid}
 use Rattle.geometry.specs.Geometry.{validWidth, stride, size, RowsIn}
-use Rattle.geometry.specs.Order.{firstOf, earlier, earliest, unless, badLength, badShape, answerOf, finish}
+use Rattle.answer.specs.Answers.{finish, leaves}
+use Rattle.answer.specs.Order.{firstOf, earliest, unless}
+use Rattle.geometry.specs.Checks.{badLength, badShape}
 use Rattle.geometry.specs.Rows.{mapRows, ofRows, ofGroups, groupAt}
 use Rattle.meter_keys.specs.Keys.{keySlot}
 use Rattle.meter_row.specs.Row.{addedIn, updateStatus, updateRow, unitedAt, unitedStatus, uniteStatus, uniteRow}
-use Rattle.geometry.proofs.Widths.{shape-good, wide, stride-is, slot-in, group-in, first-one}
+use Rattle.answer.proofs.Order.{first-one, none-earlier, none-first}
+use Rattle.geometry.proofs.Widths.{shape-good, wide, stride-is, slot-in, group-in}
 use Rattle.geometry.proofs.Lists.{one-row, row-length}
 use Rattle.geometry.proofs.Groups.{row-mapped, length-mapped, length-with, group-same, group-other, eight-at}
 use Rattle.meter_row.proofs.Unions.{length-united, united-from}
@@ -29,12 +33,6 @@ use Rattle.meter.specs.Valid.{Valid}
 use Rattle.meter.proofs.Calls.{call-good, cleared-good, updated-good, united-good}
 
 -- no status where the first of several is none
-none-earlier : (a b : ℕ) → earlier a b ≡ 0 → (a ≡ 0) × (b ≡ 0)
-unfolding earlier
-none-earlier zero b e = (refl, e)
-none-earlier (suc a) zero e = absurd (omega arith)
-none-earlier (suc a) (suc b) e = absurd (omega arith)
-
 none-rows : (f : ℕ → List ℕ → ℕ) (s n r : ℕ) (memory : List ℕ) → earliest (ofRows f s n r memory) ≡ 0
     → (k : ℕ) → k < n → f (r + k) (take s (drop (k * s) memory)) ≡ 0
 unfolding ofRows earliest
@@ -58,17 +56,6 @@ none-groups f (suc n) g e k p q =
       | yes m ↦ none-groups f n (g + 1) (none-earlier _ _ e .1) k (omega arith) (omega arith)
       | no m ↦ let z : k ≡ g = omega arith in rw z (none-earlier _ _ e .0)
     ]
-
--- an accepted call passed every test
-pub status-is : (s v : ℕ) → answerOf s v .status ≡ s
-unfolding answerOf
-status-is zero v = refl
-status-is (suc s) v = refl
-
-none-first : (s : ℕ) (ss : List ℕ) → firstOf (s ∷ ss) ≡ 0 → (s ≡ 0) × (firstOf ss ≡ 0)
-unfolding firstOf
-none-first zero ss e = (refl, e)
-none-first (suc s) ss e = absurd (omega arith)
 
 -- rows of a memory written row by row
 rows-after : (f : ℕ → List ℕ → List ℕ) (d w : ℕ) (memory : List ℕ) → RowsIn d w (length memory)
@@ -148,7 +135,7 @@ module _ (w : ℕ) (v : validWidth w ≡ true) where
 
 update-tests : (d w : ℕ) (memory key : List ℕ) (amount : ℕ) → updated d w memory key amount .answer .status ≡ 0
     → firstOf (badCall d w memory key ∷ earliest (ofRows (updateStatus basis w key amount) (stride w) d 0 memory) ∷ []) ≡ 0
-unfolding updated finish
+unfolding updated finish leaves
 update-tests d w memory key amount e = sym (status-is _ 0) ∙ e
 
 -- An accepted update: every row is that row's own update, and the memory keeps its length and stays valid.
@@ -208,7 +195,7 @@ pub record United (d w : ℕ) (memory source after : List ℕ) : Type 0 where
 
 unite-tests : (d w : ℕ) (memory source : List ℕ) → united d w memory source .answer .status ≡ 0
     → firstOf (badShape d w (length memory) ∷ badLength d w (length source) ∷ earliest (ofRows (sourceStatus w source) (stride w) d 0 memory) ∷ []) ≡ 0
-unfolding united finish
+unfolding united finish leaves
 unite-tests d w memory source e = sym (status-is _ 0) ∙ e
 
 length-good : (d w n : ℕ) → badLength d w n ≡ 0 → n ≡ size d w
@@ -258,7 +245,7 @@ zero-at (suc n) zero = refl
 zero-at (suc n) (suc i) = zero-at n i
 
 clear-tests : (d w : ℕ) (memory : List ℕ) → cleared d w memory .answer .status ≡ 0 → badShape d w (length memory) ≡ 0
-unfolding cleared finish
+unfolding cleared finish leaves
 clear-tests d w memory e = sym (status-is _ 0) ∙ e
 
 pub clear-valid : (d w : ℕ) (memory : List ℕ) → cleared d w memory .answer .status ≡ 0 → Valid d w (cleared d w memory .memory)

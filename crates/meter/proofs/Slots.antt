@@ -6,15 +6,14 @@ use native.Mathlib.Nat.{zero-mul, suc-mul, zero-add, add-zero, one-mul}
 use native.Mathlib.Omega.{arith}
 use lib.ListN.{length, getD, take, drop, drop-of-length-le}
 use lib.Seq.{take-all, drop-drop}
-use Rattle.group.specs.declared.Group.{Group}
 use Rattle.group.specs.Group.{read}
 use Rattle.hash.specs.Hash.{basis}
 use Rattle.geometry.specs.Geometry.{stride, size}
-use Rattle.geometry.specs.Order.{earliest}
+use Rattle.answer.specs.Order.{earliest}
 use Rattle.geometry.specs.Rows.{mapRows, ofRows, groupAt, withGroup, leastOr, least}
 use Rattle.meter_keys.specs.Keys.{keySlot}
 use Rattle.meter_row.specs.Row.{addedIn, updateStatus, updateRow, readRow}
-use Rattle.geometry.proofs.Widths.{earlier-none}
+use Rattle.answer.proofs.Order.{earlier-none}
 use Rattle.meter_rows.specs.Slots.{addedStatus, slotAdded, slotStatus, slotValue}
 use Rattle.meter_rows.proofs.Stored.{reads-same, maps-same}
 use Rattle.meter.specs.Meter.{readStatus, readValue}

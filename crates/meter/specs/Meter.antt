@@ -2,10 +2,12 @@
 use Prim.Native.Nat.{ℕ}
 use mathlib.Core.List.{List, [], _∷_}
 use lib.ListN.{length, replicate}
-use Rattle.group.specs.declared.Answer.{Answer}
+use Rattle.answer.specs.declared.Answer.{Answer}
 use Rattle.hash.specs.Hash.{basis}
 use Rattle.geometry.specs.Geometry.{stride}
-use Rattle.geometry.specs.Order.{firstOf, earliest, badDepth, badWidth, badLength, badShape, badKey, answerOf, Done, finish}
+use Rattle.answer.specs.Answers.{answerOf, Done, finish}
+use Rattle.answer.specs.Order.{firstOf, earliest}
+use Rattle.geometry.specs.Checks.{badDepth, badWidth, badLength, badShape, badKey}
 use Rattle.geometry.specs.Rows.{mapRows, ofRows, least, largest}
 use Rattle.meter_row.specs.Row.{updateStatus, updateRow, readRow}
 pub use Rattle.meter_row.specs.Row.{rowStatus, rowLevel}

@@ -1,10 +1,10 @@
 // A meter in lent memory: clearing, updates, estimates, the widest level and unions. Every call takes any depth, width, memory and
-// key, and answers by document 01's number, place and figure. A rejected call leaves the memory as it was. The two named `checked` are for
+// key, and answers by document 01's number, place and figure. A refused call leaves the memory as it was. The two named `checked` are for
 // callers that have made the tests before them.
-use geometry::answer;
+use answer::answer_of;
 use geometry::bad_key;
 use geometry::bad_shape;
-use group::Answer;
+use answer::Answer;
 use hash::Hash;
 use meter_keys::key_slots;
 use meter_keys::row_slot;
@@ -29,10 +29,10 @@ pub fn clear(d: usize, w: usize, memory: &mut [u8]) -> Answer
 {
     let bad = bad_shape(d, w, memory.len());
     if bad != 0 {
-        return answer(bad, 0);
+        return answer_of(bad, 0);
     }
     fill(memory);
-    answer(0, 0)
+    answer_of(0, 0)
 }
 
 // What is wrong with a call that has a key, before any group is read.
@@ -63,10 +63,10 @@ pub fn update_checked(d: usize, w: usize, memory: &mut [u8], key: &[u8], amount:
     let bytes = whole(key);
     if d == 1 {
         let slot = row_slot(Hash::start(), w, bytes, 0);
-        return answer(meter_row::update_one(memory, w, slot, amount), 0);
+        return answer_of(meter_row::update_one(memory, w, slot, amount), 0);
     }
     let slots = key_slots(Hash::start(), w, bytes, d);
-    answer(meter_rows::update_rows(d, w, memory, &slots, amount), 0)
+    answer_of(meter_rows::update_rows(d, w, memory, &slots, amount), 0)
 }
 
 // Adds an amount to the key's counter in each row. Stores in no row before every row is known to take it.
@@ -76,7 +76,7 @@ pub fn update(d: usize, w: usize, memory: &mut [u8], key: &[u8], amount: u32) ->
 {
     let bad = bad_call(d, w, memory, key);
     if bad != 0 {
-        return answer(bad, 0);
+        return answer_of(bad, 0);
     }
     update_checked(d, w, memory, key, amount)
 }
@@ -89,11 +89,11 @@ pub fn estimate_checked(d: usize, w: usize, memory: &[u8], key: &[u8]) -> Answer
     let bytes = whole(key);
     if d == 1 {
         let c = meter_row::read_row(memory, w, row_slot(Hash::start(), w, bytes, 0));
-        return answer(c.status, c.value);
+        return answer_of(c.status, c.value);
     }
     let slots = key_slots(Hash::start(), w, bytes, d);
     let found = meter_rows::read_rows(d, w, memory, &slots);
-    answer(found.status, found.value)
+    answer_of(found.status, found.value)
 }
 
 // The least value of the key's counters.
@@ -102,7 +102,7 @@ pub fn estimate(d: usize, w: usize, memory: &[u8], key: &[u8]) -> Answer
 {
     let bad = bad_call(d, w, memory, key);
     if bad != 0 {
-        return answer(bad, 0);
+        return answer_of(bad, 0);
     }
     estimate_checked(d, w, memory, key)
 }
@@ -113,10 +113,10 @@ pub fn widest(d: usize, w: usize, memory: &[u8]) -> Answer
 {
     let bad = bad_shape(d, w, memory.len());
     if bad != 0 {
-        return answer(bad, 0);
+        return answer_of(bad, 0);
     }
     let level = meter_rows::widest_rows(d, w, memory);
-    answer(level.status, level.value)
+    answer_of(level.status, level.value)
 }
 
 // Adds a source meter of the same depth and width into a meter. The source is only read.
@@ -126,15 +126,15 @@ pub fn unite(d: usize, w: usize, memory: &mut [u8], source: &[u8]) -> Answer
 {
     let bad = bad_shape(d, w, memory.len());
     if bad != 0 {
-        return answer(bad, 0);
+        return answer_of(bad, 0);
     }
     if source.len() != memory.len() {
-        return answer(3, 0);
+        return answer_of(answer::WRONG_LENGTH, 0);
     }
     let full = meter_rows::unite_status(d, w, memory, source);
     if full != 0 {
-        return answer(full, 0);
+        return answer_of(full, 0);
     }
     meter_rows::unite_rows(d, w, memory, source);
-    answer(0, 0)
+    answer_of(0, 0)
 }

@@ -1,5 +1,5 @@
 // The calls exported to C and Rust. Each passes its arguments to the proved call and hands its answer out; include/meter.h declares them.
-use group::Answer;
+use answer::Answer;
 ghost use mathlib.Core.Path.{_≡_};
 ghost use Rattle.group_codes.specs.Pack.{packed, unpacked};
 ghost use Rattle.meter.specs.Meter.{cleared, updated, estimated, widest, united};

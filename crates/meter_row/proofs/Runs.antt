@@ -18,7 +18,7 @@ use Rattle.group_side.specs.Side.{anyMerged, fit, sums, unmerged, unitedSide}
 use Rattle.group_side.proofs.Bytes.{none-merged}
 use Rattle.group_side.proofs.Unions.{unmerged-status, fit-apart, fit-united}
 use Rattle.geometry.specs.Geometry.{validWidth, stride}
-use Rattle.geometry.specs.Order.{earlier, earliest}
+use Rattle.answer.specs.Order.{earlier, earliest}
 use Rattle.geometry.specs.Rows.{ofGroups, groupAt, withGroup}
 use Rattle.geometry.proofs.Lists.{bytes-drop, bytes-take, same-from}
 use Rattle.geometry.proofs.Widths.{group-in, stride-is}

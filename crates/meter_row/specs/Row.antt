@@ -5,7 +5,7 @@ use Rattle.group.specs.declared.Outcome.{Outcome}
 use Rattle.group.specs.declared.Reading.{Reading}
 use Rattle.group.specs.Group.{read, added, united, widestOf}
 use Rattle.meter_keys.specs.Keys.{keySlot}
-use Rattle.geometry.specs.Order.{earliest}
+use Rattle.answer.specs.Order.{earliest}
 use Rattle.geometry.specs.Rows.{rowOf, groupAt, withGroup, ofGroups, largest}
 
 -- an update adds an amount in the group of the key's slot

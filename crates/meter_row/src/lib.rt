@@ -1,8 +1,8 @@
 // What each call does in one row.
-use geometry::earlier;
+use answer::earlier;
 use geometry::load;
 use geometry::store;
-use group::Answer;
+use answer::Answer;
 use group::Group;
 use group::Outcome;
 use group::Reading;
@@ -13,7 +13,7 @@ ghost use lib.Dec.{eqb};
 ghost use lib.ListN.{length};
 ghost use Rattle.geometry.specs.Geometry.{validWidth};
 ghost use Rattle.geometry.specs.Geometry as geometry;
-ghost use Rattle.geometry.specs.Order as order;
+ghost use Rattle.geometry.specs.Checks as order;
 ghost use Rattle.geometry.specs.Rows.{groupAt, withGroup};
 ghost use Rattle.group.specs.Group.{read};
 ghost use Rattle.meter_row.specs.Runs.{noneMerged, sideBySide};

@@ -6,9 +6,9 @@ use native.Mathlib.Nat.{max-zero}
 use native.Mathlib.Omega.{arith}
 use lib.ListN.{drop}
 use Rattle.geometry.specs.Geometry.{stride}
-use Rattle.geometry.specs.Order.{earlier, earliest}
+use Rattle.answer.specs.Order.{earlier, earliest}
 use Rattle.geometry.specs.Rows.{rowOf, ofRows, leastOr, least, largest}
-use Rattle.geometry.proofs.Widths.{earlier-none, earlier-assoc}
+use Rattle.answer.proofs.Order.{earlier-none, earlier-assoc}
 use Rattle.geometry.proofs.Lists.{rows-read, rows-read-none, rows-read-all}
 
 module _ (f : ℕ → List ℕ → ℕ) (w : ℕ) (d r : ℕ) (memory : List ℕ) where

@@ -1,8 +1,8 @@
 // The rows of a meter one after another: trying and storing an update by the slots of the rows, reading counters, the widest level and
 // unions. Every row is tried before any is written.
-use geometry::earlier;
+use answer::earlier;
 use geometry::row_at;
-use group::Answer;
+use answer::Answer;
 use group::Group;
 ghost use mathlib.Core.Path.{_≡_};
 ghost use mathlib.Core.Bool.{cond};
@@ -11,7 +11,7 @@ ghost use lib.Dec.{eqb};
 ghost use lib.ListN.{length};
 ghost use Rattle.geometry.specs.Geometry.{RowsIn};
 ghost use Rattle.geometry.specs.Geometry as geometry;
-ghost use Rattle.geometry.specs.Order.{earliest};
+ghost use Rattle.answer.specs.Order.{earliest};
 ghost use Rattle.geometry.specs.Rows.{mapRows, ofRows, least, largest};
 ghost use Rattle.meter_row.specs.Row.{rowStatus, rowLevel, sourceStatus, sourceAdded};
 ghost use Rattle.meter_rows.specs.Slots.{SlotsIn, addedStatus, Added, addedRows, slotStatus, slotValue};

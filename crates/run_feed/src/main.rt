@@ -134,7 +134,7 @@ fn after_end(input: &mut [u8], output: &mut [u8], s: State) -> usize
         return s.out;
     }
     let line = Line::Stopped {
-        status: word::BAD_WORD,
+        status: answer::BAD_WORD,
         index: s.words,
     };
     output::put(output, s.out, feed_lines::text_of(line))

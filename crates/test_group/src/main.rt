@@ -73,7 +73,7 @@ fn read(g: Group, slot: usize) {
     text(b"\n");
 }
 
-fn answer(a: group::Answer) {
+fn answer(a: answer::Answer) {
     decimal(a.status as u64);
     decimal(a.value);
     text(b"\n");

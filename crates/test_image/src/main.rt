@@ -1,5 +1,5 @@
 // Images written and read by the compiled code; what is printed is compared with `stdout` beside src/.
-use group::Answer;
+use answer::Answer;
 use libc::STDOUT_FILENO;
 ghost use Prim.Native.Nat.{_≤_, _<_};
 

@@ -1,5 +1,5 @@
 // A meter's calls run by the compiled code; what they print is compared with `stdout` beside src/.
-use group::Answer;
+use answer::Answer;
 use hash::Hash;
 use libc::STDOUT_FILENO;
 
@@ -116,7 +116,7 @@ fn eight_rows() {
 }
 
 // Each number once at least, and the order in which they are tested.
-fn rejected() {
+fn refused() {
     let mut m = [7u8; 36];
     let s = [0u8; 36];
     let t = [0u8; 37];
@@ -180,6 +180,6 @@ fn main() {
     one_row();
     two_rows();
     eight_rows();
-    rejected();
+    refused();
     full();
 }

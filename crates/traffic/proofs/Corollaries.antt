@@ -6,7 +6,7 @@ use Prim.Native.Nat.{ℕ}
 use native.Mathlib.Omega.{arith}
 use borrow.Author.Tests.{eqb-true}
 use lib.Dec.{eqb}
-use Rattle.group.specs.declared.Answer.{Answer}
+use Rattle.answer.specs.declared.Answer.{Answer}
 use Rattle.geometry.specs.Geometry.{validDepth, validWidth}
 use Rattle.word.specs.Word.{payload}
 use Rattle.feed_records.specs.Words.{keyOf}

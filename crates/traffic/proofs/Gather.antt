@@ -7,7 +7,7 @@ use native.Mathlib.Decide.{ℕ-discrete}
 use native.Mathlib.Omega.{arith}
 use lib.ListN.{take, drop}
 use Rattle.geometry.specs.Geometry.{stride}
-use Rattle.geometry.specs.Order.{earlier, earliest}
+use Rattle.answer.specs.Order.{earlier, earliest}
 use Rattle.geometry.specs.Rows.{ofRows, ofGroups, leastOr, least, largest}
 use Rattle.meter.specs.Meter.{rowOf}
 use Rattle.image_writer.proofs.Laws.{drop-row}

@@ -7,9 +7,10 @@ use native.Mathlib.Decide.{ℕ-discrete}
 use borrow.Author.Tests.{eqb-false}
 use lib.Dec.{eqb}
 use lib.ListN.{length}
-use Rattle.geometry.specs.Order.{badShape, Done, finish}
+use Rattle.answer.specs.Answers.{Done, finish, leaves}
+use Rattle.geometry.specs.Checks.{badShape}
 use Rattle.meter.specs.Meter.{cleared, updated, united}
-use Rattle.meter.proofs.Memory.{status-is}
+use Rattle.answer.proofs.Answers.{status-is}
 use Rattle.image_format.specs.Read.{checked, taken}
 use Rattle.image.proofs.Calls.{read-call, read-faulty, read-done}
 use Rattle.word.specs.Word.{payload}
@@ -22,7 +23,7 @@ use Rattle.traffic.proofs.Records.{record-cases, outcome-status}
 
 -- the calls that end by `finish`
 finish-kept : (s v : ℕ) (new memory : List ℕ) → eqb (finish s v new memory .answer .status) 0 ≡ false → finish s v new memory .memory ≡ memory
-unfolding finish
+unfolding finish leaves
 finish-kept s v new memory e = rw (rw (status-is s v) at e)
 
 -- an image read

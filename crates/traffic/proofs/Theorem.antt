@@ -7,10 +7,10 @@ use native.Mathlib.Decide.{ℕ-discrete}
 use borrow.Author.Tests.{eqb-true}
 use lib.Dec.{eqb}
 use lib.ListN.{length, drop, replicate}
-use Rattle.group.specs.declared.Answer.{Answer}
-use Rattle.group.specs.Status.{accepted}
+use Rattle.answer.specs.declared.Answer.{Answer}
+use Rattle.answer.specs.Answers.{accepted}
 use Rattle.geometry.specs.Geometry.{validDepth, validWidth, size}
-use Rattle.geometry.specs.Order.{badKey}
+use Rattle.geometry.specs.Checks.{badKey}
 use Rattle.meter.specs.Meter.{cleared, updated, estimated}
 use Rattle.meter.proofs.Calls.{cleared-good, call-key, estimated-bad}
 use Rattle.image_format.specs.Image.{image}
@@ -30,7 +30,7 @@ use Rattle.traffic.specs.Claim.{Between, Claim, Demand3}
 use Rattle.traffic.proofs.Answers.{good-shape, good-key, widest-holds, estimate-holds, estimate-between}
 use Rattle.traffic.proofs.Steps.{start-holds, update-holds, unite-holds}
 use Rattle.traffic.proofs.Records.{record-cases, outcome-status, query-is}
-use Rattle.meter.proofs.Memory.{status-is}
+use Rattle.answer.proofs.Answers.{status-is}
 use Rattle.traffic.proofs.Refused.{kept}
 use Rattle.traffic.proofs.Bytes.{SameTotals, all-bytes, one-memory, holds-valid}
 

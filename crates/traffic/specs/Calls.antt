@@ -6,7 +6,7 @@ use mathlib.Core.List.{List, [], _∷_, _++_}
 use lib.Dec.{eqb}
 use lib.ListN.{replicate}
 use Rattle.geometry.specs.Geometry.{size}
-use Rattle.geometry.specs.Order.{Done}
+use Rattle.answer.specs.Answers.{Done}
 use Rattle.meter.specs.Meter.{cleared, updated, estimated, united}
 use Rattle.meter.specs.Meter as meter
 use Rattle.image_format.specs.Image.{image}

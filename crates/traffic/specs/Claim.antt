@@ -4,8 +4,8 @@ use mathlib.Core.Path.{_≡_}
 use mathlib.Core.Bool.{true}
 use mathlib.Core.List.{List}
 use lib.ListN.{length}
-use Rattle.group.specs.declared.Answer.{Answer}
-use Rattle.group.specs.Status.{accepted}
+use Rattle.answer.specs.declared.Answer.{Answer}
+use Rattle.answer.specs.Answers.{accepted}
 use Rattle.geometry.specs.Geometry.{validDepth, validWidth}
 use Rattle.word.specs.Word.{payload, isDue}
 use Rattle.feed_records.specs.Words.{queryKind, keyOf}

@@ -4,7 +4,7 @@ use Prim.Native.Nat.{ℕ}
 use mathlib.Core.Path.{_≡_}
 use mathlib.Core.Bool.{true}
 use mathlib.Core.List.{List, List·Permᴰ}
-use Rattle.group.specs.declared.Answer.{Answer}
+use Rattle.answer.specs.declared.Answer.{Answer}
 use Rattle.geometry.specs.Geometry.{validDepth, validWidth}
 use Rattle.word.specs.Word.{payload, isDue}
 use Rattle.feed_records.specs.Words.{queryKind, keyOf}

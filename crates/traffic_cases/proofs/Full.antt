@@ -6,12 +6,12 @@ use Prim.Native.Nat.{ℕ, zero, suc, _+_, _-_, _*_, _^_}
 use native.Mathlib.Nat.{mul-assoc, mul-add}
 use native.Mathlib.Omega.{arith}
 use lib.Dec.{eqb}
-use Rattle.geometry.specs.Order.{Done}
+use Rattle.answer.specs.Answers.{Done}
 use Rattle.meter.specs.Meter.{united, updated}
 use Rattle.traffic.specs.Traffic.{sameKey, keyTotal, lower, sumOf}
 use Rattle.traffic.specs.Calls.{Call, Calls, none, update, unite, feed, from, traffic, after, behind, run, done, bytesOf, Faithful, Listed, LeftBy}
 use Rattle.traffic.proofs.Totals.{sum-append}
-use Rattle.traffic_cases.specs.Cases.{at-10, at-11, _▸_, updateWords}
+use Rattle.traffic_cases.specs.Cases.{at-10, at-11, updateWords}
 use Rattle.traffic_cases.specs.Full.{doubled, full, after-full, Full}
 use Rattle.traffic_cases.proofs.Computed.{twice, allFit, first, nearly, whole, computed}
 

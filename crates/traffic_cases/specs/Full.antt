@@ -2,11 +2,11 @@
 use Prim.Native.Nat.{ℕ, zero, suc, _-_, _^_}
 use mathlib.Core.Path.{_≡_}
 use mathlib.Core.List.{List}
-use Rattle.group.specs.Status.{accepted}
+use Rattle.answer.specs.Answers.{accepted}
 use Rattle.meter.specs.Meter.{estimated}
 use Rattle.traffic.specs.Traffic.{lower}
 use Rattle.traffic.specs.Calls.{Call, Calls, none, update, unite, feed, from, traffic, run, done, Faithful}
-use Rattle.traffic_cases.specs.Cases.{at-10, at-11, _▸_, updateWords}
+use Rattle.traffic_cases.specs.Cases.{at-10, at-11, updateWords}
 
 -- a list, then n times a union with a meter that the same list left
 unfoldable pub doubled : ℕ → Calls → Calls

@@ -10,9 +10,9 @@ use borrow.Table.Steps.{cases}
 use lib.Dec.{eqb, ltb}
 use lib.ListN.{length, take, length-take}
 use lib.Seq.{getD-take}
-use Rattle.group.specs.Status.{badPayload}
+use Rattle.answer.specs.Numbers.{badPayload, badWord}
 use Rattle.word.specs.declared.Step.{Step}
-use Rattle.word.specs.Word.{go, stop, badWord, next, payload, isDue, tested, below}
+use Rattle.word.specs.Word.{go, stop, next, payload, isDue, tested, below}
 use Rattle.word.proofs.Laws.{due-in}
 use Rattle.word.proofs.Places.{Ahead}
 

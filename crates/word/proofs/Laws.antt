@@ -8,7 +8,8 @@ use lib.Dec.{eqb, ltb}
 use lib.ListN.{length, getD}
 use borrow.Author.Tests.{ltb-true, eq-eqb, ne-eqb}
 use Rattle.word.specs.declared.Step.{Step}
-use Rattle.word.specs.Word.{go, stop, badWord, isDue, next, tested}
+use Rattle.answer.specs.Numbers.{badWord}
+use Rattle.word.specs.Word.{go, stop, isDue, next, tested}
 
 pub both : (a b : Bool) → (a && b) ≡ true → (a ≡ true) × (b ≡ true)
 both true b e = (refl, e)

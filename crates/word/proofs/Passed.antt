@@ -10,7 +10,7 @@ use borrow.Table.Steps.{cases}
 use lib.Dec.{eqb, ltb}
 use lib.ListN.{length, getD, drop}
 use lib.Seq.{drop-cons}
-use Rattle.group.specs.Status.{badPayload}
+use Rattle.answer.specs.Numbers.{badPayload}
 use Rattle.word.specs.declared.Step.{Step}
 use Rattle.word.specs.Word.{go, next, payload, isDue, tested, below}
 use Rattle.word.proofs.Laws.{both}

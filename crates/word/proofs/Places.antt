@@ -7,9 +7,9 @@ use native.Mathlib.Omega.{arith}
 use borrow.Table.Steps.{cases}
 use lib.Dec.{eqb, ltb}
 use lib.ListN.{length}
-use Rattle.group.specs.Status.{badPayload}
+use Rattle.answer.specs.Numbers.{badPayload, badWord}
 use Rattle.word.specs.declared.Step.{Step}
-use Rattle.word.specs.Word.{go, stop, badWord, next, payload, isDue, tested, below}
+use Rattle.word.specs.Word.{go, stop, next, payload, isDue, tested, below}
 use Rattle.word.proofs.Laws.{due-in}
 
 -- a step inside so many words

@@ -4,7 +4,7 @@ use mathlib.Core.Bool.{Bool, cond, _&&_}
 use mathlib.Core.List.{List}
 use lib.Dec.{eqb, ltb}
 use lib.ListN.{length, getD}
-use Rattle.group.specs.Status.{badPayload}
+use Rattle.answer.specs.Numbers.{badPayload, badWord}
 use Rattle.word.specs.declared.Step.{Step}
 
 -- the kinds that images and feeds share
@@ -13,10 +13,6 @@ headKind = 1
 
 abbrev pub endKind : ℕ
 endKind = 4
-
--- line 8
-abbrev pub badWord : ℕ
-badWord = 8
 
 -- what is wrong with the first faulty word and where it is; or status 0 and the position to read on from
 abbrev pub go : ℕ → Step

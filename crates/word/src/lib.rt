@@ -9,8 +9,6 @@ pub const HEAD: u32 = 1;
 
 pub const END: u32 = 4;
 
-pub const BAD_WORD: u8 = 8;
-
 // A fault and its position; or status 0 and the position to read on from.
 pub struct Step {
     pub status: u8,
@@ -58,7 +56,7 @@ pub fn tested(words: &[u32], p: usize, kind: u32, holds: bool, status: u8) -> St
     ensures { λ r. ⌜ r ≡ spec.tested (now (words .entry)) p kind holds status ⌝ }
 {
     if !is_due(words, p, kind) {
-        return stop(BAD_WORD, p);
+        return stop(answer::BAD_WORD, p);
     }
     if !holds {
         return stop(status, p);
@@ -72,13 +70,13 @@ pub fn below(words: &[u32], p: usize, kind: u32, limit: u32) -> Step
     ensures { λ r. ⌜ r ≡ spec.below (now (words .entry)) p kind limit ⌝ }
 {
     if !is_due(words, p, kind) {
-        return stop(BAD_WORD, p);
+        return stop(answer::BAD_WORD, p);
     }
     tested(
         words,
         p,
         kind,
         payload(words, p) < limit,
-        group::BAD_PAYLOAD,
+        answer::BAD_PAYLOAD,
     )
 }

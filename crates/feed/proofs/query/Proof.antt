@@ -2,15 +2,15 @@ use mathlib.Core.Path.{_≡_, sym, ap, _∙_}
 use Prim.Native.Nat.{_-_}
 use lib.ListN.{take}
 use borrow.Author.Needs.{needs}
-use Rattle.group.specs.declared.Answer.{Answer}
+use Rattle.answer.specs.declared.Answer.{Answer}
 use Rattle.meter.specs.Meter.{estimated}
 use Rattle.feed.specs.declared.Recorded.{Recorded}
 use Rattle.feed.specs.declared.Recorded.the-variants as case
 use Rattle.feed_keys.specs.Keys.{keyOf}
 use Rattle.feed_records.specs.Words.{queryBody}
-use Rattle.feed.specs.Record.{rejection, outcomeOf, queried}
+use Rattle.feed.specs.Record.{refusal, outcomeOf, queried}
 use Rattle.feed_records.proofs.Laws.{key-short, sound-answer}
-use Rattle.feed.proofs.Laws.{lent, call-passes, outcome-rejected, outcome-accepted, query-refused, query-sound}
+use Rattle.feed.proofs.Laws.{lent, call-passes, outcome-refused, outcome-accepted, query-refused, query-sound}
 use Rattle.feed.proofs.query.Statement.{statement}
 use Rattle.feed.proofs.query.Tie as tie
 
@@ -85,14 +85,14 @@ estimate-checked-requires c κs = let m = c .before .before .before in
     let a = s .args in
     call-passes (a .d) (a .w) (a .memory .now) (a .n) (a .words .now) _ (s .pre .0) (s .pre .1) (key-is m)
 
-rejection-requires : tie.Need-rejection-requires
-rejection-requires c κs = search needs
+refusal-requires : tie.Need-refusal-requires
+refusal-requires c κs = search needs
 
 returns-2 : tie.Need-returns-2
 returns-2 c = let k = c .before .before .before in
     let z = called-is k in
-    let t = outcome-rejected (called k) (case.Estimate (called k .value)) (λ h. c .before .if1 .taken (ap (λ (x : Answer). x .status) z ∙ h)) in
-    c .rejection .ensures ∙ ap rejection z ∙ sym t ∙ sym (meant-is k)
+    let t = outcome-refused (called k) (case.Estimate (called k .value)) (λ h. c .before .if1 .taken (ap (λ (x : Answer). x .status) z ∙ h)) in
+    c .refusal .ensures ∙ ap refusal z ∙ sym t ∙ sym (meant-is k)
 
 returns-3 : tie.Need-returns-3
 returns-3 c = let k = c .before .before in
@@ -114,6 +114,6 @@ query-spec =
     part-estimate-checked-start
     part-estimate-checked-end
     estimate-checked-requires
-    rejection-requires
+    refusal-requires
     returns-2
     returns-3)

@@ -3,7 +3,7 @@ use Rattle.feed_records.proofs.Laws.{is-end, badKeyIn, opened-good}
 use Rattle.feed.proofs.Laws.{record-good, record-bad}
 use mathlib.Core.Path.{_≡_, refl, sym, ap, _∙_}
 use lib.ListN.{length}
-use Rattle.geometry.specs.Order.{badShape}
+use Rattle.geometry.specs.Checks.{badShape}
 use Rattle.feed.specs.Record.{carried, recorded}
 use borrow.Author.Needs.{needs}
 use Rattle.feed.proofs.record.Statement.{statement}

@@ -3,17 +3,17 @@ use mathlib.Core.List.{List}
 use Prim.Native.Nat.{ℕ, _-_}
 use lib.ListN.{take}
 use borrow.Author.Needs.{needs}
-use Rattle.group.specs.declared.Answer.{Answer}
-use Rattle.geometry.specs.Order.{Done}
+use Rattle.answer.specs.declared.Answer.{Answer}
+use Rattle.answer.specs.Answers.{Done}
 use Rattle.meter.specs.Meter.{updated}
 use Rattle.feed_records.specs.declared.Body.{Body}
 use Rattle.feed.specs.declared.Recorded.the-variants as case
 use Rattle.feed_records.specs.Answers.{bodyAnswer}
 use Rattle.feed_keys.specs.Keys.{keyOf}
 use Rattle.feed_records.specs.Words.{updateBody}
-use Rattle.feed.specs.Record.{Carried, rejection, outcomeOf, carriedUpdate}
+use Rattle.feed.specs.Record.{Carried, refusal, outcomeOf, carriedUpdate}
 use Rattle.feed_records.proofs.Laws.{key-short}
-use Rattle.feed.proofs.Laws.{lent, call-passes, outcome-rejected, outcome-accepted, update-refused}
+use Rattle.feed.proofs.Laws.{lent, call-passes, outcome-refused, outcome-accepted, update-refused}
 use Rattle.feed.proofs.update.Statement.{statement}
 use Rattle.feed.proofs.update.Tie as tie
 
@@ -92,8 +92,8 @@ update-checked-requires c κs = let b = c .before .before .before .before in
     let a = s .args in
     call-passes (a .d) (a .w) (a .memory .now) (a .n) (a .words .now) _ (s .pre .0) (s .pre .1) (key-is b)
 
-rejection-requires : tie.Need-rejection-requires
-rejection-requires c κs = search needs
+refusal-requires : tie.Need-refusal-requires
+refusal-requires c κs = search needs
 
 same-length : tie.Need-same-length
 same-length c = search needs
@@ -101,8 +101,8 @@ same-length c = search needs
 returns-2 : tie.Need-returns-2
 returns-2 c = let k = c .before .before .before .before .before in
     let z = called-is k in
-    let t = outcome-rejected (called k .answer) case.Updated (λ h. c .before .if1 .taken (ap (λ (x : Answer). x .status) (z .0) ∙ h)) in
-    rw (meant-is k) (c .rejection .ensures ∙ ap rejection (z .0) ∙ sym t, z .1)
+    let t = outcome-refused (called k .answer) case.Updated (λ h. c .before .if1 .taken (ap (λ (x : Answer). x .status) (z .0) ∙ h)) in
+    rw (meant-is k) (c .refusal .ensures ∙ ap refusal (z .0) ∙ sym t, z .1)
 
 same-length-2 : tie.Need-same-length-2
 same-length-2 c = search needs
@@ -127,7 +127,7 @@ update-spec =
     part-update-checked-start
     part-update-checked-end
     update-checked-requires
-    rejection-requires
+    refusal-requires
     same-length
     returns-2
     same-length-2

@@ -2,7 +2,7 @@ use mathlib.Core.Path.{_≡_, sym, ap, _∙_}
 use mathlib.Core.Bool.{true, false}
 use borrow.Author.Tests.{not-true, not-false}
 use Rattle.geometry.specs.Geometry.{validDepth, validWidth}
-use Rattle.geometry.specs.Order.{firstOf}
+use Rattle.answer.specs.Order.{firstOf}
 use Rattle.feed_head.specs.Head.{headDepth, headWidth, badGeometry}
 use borrow.Author.Needs.{needs}
 use Rattle.feed_head.proofs.bad_geometry.Statement.{statement}

@@ -1,5 +1,5 @@
 use mathlib.Core.Path.{sym, _∙_}
-use Rattle.feed_lines.specs.Line.{rejectedLine}
+use Rattle.feed_lines.specs.Line.{refusedLine}
 use borrow.Author.Needs.{needs}
 use Rattle.feed_lines.proofs.rejected_line.Statement.{statement}
 use Rattle.feed_lines.proofs.rejected_line.Tie as tie
@@ -8,12 +8,12 @@ stops-requires : tie.Need-stops-requires
 stops-requires c κs = search needs
 
 returns : tie.Need-returns
-unfolding rejectedLine
+unfolding refusedLine
 returns c = rw (sym (c .before .stops .ensures) ∙ c .if1 .taken)
 
 returns-2 : tie.Need-returns-2
-unfolding rejectedLine
+unfolding refusedLine
 returns-2 c = rw (sym (c .before .stops .ensures) ∙ c .if1 .left)
 
-pub rejected-line-spec : {M : Type 1} → statement M
-rejected-line-spec = tie.close (tie.spec stops-requires returns returns-2)
+pub refused-line-spec : {M : Type 1} → statement M
+refused-line-spec = tie.close (tie.spec stops-requires returns returns-2)

@@ -3,7 +3,7 @@ use mathlib.Core.Bool.{true, false}
 use native.Mathlib.Omega.{arith}
 use borrow.Author.Tests.{eq-eqb, ne-eqb, not-true, not-false}
 use Rattle.geometry.specs.Geometry.{validDepth, validWidth, size}
-use Rattle.geometry.specs.Order.{firstOf}
+use Rattle.answer.specs.Order.{firstOf}
 use Rattle.geometry.proofs.Widths.{size-in}
 use borrow.Author.Needs.{needs}
 use Rattle.geometry.proofs.bad_shape.Statement.{statement}

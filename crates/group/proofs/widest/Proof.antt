@@ -2,7 +2,7 @@ use mathlib.Core.Path.{_≡_, sym, ap, _∙_}
 use mathlib.Core.Bool.{true, false}
 use borrow.Author.Tests.{not-true, not-false}
 use Rattle.group_layout.specs.Layout.{valid}
-use Rattle.group.specs.Status.{accepted}
+use Rattle.answer.specs.Answers.{accepted}
 use Rattle.group.specs.Group.{widestOf}
 use borrow.Author.Needs.{needs}
 use Rattle.group.proofs.widest.Statement.{statement}
@@ -14,13 +14,13 @@ is-sane c = sym (c .before .is-valid .ensures) ∙ not-false _ (c .if1 .left)
 is-valid-requires : tie.Need-is-valid-requires
 is-valid-requires c κs = search needs
 
-rejected-requires : tie.Need-rejected-requires
-rejected-requires c κs = search needs
+refused-requires : tie.Need-refused-requires
+refused-requires c κs = search needs
 
 returns : tie.Need-returns
 unfolding widestOf
 returns c = let v : valid 3 (c .before .before .before .args .merge) ≡ false = sym (c .before .before .is-valid .ensures) ∙ not-true _ (c .before .if1 .taken) in
-    rw v (c .rejected .ensures)
+    rw v (c .refused .ensures)
 
 widest-level-requires : tie.Need-widest-level-requires
 widest-level-requires c κs = is-sane c
@@ -40,7 +40,7 @@ widest-spec =
     tie.close
     (tie.spec
     is-valid-requires
-    rejected-requires
+    refused-requires
     returns
     widest-level-requires
     cast-accepted

@@ -1,6 +1,6 @@
 use mathlib.Core.Path.{_∙_}
 use borrow.Author.Tests.{not-true, not-false}
-use Rattle.group.specs.Status.{accepted}
+use Rattle.answer.specs.Answers.{accepted}
 use Rattle.group_codes.specs.Pack.{packed, fourCode}
 use borrow.Author.Needs.{needs}
 use Rattle.group_codes.proofs.pack.Statement.{statement}
@@ -9,12 +9,12 @@ use Rattle.group_codes.proofs.pack.Tie as tie
 four-valid-requires : tie.Need-four-valid-requires
 four-valid-requires c κs = search needs
 
-rejected-requires : tie.Need-rejected-requires
-rejected-requires c κs = search needs
+refused-requires : tie.Need-refused-requires
+refused-requires c κs = search needs
 
 returns : tie.Need-returns
 unfolding packed
-returns c = rw (← c .before .before .four-valid .ensures, not-true (c .before .before .four-valid .result) (c .before .if1 .taken)) (c .rejected .ensures)
+returns c = rw (← c .before .before .four-valid .ensures, not-true (c .before .before .four-valid .result) (c .before .if1 .taken)) (c .refused .ensures)
 
 code-requires : tie.Need-code-requires
 code-requires c κs = search needs
@@ -62,7 +62,7 @@ pack-spec =
     tie.close
     (tie.spec
     four-valid-requires
-    rejected-requires
+    refused-requires
     returns
     code-requires
     mul-high

@@ -3,19 +3,19 @@ use native.Mathlib.Omega.{arith}
 use mathlib.Core.List.{_∷_, []}
 use borrow.Author.Tests.{lt-ltb, le-ltb}
 use Rattle.group_layout.specs.Code.{layouts}
-use Rattle.group.specs.declared.Answer.{Answer}
+use Rattle.answer.specs.declared.Answer.{Answer}
 use Rattle.group_codes.specs.Pack.{unpacked, fourMerges}
 use borrow.Author.Needs.{needs}
 use Rattle.group_codes.proofs.unpack.Statement.{statement}
 use Rattle.group_codes.proofs.unpack.Tie as tie
 
-rejected-requires : tie.Need-rejected-requires
-rejected-requires c κs = search needs
+refused-requires : tie.Need-refused-requires
+refused-requires c κs = search needs
 
 returns : tie.Need-returns
 unfolding unpacked
 returns c = rw (le-ltb (c .before .before .args .code) 456976 (c .before .if1 .taken))
-    (ap (λ (x : Answer). record { answer = x; merges = 0 ∷ 0 ∷ 0 ∷ 0 ∷ [] }) (c .rejected .ensures))
+    (ap (λ (x : Answer). record { answer = x; merges = 0 ∷ 0 ∷ 0 ∷ 0 ∷ [] }) (c .refused .ensures))
 
 unpack-requires : tie.Need-unpack-requires
 unfolding layouts
@@ -51,7 +51,7 @@ pub unpack-spec : {M : Type 1} → statement M
 unpack-spec =
     tie.close
     (tie.spec
-    rejected-requires
+    refused-requires
     returns
     unpack-requires
     unpack-requires-2

@@ -15,14 +15,14 @@ use Rattle.image.proofs.read.Tie as tie
 bad-shape-requires : tie.Need-bad-shape-requires
 bad-shape-requires c κs = search needs
 
-rejected-requires : tie.Need-rejected-requires
-rejected-requires c κs = search needs
+refused-requires : tie.Need-refused-requires
+refused-requires c κs = search needs
 
 returns : tie.Need-returns
 returns c = let a = c .before .before .before .before .before .args in
     let s = c .before .before .bad-shape in
     let e = read-call (a .d) (a .w) (a .memory .now) (a .words .now) (s .result) (s .ensures) (c .before .if1 .taken) in
-    all-of (a .d) (a .w) (a .memory .now) (a .words .now) _ _ _ e (c .rejected .ensures) refl
+    all-of (a .d) (a .w) (a .memory .now) (a .words .now) _ _ _ e (c .refused .ensures) refl
 
 -- a call whose shape is accepted
 sound : (c : tie.Else1) → let a = c .before .before .before .before .args in Sound (a .d) (a .w) (length (a .memory .now))
@@ -74,8 +74,8 @@ check-requires c κs = let f = c .before .before .before .before in
     let k = sound (f .before .before .before) in
     (omega arith, (omega arith, (layouts-are f, fields-are f)))
 
-rejected-requires-2 : tie.Need-rejected-requires-2
-rejected-requires-2 c κs = search needs
+refused-requires-2 : tie.Need-refused-requires-2
+refused-requires-2 c κs = search needs
 
 returns-2 : tie.Need-returns-2
 returns-2 c = let a = c .before .before .before .before .before .before .before .before .before .before .before .before .before .before .before .args in
@@ -130,7 +130,7 @@ read-spec =
     tie.close
     (tie.spec
     bad-shape-requires
-    rejected-requires
+    refused-requires
     returns
     table-size-requires
     layout-table-requires
@@ -143,7 +143,7 @@ read-spec =
     part-check-start-2
     part-check-end-2
     check-requires
-    rejected-requires-2
+    refused-requires-2
     returns-2
     sub-read-rows
     part-read-rows-start

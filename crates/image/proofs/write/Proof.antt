@@ -5,7 +5,7 @@ use borrow.Author.Tests.{not-true, not-false}
 use lib.ListN.{length}
 use Rattle.image_writer.proofs.Laws.{image-length}
 use Rattle.image.proofs.Calls.{write-call, write-invalid, write-short, write-done}
-use Rattle.group.specs.Status.{accepted}
+use Rattle.answer.specs.Answers.{accepted}
 use Rattle.image_format.specs.Image.{image}
 use Rattle.image_format.specs.Write.{groupSize, Written}
 use Rattle.geometry.specs.Geometry.{RowsIn}
@@ -20,14 +20,14 @@ use Rattle.image.proofs.write.Tie as tie
 bad-shape-requires : tie.Need-bad-shape-requires
 bad-shape-requires c κs = search needs
 
-rejected-requires : tie.Need-rejected-requires
-rejected-requires c κs = search needs
+refused-requires : tie.Need-refused-requires
+refused-requires c κs = search needs
 
 returns : tie.Need-returns
 returns c = let a = c .before .before .before .before .before .args in
     let s = c .before .before .bad-shape in
     let e = write-call (a .d) (a .w) (a .memory .now) (a .words .now) (s .result) (s .ensures) (c .before .if1 .taken) in
-    (c .rejected .ensures ∙ ap (λ (x : Written). x .answer) (sym e), ap (λ (x : Written). x .words) (sym e))
+    (c .refused .ensures ∙ ap (λ (x : Written). x .answer) (sym e), ap (λ (x : Written). x .words) (sym e))
 
 -- a call whose depth, width and memory have passed
 shape : (c : tie.Else1) → let a = c .before .before .before .before .args in (1 ≤ a .d) × RowsIn (a .d) (a .w) (length (a .memory .now))
@@ -36,8 +36,8 @@ shape c = let a = c .before .before .before .before .args in shape-good (a .d) (
 rows-valid-requires : tie.Need-rows-valid-requires
 rows-valid-requires c κs = shape c .1
 
-rejected-requires-2 : tie.Need-rejected-requires-2
-rejected-requires-2 c κs = search needs
+refused-requires-2 : tie.Need-refused-requires-2
+refused-requires-2 c κs = search needs
 
 returns-2 : tie.Need-returns-2
 returns-2 c = let a = c .before .before .before .before .before .before .before .args in
@@ -71,8 +71,8 @@ rows-size-requires c κs = let t = c .before .before .size-table in
 add-count : tie.Need-add-count
 add-count c = search needs
 
-rejected-requires-3 : tie.Need-rejected-requires-3
-rejected-requires-3 c κs = search needs
+refused-requires-3 : tie.Need-refused-requires-3
+refused-requires-3 c κs = search needs
 
 returns-3 : tie.Need-returns-3
 returns-3 c = let a = c .before .before .before .before .before .before .before .before .before .before .before .before .before .args in
@@ -138,10 +138,10 @@ write-spec =
     tie.close
     (tie.spec
     bad-shape-requires
-    rejected-requires
+    refused-requires
     returns
     rows-valid-requires
-    rejected-requires-2
+    refused-requires-2
     returns-2
     table-size-requires
     size-table-requires
@@ -150,7 +150,7 @@ write-spec =
     part-rows-size-end
     rows-size-requires
     add-count
-    rejected-requires-3
+    refused-requires-3
     returns-3
     code-table-requires
     mul-m

@@ -4,7 +4,7 @@ use native.Mathlib.Omega.{arith}
 use borrow.Author.Needs.{needs}
 use borrow.Author.Tests.{not-true, not-false}
 use Rattle.group_layout.specs.Layout.{valid}
-use Rattle.group.specs.declared.Answer.{Answer}
+use Rattle.answer.specs.declared.Answer.{Answer}
 use Rattle.group_codes.specs.Pack.{mergeCode, groupCode}
 use Rattle.group_codes.proofs.Packing.{code-below}
 use Rattle.image_format.proofs.code_of.Statement.{statement}

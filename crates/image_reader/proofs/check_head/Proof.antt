@@ -2,7 +2,8 @@ use mathlib.Core.Path.{sym, ap₂, _∙_}
 use Prim.Native.Nat.{ℕ, _+_, _*_}
 use lib.Dec.{eqb}
 use Rattle.word.specs.Word.{tested, headKind}
-use Rattle.image_format.specs.Read.{checkHead, otherMeter}
+use Rattle.answer.specs.Numbers.{otherMeter}
+use Rattle.image_format.specs.Read.{checkHead}
 use Rattle.image_format.specs.Image.{headPayload}
 use Rattle.word.proofs.Laws.{turn, halt}
 use borrow.Author.Needs.{needs}

@@ -2,7 +2,7 @@ use mathlib.Core.Path.{_≡_, ap, ap₂, _∙_}
 use mathlib.Core.List.{List}
 use Prim.Native.Nat.{ℕ, _<_}
 use Rattle.group.specs.declared.Reading.{Reading}
-use Rattle.geometry.specs.Order.{answerOf}
+use Rattle.answer.specs.Answers.{answerOf}
 use lib.ListN.{getD}
 use Rattle.meter_keys.specs.Keys.{keySlot}
 use Rattle.meter.proofs.Calls.{call-rows, estimated-good}
@@ -25,8 +25,8 @@ read-row-requires c κs = let one = c .before .before in
     let p = call-rows _ _ _ _ (one .before .before .before .before .pre) .1 in
     (p .0, (one-long _ _ _ (one .if1 .taken) (p .2), c .row-slot .ensures .1))
 
-answer-requires : tie.Need-answer-requires
-answer-requires c κs = search needs
+answer-of-requires : tie.Need-answer-of-requires
+answer-of-requires c κs = search needs
 
 returns : tie.Need-returns
 returns c = let found = c .before .read-row .ensures in
@@ -39,7 +39,7 @@ returns c = let found = c .before .read-row .ensures in
     let start = k .before .start .ensures in
     let status = ap (λ (x : Reading). x .status) found ∙ one-read-status (a .d) (a .w) (a .memory .now) (a .key .now) (one .if1 .taken) long start at in
     let value = ap (λ (x : Reading). x .value) found ∙ one-read-value (a .d) (a .w) (a .memory .now) (a .key .now) (one .if1 .taken) long start at in
-    c .answer .ensures ∙ ap₂ answerOf status value ∙ estimated-good (a .d) (a .w) (a .memory .now) (a .key .now) (s .pre)
+    c .answer-of .ensures ∙ ap₂ answerOf status value ∙ estimated-good (a .d) (a .w) (a .memory .now) (a .key .now) (s .pre)
 
 start-requires-2 : tie.Need-start-requires-2
 start-requires-2 c κs = search needs
@@ -52,8 +52,8 @@ read-rows-requires : tie.Need-read-rows-requires
 read-rows-requires c κs = let p = call-rows _ _ _ _ (c .before .before .before .before .before .before .before .pre) in
     (p .0, (p .1, c .before .key-slots .ensures .1))
 
-answer-requires-2 : tie.Need-answer-requires-2
-answer-requires-2 c κs = search needs
+answer-of-requires-2 : tie.Need-answer-of-requires-2
+answer-of-requires-2 c κs = search needs
 
 returns-2 : tie.Need-returns-2
 returns-2 c = let found = c .before .read-rows .ensures in
@@ -67,7 +67,7 @@ returns-2 c = let found = c .before .read-rows .ensures in
     λ r h. slots .ensures .0 r h ∙ ap (λ (b : List ℕ). keySlot (k .before .start2 .result .state) (a .w) b r) (w .whole .ensures) in
     let status = found .0 ∙ read-status-by-key (a .d) (a .w) (a .memory .now) (a .key .now) (slots .result) start at in
     let value = found .1 ∙ read-value-by-key (a .d) (a .w) (a .memory .now) (a .key .now) (slots .result) start at in
-    c .answer2 .ensures ∙ ap₂ answerOf status value ∙ estimated-good (a .d) (a .w) (a .memory .now) (a .key .now) (s .pre)
+    c .answer-of2 .ensures ∙ ap₂ answerOf status value ∙ estimated-good (a .d) (a .w) (a .memory .now) (a .key .now) (s .pre)
 
 pub estimate-checked-spec : {M : Type 1} → statement M
 estimate-checked-spec =
@@ -77,10 +77,10 @@ estimate-checked-spec =
     start-requires
     row-slot-requires
     read-row-requires
-    answer-requires
+    answer-of-requires
     returns
     start-requires-2
     key-slots-requires
     read-rows-requires
-    answer-requires-2
+    answer-of-requires-2
     returns-2)

@@ -8,28 +8,28 @@ use Rattle.meter.proofs.unite.Tie as tie
 bad-shape-requires : tie.Need-bad-shape-requires
 bad-shape-requires c κs = search needs
 
-answer-requires : tie.Need-answer-requires
-answer-requires c κs = search needs
+answer-of-requires : tie.Need-answer-of-requires
+answer-of-requires c κs = search needs
 
 returns : tie.Need-returns
 returns c = let a = c .before .before .before .before .before .args in
     let p = united-bad (a .d) (a .w) (a .memory .now) (a .source .now) (c .before .before .bad-shape .result) (c .before .before .bad-shape .ensures) (c .before .if1 .taken) in
-    (c .answer .ensures ∙ p .0, p .1)
+    (c .answer-of .ensures ∙ p .0, p .1)
 
-answer-requires-2 : tie.Need-answer-requires-2
-answer-requires-2 c κs = search needs
+answer-of-requires-2 : tie.Need-answer-of-requires-2
+answer-of-requires-2 c κs = search needs
 
 returns-2 : tie.Need-returns-2
 returns-2 c = let a = c .before .before .before .before .before .before .args in
     let p = united-length (a .d) (a .w) (a .memory .now) (a .source .now) (sym (c .before .before .before .bad-shape .ensures) ∙ c .before .before .if1 .left) (c .before .if2 .taken) in
-    (c .answer2 .ensures ∙ p .0, p .1)
+    (c .answer-of2 .ensures ∙ p .0, p .1)
 
 unite-status-requires : tie.Need-unite-status-requires
 unite-status-requires c κs = let a = c .before .before .before .before .before .before .args in
     (shape-good (a .d) (a .w) _ (sym (c .before .before .before .bad-shape .ensures) ∙ c .before .before .if1 .left) .1, c .before .if2 .left)
 
-answer-requires-3 : tie.Need-answer-requires-3
-answer-requires-3 c κs = search needs
+answer-of-requires-3 : tie.Need-answer-of-requires-3
+answer-of-requires-3 c κs = search needs
 
 same-length : tie.Need-same-length
 same-length c = search needs
@@ -37,14 +37,14 @@ same-length c = search needs
 returns-3 : tie.Need-returns-3
 returns-3 c = let a = c .before .before .before .before .before .before .before .before .before .args in
     let p = united-full (a .d) (a .w) (a .memory .now) (a .source .now) (sym (c .before .before .before .before .before .before .bad-shape .ensures) ∙ c .before .before .before .before .before .if1 .left) (c .before .before .before .before .if2 .left) (c .before .before .unite-status .result) (c .before .before .unite-status .ensures) (c .before .if3 .taken) in
-    (c .answer3 .ensures ∙ p .0, p .1)
+    (c .answer-of3 .ensures ∙ p .0, p .1)
 
 unite-rows-requires : tie.Need-unite-rows-requires
 unite-rows-requires c κs = let a = c .before .before .before .before .before .before .before .before .before .args in
     (shape-good (a .d) (a .w) _ (sym (c .before .before .before .before .before .before .bad-shape .ensures) ∙ c .before .before .before .before .before .if1 .left) .1, c .before .before .before .before .if2 .left)
 
-answer-requires-4 : tie.Need-answer-requires-4
-answer-requires-4 c κs = search needs
+answer-of-requires-4 : tie.Need-answer-of-requires-4
+answer-of-requires-4 c κs = search needs
 
 same-length-2 : tie.Need-same-length-2
 same-length-2 c = search needs
@@ -52,22 +52,22 @@ same-length-2 c = search needs
 returns-4 : tie.Need-returns-4
 returns-4 c = let a = c .before .before .before .before .before .before .before .before .before .before .before .before .before .args in
     let p = united-good (a .d) (a .w) (a .memory .now) (a .source .now) (sym (c .before .before .before .before .before .before .before .before .before .before .bad-shape .ensures) ∙ c .before .before .before .before .before .before .before .before .before .if1 .left) (c .before .before .before .before .before .before .before .before .if2 .left) (sym (c .before .before .before .before .before .before .unite-status .ensures) ∙ c .before .before .before .before .before .if3 .left) in
-    (c .answer4 .ensures ∙ p .0, c .before .before .before .unite-rows .ensures ∙ p .1)
+    (c .answer-of4 .ensures ∙ p .0, c .before .before .before .unite-rows .ensures ∙ p .1)
 
 pub unite-spec : {M : Type 1} → statement M
 unite-spec =
     tie.close
     (tie.spec
     bad-shape-requires
-    answer-requires
+    answer-of-requires
     returns
-    answer-requires-2
+    answer-of-requires-2
     returns-2
     unite-status-requires
-    answer-requires-3
+    answer-of-requires-3
     same-length
     returns-3
     unite-rows-requires
-    answer-requires-4
+    answer-of-requires-4
     same-length-2
     returns-4)

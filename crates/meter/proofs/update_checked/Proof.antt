@@ -25,8 +25,8 @@ update-one-requires c κs = let one = c .before .before .before in
     let p = call-rows _ _ _ _ (one .before .before .before .before .pre) .1 in
     (p .0, (one-long _ _ _ (one .if1 .taken) (p .2), c .before .row-slot .ensures .1))
 
-answer-requires : tie.Need-answer-requires
-answer-requires c κs = search needs
+answer-of-requires : tie.Need-answer-of-requires
+answer-of-requires c κs = search needs
 
 same-length : tie.Need-same-length
 same-length c = search needs
@@ -44,7 +44,7 @@ returns c = let u = c .before .before .before .update-one in
     let after = one-added (a .d) (a .w) (a .memory .now) (a .key .now) (one .if1 .taken) long start at (a .amount) in
     let p = updated-rows (a .d) (a .w) (a .memory .now) (a .key .now) (a .amount) (s .pre) (u .result) (u .last .0) status
     (u .ensures .1 ∙ ap (λ (m : List ℕ). cond (eqb (u .result) 0) m (a .memory .now)) after) in
-    (c .answer .ensures ∙ p .0, p .1)
+    (c .answer-of .ensures ∙ p .0, p .1)
 
 start-requires-2 : tie.Need-start-requires-2
 start-requires-2 c κs = search needs
@@ -56,8 +56,8 @@ key-slots-requires c κs = let p = call-rows _ _ _ _ (c .before .before .before 
 update-rows-requires : tie.Need-update-rows-requires
 update-rows-requires c κs = (call-rows _ _ _ _ (c .before .before .before .before .before .before .before .before .pre) .1, c .before .before .key-slots .ensures .1)
 
-answer-requires-2 : tie.Need-answer-requires-2
-answer-requires-2 c κs = search needs
+answer-of-requires-2 : tie.Need-answer-of-requires-2
+answer-of-requires-2 c κs = search needs
 
 same-length-2 : tie.Need-same-length-2
 same-length-2 c = search needs
@@ -76,7 +76,7 @@ returns-2 c = let u = c .before .before .before .update-rows in
     let after = added-by-key (a .d) (a .w) (a .memory .now) (a .key .now) (slots .result) start at (a .amount) in
     let p = updated-rows (a .d) (a .w) (a .memory .now) (a .key .now) (a .amount) (s .pre) (u .result) (u .last .1 .1 .0) status
     (u .ensures .1 ∙ ap (λ (m : List ℕ). cond (eqb (u .result) 0) m (a .memory .now)) after) in
-    (c .answer2 .ensures ∙ p .0, p .1)
+    (c .answer-of2 .ensures ∙ p .0, p .1)
 
 pub update-checked-spec : {M : Type 1} → statement M
 update-checked-spec =
@@ -86,12 +86,12 @@ update-checked-spec =
     start-requires
     row-slot-requires
     update-one-requires
-    answer-requires
+    answer-of-requires
     same-length
     returns
     start-requires-2
     key-slots-requires
     update-rows-requires
-    answer-requires-2
+    answer-of-requires-2
     same-length-2
     returns-2)

@@ -7,7 +7,7 @@ use Prim.Native.Nat.{_-_, _/_, _≤_}
 use native.Mathlib.Omega.{arith}
 use borrow.Author.Needs.{needs}
 use Rattle.geometry.proofs.Widths.{group-in}
-use Rattle.geometry.specs.Order.{earlier, earliest}
+use Rattle.answer.specs.Order.{earlier, earliest}
 use Rattle.geometry.specs.Rows.{ofGroups}
 use Rattle.meter_row.proofs.merged_status.Statement.{statement}
 use Rattle.meter_row.proofs.merged_status.Tie as tie

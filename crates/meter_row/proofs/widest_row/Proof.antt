@@ -5,9 +5,9 @@ use Prim.Native.Nat.{_-_, _/_, _≤_, max}
 use native.Mathlib.Omega.{arith}
 use borrow.Author.Needs.{needs}
 use Rattle.geometry.proofs.Widths.{wide, group-in}
-use Rattle.geometry.specs.Order.{earlier, earliest}
+use Rattle.answer.specs.Order.{earlier, earliest}
 use Rattle.geometry.specs.Rows.{groupAt, ofGroups, largest}
-use Rattle.group.specs.declared.Answer.{Answer}
+use Rattle.answer.specs.declared.Answer.{Answer}
 use Rattle.meter_row.proofs.widest_row.Statement.{statement}
 use Rattle.meter_row.proofs.widest_row.Tie as tie
 

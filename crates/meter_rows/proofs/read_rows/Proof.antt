@@ -7,7 +7,7 @@ use lib.ListN.{getD, drop}
 use Rattle.group.specs.declared.Reading.{Reading}
 use Rattle.group.specs.Group.{read}
 use Rattle.geometry.specs.Geometry.{stride}
-use Rattle.geometry.specs.Order.{earlier, earliest}
+use Rattle.answer.specs.Order.{earlier, earliest}
 use Rattle.geometry.specs.Rows.{ofRows, groupAt, least, leastOr}
 use Rattle.geometry.specs.Rows.{rowOf}
 use Rattle.geometry.proofs.Lists.{one-row}

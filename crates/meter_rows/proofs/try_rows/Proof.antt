@@ -10,9 +10,10 @@ use Rattle.group.specs.declared.Outcome.{Outcome}
 use Rattle.group.specs.Group.{added}
 use Rattle.group.proofs.Laws.{added-kept}
 use Rattle.geometry.specs.Geometry.{stride}
-use Rattle.geometry.specs.Order.{earlier, earliest}
+use Rattle.answer.specs.Order.{earlier, earliest}
 use Rattle.geometry.specs.Rows.{groupAt, ofRows}
-use Rattle.geometry.proofs.Widths.{slot-in, group-in, earlier-none}
+use Rattle.answer.proofs.Order.{earlier-none}
+use Rattle.geometry.proofs.Widths.{slot-in, group-in}
 use Rattle.meter_row.specs.Row.{addedIn}
 use Rattle.geometry.specs.Rows.{rowOf}
 use Rattle.meter_rows.proofs.Gather.{status-turn, status-end, rows-start}

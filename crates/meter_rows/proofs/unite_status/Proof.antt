@@ -7,7 +7,7 @@ use Rattle.geometry.specs.Geometry.{stride}
 use Rattle.geometry.specs.Rows.{rowOf}
 use Rattle.meter_row.specs.Row.{sourceStatus}
 use lib.ListN.{drop}
-use Rattle.geometry.specs.Order.{earlier, earliest}
+use Rattle.answer.specs.Order.{earlier, earliest}
 use Rattle.geometry.specs.Rows.{ofRows}
 use Rattle.meter_row.specs.Row.{uniteStatus}
 use Rattle.geometry.proofs.Lists.{one-row}

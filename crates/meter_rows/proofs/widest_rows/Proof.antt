@@ -6,7 +6,7 @@ use Rattle.geometry.specs.Geometry.{stride}
 use Rattle.geometry.specs.Rows.{rowOf}
 use Rattle.meter_row.specs.Row.{rowStatus, rowLevel}
 use lib.ListN.{drop}
-use Rattle.geometry.specs.Order.{earlier, earliest}
+use Rattle.answer.specs.Order.{earlier, earliest}
 use Rattle.geometry.specs.Rows.{ofRows, largest}
 use Rattle.meter_row.specs.Row.{widestStatus, widestRow}
 use Rattle.geometry.proofs.Lists.{one-row}
