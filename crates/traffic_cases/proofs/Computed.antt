@@ -29,7 +29,7 @@ use Rattle.feed_records.specs.Words as records
 use Rattle.feed.specs.Record as carrying
 use Rattle.traffic.specs.Traffic as totals
 use Rattle.traffic.specs.Calls as calls
-use Rattle.traffic.specs.Calls.{none, update, feed, run, done, Faithful}
+use Rattle.traffic.specs.Calls.{none, update, estimate, feed, run, done, Faithful}
 use Rattle.traffic_cases.specs.Cases.{at-10, at-11, _▸_, updateWords, other, mixed, fed, every, numbers, cases, AllMeet, handMade, ByHand}
 use Rattle.traffic_cases.specs.Refusals.{holding, Refusal, refusals}
 
@@ -73,7 +73,7 @@ pub record Computed : Type 0 where
   pub fit : allFit 32 first ≡ true
   pub doubles : twice 32 first ≡ nearly
   pub last : meter.updated 1 32 nearly at-10 4294967295 ≡ record { answer = accepted 0; memory = whole }
-  pub figure : meter.estimated 1 32 whole at-10 ≡ accepted (2 ^ 64 - 1)
+  pub figure : done 1 32 1 32 (estimate at-10) whole .answer ≡ accepted (2 ^ 64 - 1)
   pub nothing : done 1 32 1 32 (update at-10 0) whole .answer .status ≡ 0
   pub one : done 1 32 1 32 (update at-10 1) whole .answer .status ≡ 6
   pub near : done 1 32 1 32 (update at-11 1) whole .answer .status ≡ 6
