@@ -1,7 +1,6 @@
 -- A list of calls that fills a counter, with what the next calls give. Cited by theorems.
 use Prim.Native.Nat.{ℕ, zero, suc, _-_, _^_}
 use mathlib.Core.Path.{_≡_}
-use mathlib.Core.List.{List}
 use Rattle.group.specs.Status.{accepted}
 use Rattle.traffic.specs.Traffic.{lower}
 use Rattle.traffic.specs.Calls.{Call, Calls, none, update, estimate, unite, feed, from, traffic, Faithful}
