@@ -2,20 +2,21 @@
 -- do to it, and what its counters are. `t n i` is the total of block i of level n.
 use mathlib.Core.Path.{_≡_, refl, sym, ap, _∙_}
 use mathlib.Core.Bool.{Bool, true, false, cond, _&&_}
-use Prim.Native.Nat.{ℕ, zero, suc, _+_, _-_, _*_, _/_, _%_, _^_, _≤_, _<_, max}
+use Prim.Native.Nat.{ℕ, zero, suc, _+_, _-_, _*_, _/_, _%_, _^_, _≤_, _<_}
 use mathlib.Core.Logic.{⊎-elim}
 use native.Mathlib.Decide.{decLt, ℕ-discrete}
 use native.Mathlib.Omega.{arith}
+use borrow.Table.Steps.{cases}
 use borrow.Author.Tests.{lt-ltb, le-ltb, ltb-true, eq-eqb, ne-eqb}
 use lib.Dec.{ltb, eqb}
 use Rattle.group_layout.specs.Layout.{widest}
 use Rattle.group_block.specs.Kind.{ordinary}
 use Rattle.group_block.specs.Block.{Block, counter, split, cap, Fits, shape, counterAt, total}
 use Rattle.group_block.specs.Sum.{Sum, fits, over, sumTotal, held, join, add, unite}
-use Rattle.group_block.specs.Counts.{Adds, Counts}
+use Rattle.group_block.specs.Counts.{Adds, Counts, valueAt, levelAt}
 use Rattle.group_block.proofs.Laws.{cap-double}
 use Rattle.group_block.proofs.Sides.{half, by-half}
-use Rattle.group_block.proofs.Counting.{total-counts}
+use Rattle.group_block.proofs.Counting.{total-counts, value-counts}
 
 -- whether a counter of level n holds the total of block i of that level; `totals n i` is that total
 unfoldable pub small : (ℕ → ℕ → ℕ) → ℕ → ℕ → Bool
@@ -178,19 +179,17 @@ module _ (t u v : ℕ → ℕ → ℕ) (adds-t : Adds ordinary t) (adds-u : Adds
       (λ l. rw (canon-total u adds-u (suc n) i, ← sum (suc n) i)
       (sym (sum-merged v n i (λ x y. l (omega (arith, sum n (2 * i))) (omega (arith, sum n (2 * i + 1)))))))
 
+-- the counter of a slot, by its value and its level
+counter-at : {n : ℕ} (b : Block n) (k : ℕ) → counterAt b k ≡ record { value = valueAt b k; level = levelAt b k }
+unfolding counterAt valueAt levelAt
+counter-at (counter v) k = refl
+counter-at (split {n} l r) k = cases (ltb k (2 ^ n)) (λ e. rw e (counter-at l k)) (λ e. rw e (counter-at r (k - 2 ^ n)))
+
 module _ (t : ℕ → ℕ → ℕ) where
   -- a slot's counter holds the total of the block of its level that the slot is in
   pub counter-is : (n i s : ℕ) → s / 2 ^ n ≡ i
       → counterAt (canon t n i) (s % 2 ^ n) .value ≡ t (counterAt (canon t n i) (s % 2 ^ n) .level) (s / 2 ^ counterAt (canon t n i) (s % 2 ^ n) .level)
-  unfolding canon counterAt
-  counter-is zero i s e = ap (t 0) (sym e)
-  counter-is (suc n) i s e =
-      canon-cases t n i (λ b. counterAt b (s % 2 ^ suc n) .value ≡ t (counterAt b (s % 2 ^ suc n) .level) (s / 2 ^ counterAt b (s % 2 ^ suc n) .level))
-      (λ p q. ⊎-elim
-      (λ x. rw (x .test, x .place) (counter-is n (2 * i) s (x .is)))
-      (λ x. rw (x .test, x .place) (counter-is n (2 * i + 1) s (x .is)))
-      (by-half s n i e))
-      (λ l. ap (t (suc n)) (sym e))
+  counter-is n i s e = rw (counter-at (canon t n i) (s % 2 ^ n)) (value-counts ordinary t i s (canon t n i) e (canon-counts t n i))
 
   -- a counter above level 0 has a half that is too large
   pub record Cause (w j : ℕ) : Type 0 where
@@ -242,9 +241,5 @@ module _ (t : ℕ → ℕ → ℕ) where
 pub level-le : {n : ℕ} (b : Block n) (k : ℕ) → counterAt b k .level ≤ widest (shape b)
 unfolding counterAt shape widest
 level-le (counter v) k = omega arith
-level-le (split {n} l r) k = go (ltb k (2 ^ n)) (level-le l k) (level-le r (k - 2 ^ n))
-  where
-    go : (b : Bool) → counterAt l k .level ≤ widest (shape l) → counterAt r (k - 2 ^ n) .level ≤ widest (shape r)
-        → cond b (counterAt l k) (counterAt r (k - 2 ^ n)) .level ≤ max (widest (shape l)) (widest (shape r))
-    go true p q = omega arith
-    go false p q = omega arith
+level-le (split {n} l r) k =
+    cases (ltb k (2 ^ n)) (λ e. rw e (omega (arith, level-le l k))) (λ e. rw e (omega (arith, level-le r (k - 2 ^ n))))

@@ -1,14 +1,14 @@
 -- What a feed's record or end call does: it is refused, or carries out an update, a query or the end.
-use mathlib.Core.Path.{_≡_, refl, sym, ap, _∙_}
-use mathlib.Core.Bool.{Bool, true, false, true≢false, and-eq-true-iff}
+use mathlib.Core.Path.{_≡_, refl, sym, _∙_}
+use mathlib.Core.Bool.{true, false, true≢false, and-eq-true-iff}
 use mathlib.Core.List.{List}
 use Prim.Native.Nat.{ℕ, zero, suc, _/_, _%_, _^_}
 use native.Mathlib.Omega.{arith}
 use borrow.Author.Tests.{eqb-true, eqb-false}
 use lib.Dec.{ltb, eqb, eqb·suc-zero}
 use lib.ListN.{length, getD}
-use Rattle.answer.specs.declared.Answer.{Answer}
-use Rattle.geometry.specs.Checks.{badShape, badKey}
+use Rattle.group.specs.declared.Answer.{Answer}
+use Rattle.geometry.specs.Order.{badShape, badKey}
 use Rattle.meter.specs.Meter.{updated, estimated}
 use Rattle.word.specs.Word.{endKind, payload, isDue}
 use Rattle.feed.specs.declared.Recorded.{Recorded}
@@ -16,7 +16,7 @@ use Rattle.feed.specs.declared.Recorded.the-variants as case
 use Rattle.feed.specs.Answers.{recordAnswer}
 use Rattle.feed_records.specs.Words.{updateKind, queryKind, opensKey, opened, keyOf, amountOf, updateStep, queryStep, bodyOf, updateBody, queryBody}
 use Rattle.feed.specs.Record.{Carried, outcomeOf, carriedUpdate, queried, carried, carriedAfter, recorded}
-use Rattle.image_format.proofs.Laws.{by-test}
+use borrow.Table.Steps.{cases}
 
 module _ (d w : ℕ) (memory : List ℕ) (before : ℕ) (words : List ℕ) where
   abbrev key : List ℕ
@@ -27,7 +27,7 @@ module _ (d w : ℕ) (memory : List ℕ) (before : ℕ) (words : List ℕ) where
 
   -- to prove a thing of what the call does, prove it of a refusal, an update, a query and the end
   module _ (P : Carried → Type 0)
-      (refuses : (s p : ℕ) → eqb s 0 ≡ false → P (record { outcome = case.Refused s p; memory = memory }))
+      (rejects : (s p : ℕ) → eqb s 0 ≡ false → P (record { outcome = case.Rejected s p; memory = memory }))
       (updates : isDue words 0 updateKind ≡ true → P (record { outcome = outcomeOf (updated d w memory key amount .answer) case.Updated; memory = updated d w memory key amount .memory }))
       (queries : isDue words 0 updateKind ≡ false → isDue words 0 queryKind ≡ true → P (record { outcome = outcomeOf (estimated d w memory key) (case.Estimate (estimated d w memory key .value)); memory = memory }))
       (ends : isDue words 0 updateKind ≡ false → isDue words 0 queryKind ≡ false → P (record { outcome = case.Ended; memory = memory })) where
@@ -35,26 +35,26 @@ module _ (d w : ℕ) (memory : List ℕ) (before : ℕ) (words : List ℕ) where
     unfolding carried opened opensKey updateBody queryBody bodyOf carriedUpdate queried
     sound =
         let n = payload words 0 in
-        by-test (isDue words 0 updateKind)
+        cases (isDue words 0 updateKind)
         (λ u. rw u
-        (by-test (eqb (badKey n) 0)
-        (λ k. rw k (by-test (eqb (updateStep n words .status) 0) (λ s. rw s (updates u)) (λ s. rw s (refuses (updateStep n words .status) (updateStep n words .position) s))))
-        (λ k. rw k (refuses (badKey n) 0 k))))
+        (cases (eqb (badKey n) 0)
+        (λ k. rw k (cases (eqb (updateStep n words .status) 0) (λ s. rw s (updates u)) (λ s. rw s (rejects (updateStep n words .status) (updateStep n words .position) s))))
+        (λ k. rw k (rejects (badKey n) 0 k))))
         (λ u. rw u
-        (by-test (isDue words 0 queryKind)
+        (cases (isDue words 0 queryKind)
         (λ q. rw q
-        (by-test (eqb (badKey n) 0)
-        (λ k. rw k (by-test (eqb (queryStep n words .status) 0) (λ s. rw s (queries u q)) (λ s. rw s (refuses (queryStep n words .status) (queryStep n words .position) s))))
-        (λ k. rw k (refuses (badKey n) 0 k))))
+        (cases (eqb (badKey n) 0)
+        (λ k. rw k (cases (eqb (queryStep n words .status) 0) (λ s. rw s (queries u q)) (λ s. rw s (rejects (queryStep n words .status) (queryStep n words .position) s))))
+        (λ k. rw k (rejects (badKey n) 0 k))))
         (λ q. rw q
-        (by-test (isDue words 0 endKind)
-        (λ e. rw e (by-test (eqb n (before % 2 ^ 28)) (λ b. rw b (ends u q)) (λ b. rw b (refuses 9 0 refl))))
-        (λ e. rw e (refuses 8 0 refl))))))
+        (cases (isDue words 0 endKind)
+        (λ e. rw e (cases (eqb n (before % 2 ^ 28)) (λ b. rw b (ends u q)) (λ b. rw b (rejects 9 0 refl))))
+        (λ e. rw e (rejects 8 0 refl))))))
 
     after : (s : ℕ) → P (carriedAfter s d w memory before words)
     unfolding carriedAfter
     after zero = sound
-    after (suc s) = refuses (suc s) 0 (eqb·suc-zero s)
+    after (suc s) = rejects (suc s) 0 (eqb·suc-zero s)
 
     pub record-cases : P (recorded d w memory before words)
     unfolding recorded
@@ -63,7 +63,7 @@ module _ (d w : ℕ) (memory : List ℕ) (before : ℕ) (words : List ℕ) where
 -- an outcome is accepted as what it carries out
 pub outcome-status : (a : Answer) (r : Recorded) → recordAnswer r .status ≡ 0 → eqb (recordAnswer (outcomeOf a r) .status) 0 ≡ eqb (a .status) 0
 unfolding outcomeOf
-outcome-status a r e = by-test (eqb (a .status) 0) (λ t. rw (t, e)) (λ t. rw t t)
+outcome-status a r e = cases (eqb (a .status) 0) (λ t. rw (t, e)) (λ t. rw t t)
 
 -- a word has one kind
 one-kind : (words : List ℕ) (p j k : ℕ) → isDue words p j ≡ true → isDue words p k ≡ true → j ≡ k
@@ -83,7 +83,7 @@ query-is d w memory before words due =
     record-cases d w memory before words (λ c. recordAnswer (c .outcome) .status ≡ 0 → (a .status ≡ 0) × (a .value ≡ recordAnswer (c .outcome) .value))
     (λ s p f e. absurd (eqb-false s 0 f e))
     (λ u e. absurd (five-not-six (one-kind words 0 updateKind queryKind u due)))
-    (λ u q. by-test (eqb (a .status) 0) (λ t. rw t (λ e. (eqb-true (a .status) 0 t, refl))) (λ t. rw t (λ e. absurd (eqb-false (a .status) 0 t e))))
+    (λ u q. cases (eqb (a .status) 0) (λ t. rw t (λ e. (eqb-true (a .status) 0 t, refl))) (λ t. rw t (λ e. absurd (eqb-false (a .status) 0 t e))))
     (λ u q e. absurd (true≢false (sym due ∙ q)))
   where
     five-not-six : updateKind ≡ queryKind → ⊥
@@ -97,6 +97,6 @@ only-queries d w memory before words value =
     let u = updated d w memory (keyOf (payload words 0) words) (amountOf (payload words 0) words) .answer in
     record-cases d w memory before words (λ c. c .outcome ≡ case.Estimate value → isDue words 0 queryKind ≡ true)
     (λ s p f e. cc)
-    (λ due. by-test (eqb (u .status) 0) (λ t. rw t (λ e. cc)) (λ t. rw t (λ e. cc)))
+    (λ due. cases (eqb (u .status) 0) (λ t. rw t (λ e. cc)) (λ t. rw t (λ e. cc)))
     (λ due q e. q)
     (λ due q e. cc)

@@ -5,7 +5,7 @@ use mathlib.Core.List.{List, [], _∷_, _++_}
 use Prim.Native.Nat.{ℕ, zero, suc, _-_, _^_}
 use lib.Dec.{eqb, ltb}
 use lib.ListN.{replicate}
-use Rattle.answer.specs.Answers.{accepted, leaves}
+use Rattle.group.specs.Status.{accepted}
 use Rattle.group_bytes.specs.Bytes as bytes
 use Rattle.group_layout.specs.Layout as layouts
 use Rattle.group_layout.specs.Code as codes
@@ -16,7 +16,7 @@ use Rattle.hash.specs.Hash as hashes
 use Rattle.group.specs.Group as groups
 use Rattle.group_codes.specs.Pack as packs
 use Rattle.geometry.specs.Geometry as geometry
-use Rattle.geometry.specs.Checks as order
+use Rattle.geometry.specs.Order as order
 use Rattle.geometry.specs.Rows as rows
 use Rattle.meter_keys.specs.Keys as keys
 use Rattle.meter_row.specs.Row as row
@@ -29,8 +29,8 @@ use Rattle.feed_records.specs.Words as records
 use Rattle.feed.specs.Record as carrying
 use Rattle.traffic.specs.Traffic as totals
 use Rattle.traffic.specs.Calls as calls
-use Rattle.traffic.specs.Calls.{none, update, feed, run, done, Faithful}
-use Rattle.traffic_cases.specs.Cases.{at-10, at-11, updateWords, other, mixed, fed, every, numbers, cases, AllMeet, handMade, ByHand}
+use Rattle.traffic.specs.Calls.{none, update, estimate, feed, run, done, Faithful}
+use Rattle.traffic_cases.specs.Cases.{at-10, at-11, _▸_, updateWords, other, mixed, fed, every, numbers, cases, AllMeet, handMade, ByHand}
 use Rattle.traffic_cases.specs.Refusals.{holding, Refusal, refusals}
 
 -- whether each refused call gives its number
@@ -73,7 +73,7 @@ pub record Computed : Type 0 where
   pub fit : allFit 32 first ≡ true
   pub doubles : twice 32 first ≡ nearly
   pub last : meter.updated 1 32 nearly at-10 4294967295 ≡ record { answer = accepted 0; memory = whole }
-  pub figure : meter.estimated 1 32 whole at-10 ≡ accepted (2 ^ 64 - 1)
+  pub figure : done 1 32 1 32 (estimate at-10) whole .answer ≡ accepted (2 ^ 64 - 1)
   pub nothing : done 1 32 1 32 (update at-10 0) whole .answer .status ≡ 0
   pub one : done 1 32 1 32 (update at-10 1) whole .answer .status ≡ 6
   pub near : done 1 32 1 32 (update at-11 1) whole .answer .status ≡ 6
@@ -100,7 +100,7 @@ unfolding numbers allRefuse allFit twice calls.recordPair calls.traffic calls.af
     sums.held sums.join sums.add sums.unite hashes.fnvStep hashes.fnv hashes.slotOf bytes.number bytes.bytes groups.decode groups.encode
     groups.reading groups.read groups.settle groups.added groups.united groups.widestOf groups.changed packs.fourCode packs.packed
     packs.fourMerges packs.unpacked geometry.validDepth geometry.oneOfPowers geometry.validWidth geometry.stride geometry.size
-    order.firstOf order.earlier order.earliest order.answerOf order.finish order.leaves rows.mapRows rows.ofRows rows.groupAt rows.withGroup
+    order.firstOf order.earlier order.earliest order.answerOf order.finish rows.mapRows rows.ofRows rows.groupAt rows.withGroup
     rows.ofGroups rows.leastOr rows.least rows.largest keys.keySlot row.addedIn row.updateStatus row.updateRow row.readRow
     row.levelStatus row.levelAt row.widestStatus row.widestRow row.unitedAt row.unitedStatus row.uniteStatus row.uniteGroups
     row.uniteRow meter.cleared meter.badCall meter.updated meter.readStatus meter.readValue meter.estimated meter.widest meter.rowOf

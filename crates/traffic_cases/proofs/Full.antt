@@ -1,6 +1,6 @@
 -- The list of doublings is faithful, fills the counter, and what the next calls give is as the table says.
-use mathlib.Core.Path.{_≡_, refl, sym, ap, _∙_}
-use mathlib.Core.Bool.{true, _&&_, and-eq-true-iff}
+use mathlib.Core.Path.{_≡_, refl, ap, _∙_}
+use mathlib.Core.Bool.{true, and-eq-true-iff}
 use mathlib.Core.List.{List}
 use Prim.Native.Nat.{ℕ, zero, suc, _+_, _-_, _*_, _^_}
 use native.Mathlib.Nat.{mul-assoc, mul-add}
@@ -9,7 +9,7 @@ use lib.Dec.{eqb}
 use Rattle.answer.specs.Answers.{Done}
 use Rattle.meter.specs.Meter.{united, updated}
 use Rattle.traffic.specs.Traffic.{sameKey, keyTotal, lower, sumOf}
-use Rattle.traffic.specs.Calls.{Call, Calls, none, update, unite, feed, from, traffic, after, behind, run, done, bytesOf, Faithful, Listed, LeftBy}
+use Rattle.traffic.specs.Calls.{Call, Calls, none, update, estimate, unite, feed, from, traffic, after, behind, run, done, bytesOf, Faithful, Listed, LeftBy}
 use Rattle.traffic.proofs.Totals.{sum-append}
 use Rattle.traffic_cases.specs.Cases.{at-10, at-11, updateWords}
 use Rattle.traffic_cases.specs.Full.{doubled, full, after-full, Full}
@@ -79,7 +79,7 @@ full-meets =
     record {
       faithful = full-run .0;
       total = full-total;
-      figure = rw (full-run .1) (computed .figure);
+      figure = ap (λ (m : List ℕ). done 1 32 1 32 (estimate at-10) m .answer) (full-run .1) ∙ computed .figure;
       nothing = gives (update at-10 0) 0 (computed .nothing);
       one = gives (update at-10 1) 6 (computed .one);
       near = gives (update at-11 1) 6 (computed .near);

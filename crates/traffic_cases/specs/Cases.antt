@@ -4,12 +4,12 @@ use mathlib.Core.Path.{_≡_}
 use mathlib.Core.Bool.{true, false, cond}
 use mathlib.Core.List.{List, [], _∷_, _++_}
 use lib.ListN.{replicate}
-use Rattle.answer.specs.Answers.{accepted}
-use Rattle.meter.specs.Meter.{estimated}
+use Rattle.group.specs.Status.{accepted}
 use Rattle.meter.specs.Meter as meter
 use Rattle.image_format.specs.Read.{taken}
 use Rattle.traffic.specs.Traffic.{level, lower, upper}
 use Rattle.traffic.specs.Calls.{Call, Calls, none, then, clear, update, estimate, widest, unite, write, read, feed, from, raw, traffic, run, done, Faithful}
+use Rattle.traffic.specs.Claim.{answerTo}
 
 -- Keys of one byte that land at slots 0, 8, 10, 11 and 12.
 abbrev pub at-0 : List ℕ
@@ -61,7 +61,8 @@ fed = mixed ▹ feed 0 [] ▸ feed 1 updateWords ▸ feed 5 queryWords ▸ feed 
 abbrev pub every : Calls
 every = then fed 2 64 (update at-8 1) false ▸ widest ▸ write (replicate 40 0) ▹ write [] ▹ unite (raw []) ▹ read (raw [])
 
--- A clearing that was accepted empties the traffic, and one that was refused, told 64 slots, does not.
+-- A clearing that was accepted empties the traffic, and one that was refused, told 64 slots, does not: 5 and 6 are left, where a
+-- traffic that is not emptied has 311 and one that a refused clearing empties has 6.
 abbrev pub clearings : Calls
 clearings = then (none ▸ update at-10 300 ▸ clear ▸ update at-10 5) 1 64 clear false ▸ update at-10 6
 
@@ -93,13 +94,14 @@ Meets c =
     × (numbers (c .d) (c .w) (c .calls) ≡ c .refused)
     × (level (c .d) (c .w) (traffic (c .calls)) ≡ c .widest-level)
     × (lower (traffic (c .calls)) (c .key) ≡ c .low)
-    × (estimated (c .d) (c .w) (run (c .d) (c .w) (c .calls)) (c .key) ≡ accepted (c .value))
+    × (answerTo (c .d) (c .w) (c .calls) (estimate (c .key)) ≡ accepted (c .value))
     × (upper (c .d) (c .w) (traffic (c .calls)) (c .key) ≡ c .high)
 
 abbrev pub AllMeet : List Case → Type 0
 AllMeet [] = Unit
 AllMeet (c ∷ cs) = Meets c × AllMeet cs
 
+-- of the key at slot 10 of 1 row of 32 slots: the numbers of the refused calls, L, the lower figure, the estimate and the upper figure
 abbrev pub small : Calls → List ℕ → ℕ → ℕ → ℕ → ℕ → Case
 small calls refused l low value high =
     record { d = 1; w = 32; calls = calls; refused = refused; key = at-10; widest-level = l; low = low; value = value; high = high }
