@@ -4,6 +4,7 @@ pub use feed_head::head_depth;
 pub use feed_head::head_width;
 use feed_records::Body;
 use feed_records::Opening;
+pub use feed_records::words_taken;
 use group::Answer;
 ghost use mathlib.Core.Path.{_≡_};
 ghost use Prim.Native.Nat.{_≤_};
@@ -11,7 +12,7 @@ ghost use lib.ListN.{length};
 ghost use Rattle.geometry.specs.Order.{badShape, badKey};
 ghost use Rattle.feed_records.specs.Answers.{bodyAnswer};
 ghost use Rattle.feed.specs.Answers.{recordAnswer};
-ghost use Rattle.feed_records.specs.Words.{wordsTaken, updateBody, queryBody};
+ghost use Rattle.feed_records.specs.Words.{updateBody, queryBody};
 ghost use Rattle.feed.specs.Record as spec;
 ghost use Rattle.feed.specs.Record.{carriedUpdate, queried, recorded};
 
@@ -37,20 +38,6 @@ pub fn answer(r: Recorded) -> Answer
             value: 0,
         },
     }
-}
-
-// The number of words that a record or the end takes.
-pub fn words_taken(words: &[u32]) -> usize
-    ensures { λ r. ⌜ r ≡ wordsTaken (now (words .entry)) ⌝ }
-{
-    let n = feed_records::key_words(word::payload(words, 0) as usize);
-    if word::is_due(words, 0, feed_records::UPDATE) {
-        return 1 + n + 2;
-    }
-    if word::is_due(words, 0, feed_records::QUERY) {
-        return 1 + n;
-    }
-    1
 }
 
 fn rejection(a: Answer) -> Recorded
