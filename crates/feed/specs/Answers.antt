@@ -1,4 +1,4 @@
--- Document 01's number, place and figure for each case of a feed's answers.
+-- Document 01's number, place and figure for each case of a feed's answers. Cited by contracts.
 use Rattle.group.specs.declared.Answer.{Answer}
 use Rattle.group.specs.Status.{accepted}
 use Rattle.feed_records.specs.Answers.{faulty}

@@ -1,4 +1,4 @@
--- Document 01's number, place and figure for each case of a record's words.
+-- Document 01's number, place and figure for each case of a record's words. Cited by contracts.
 use Prim.Native.Nat.{ℕ}
 use Rattle.group.specs.declared.Answer.{Answer}
 use Rattle.group.specs.Status.{accepted, rejected}
