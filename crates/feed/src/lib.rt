@@ -4,14 +4,15 @@ pub use feed_head::head_depth;
 pub use feed_head::head_width;
 use feed_records::Body;
 use feed_records::Opening;
-use answer::Answer;
+pub use feed_records::words_taken;
+use group::Answer;
 ghost use mathlib.Core.Path.{_≡_};
 ghost use Prim.Native.Nat.{_≤_};
 ghost use lib.ListN.{length};
-ghost use Rattle.geometry.specs.Checks.{badShape, badKey};
+ghost use Rattle.geometry.specs.Order.{badShape, badKey};
 ghost use Rattle.feed_records.specs.Answers.{bodyAnswer};
 ghost use Rattle.feed.specs.Answers.{recordAnswer};
-ghost use Rattle.feed_records.specs.Words.{wordsTaken, updateBody, queryBody};
+ghost use Rattle.feed_records.specs.Words.{updateBody, queryBody};
 ghost use Rattle.feed.specs.Record as spec;
 ghost use Rattle.feed.specs.Record.{carriedUpdate, queried, recorded};
 
@@ -20,7 +21,7 @@ pub enum Recorded {
     Updated,
     Estimate { value: u64 },
     Ended,
-    Refused { status: u8, position: u64 },
+    Rejected { status: u8, position: u64 },
 }
 
 // The number, place and figure of a record.
@@ -28,46 +29,36 @@ pub fn answer(r: Recorded) -> Answer
     ensures { λ a. ⌜ a ≡ recordAnswer r ⌝ }
 {
     match r {
-        Recorded::Updated => answer::accepted(0),
-        Recorded::Estimate { value } => answer::accepted(value),
-        Recorded::Ended => answer::accepted(0),
-        Recorded::Refused { status, position } => answer::refused_at(status, position),
+        Recorded::Updated => geometry::answer(0, 0),
+        Recorded::Estimate { value } => geometry::answer(0, value),
+        Recorded::Ended => geometry::answer(0, 0),
+        Recorded::Rejected { status, position } => Answer {
+            status,
+            position,
+            value: 0,
+        },
     }
 }
 
-// The number of words that a record or the end takes.
-pub fn words_taken(words: &[u32]) -> usize
-    ensures { λ r. ⌜ r ≡ wordsTaken (now (words .entry)) ⌝ }
+fn rejection(a: Answer) -> Recorded
+    ensures { λ r. ⌜ r ≡ spec.rejection a ⌝ }
 {
-    let n = feed_records::key_words(word::payload(words, 0) as usize);
-    if word::is_due(words, 0, feed_records::UPDATE) {
-        return 1 + n + 2;
-    }
-    if word::is_due(words, 0, feed_records::QUERY) {
-        return 1 + n;
-    }
-    1
-}
-
-fn refusal(a: Answer) -> Recorded
-    ensures { λ r. ⌜ r ≡ spec.refusal a ⌝ }
-{
-    Recorded::Refused {
+    Recorded::Rejected {
         status: a.status,
         position: a.position,
     }
 }
 
-// A refusal by a faulty word.
+// A rejection by a faulty word.
 fn refused(b: Body) -> Recorded
-    ensures { λ r. ⌜ r ≡ spec.refusal (bodyAnswer b) ⌝ }
+    ensures { λ r. ⌜ r ≡ spec.rejection (bodyAnswer b) ⌝ }
 {
     match b {
-        Body::Sound { amount: _ } => Recorded::Refused {
+        Body::Sound { amount: _ } => Recorded::Rejected {
             status: 0,
             position: 0,
         },
-        Body::Refused { status, position } => Recorded::Refused { status, position },
+        Body::Refused { status, position } => Recorded::Rejected { status, position },
     }
 }
 
@@ -84,7 +75,7 @@ fn update(d: usize, w: usize, memory: &mut [u8], n: usize, words: &[u32]) -> Rec
     };
     let a = meter::update_checked(d, w, memory, &key[0..n], amount);
     if a.status != 0 {
-        return refusal(a);
+        return rejection(a);
     }
     Recorded::Updated
 }
@@ -101,7 +92,7 @@ fn query(d: usize, w: usize, memory: &[u8], n: usize, words: &[u32]) -> Recorded
     };
     let a = meter::estimate_checked(d, w, memory, &key[0..n]);
     if a.status != 0 {
-        return refusal(a);
+        return rejection(a);
     }
     Recorded::Estimate { value: a.value }
 }
@@ -114,7 +105,7 @@ pub fn record(d: usize, w: usize, memory: &mut [u8], before: u64, words: &[u32])
 {
     let bad = geometry::bad_shape(d, w, memory.len());
     if bad != 0 {
-        return Recorded::Refused {
+        return Recorded::Rejected {
             status: bad,
             position: 0,
         };
@@ -124,7 +115,7 @@ pub fn record(d: usize, w: usize, memory: &mut [u8], before: u64, words: &[u32])
         Opening::Update { length } => update(d, w, memory, length, words),
         Opening::Query { length } => query(d, w, memory, length, words),
         Opening::End => Recorded::Ended,
-        Opening::Refused { status } => Recorded::Refused {
+        Opening::Refused { status } => Recorded::Rejected {
             status,
             position: 0,
         },

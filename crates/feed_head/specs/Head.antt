@@ -1,4 +1,4 @@
--- A feed's head. Document 01, 'Images and feeds' and 'Turned away, in checking order'.
+-- A feed's head. Document 01, 'Images and feeds' and 'Turned away, in checking order'. Cited by contracts.
 use Prim.Native.Nat.{ℕ, _/_, _%_, _^_}
 use mathlib.Core.Bool.{cond}
 use mathlib.Core.List.{List, [], _∷_}

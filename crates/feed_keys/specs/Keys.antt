@@ -1,4 +1,4 @@
--- The key words of a record. Document 01, 'Images and feeds'. Cited by contracts and theorems.
+-- The key words of a record. Document 01, 'Images and feeds'. Cited by contracts.
 use Prim.Native.Nat.{ℕ, zero, suc, _+_, _-_, _*_, _/_, _%_, _^_}
 use mathlib.Core.Bool.{Bool, _&&_}
 use mathlib.Core.List.{List, [], _∷_}

@@ -13,6 +13,7 @@ ghost use Rattle.word.specs.Word as spec;
 ghost use Rattle.feed_keys.specs.Keys.{keyWords, keyPayload, keyWord, checkKey, keyOf};
 ghost use Rattle.feed_keys.specs.Stored.{stored};
 
+// The kind of a key word.
 const KEY: u32 = 7;
 
 // The number of words of a key, three bytes a word.

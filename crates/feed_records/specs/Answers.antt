@@ -1,4 +1,4 @@
--- Document 01's number, place and figure for each case of a record's words.
+-- Document 01's number, place and figure for each case of a record's words. Cited by contracts.
 use Prim.Native.Nat.{ℕ}
 use Rattle.answer.specs.declared.Answer.{Answer}
 use Rattle.answer.specs.Answers.{accepted, refused, refusedAt}

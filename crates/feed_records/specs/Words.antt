@@ -1,4 +1,4 @@
--- The words of a record. Document 01, 'Images and feeds'. Cited by contracts and theorems.
+-- The words of a record. Document 01, 'Images and feeds'. Cited by contracts.
 use Prim.Native.Nat.{ℕ, _+_, _*_, _%_, _^_}
 use mathlib.Core.Bool.{cond}
 use mathlib.Core.List.{List}
@@ -11,7 +11,7 @@ use Rattle.feed_records.specs.declared.Opening.{Opening}
 use Rattle.feed_records.specs.declared.Opening.the-variants as opening
 use Rattle.feed_records.specs.declared.Body.{Body}
 use Rattle.feed_records.specs.declared.Body.the-variants as body
--- the key words
+-- the key words, for those who cite them with the rest
 pub use Rattle.feed_keys.specs.Keys.{keyKind, keyWords, keyOf}
 unfoldable pub use Rattle.feed_keys.specs.Keys.{keyPayload, keyWord, checkKey, keyByte, keyFrom}
 

@@ -11,7 +11,7 @@ ghost use Prim.Native.Nat.{_^_, _<_, _≤_};
 ghost use lib.ListN.{length, take};
 ghost use Rattle.feed_records.specs.Answers.{bodyAnswer};
 ghost use Rattle.feed_keys.specs.Keys.{keyOf};
-ghost use Rattle.feed_records.specs.Words.{opensKey, opened, checkAmount, amountOf, updateStep, bodyOf, updateBody, queryBody};
+ghost use Rattle.feed_records.specs.Words.{opensKey, opened, checkAmount, amountOf, updateStep, bodyOf, updateBody, queryBody, wordsTaken};
 
 // The kinds of a record's words.
 pub const UPDATE: u32 = 5;
@@ -134,4 +134,18 @@ pub fn query_body(words: &[u32], n: usize, key: &mut [u8]) -> Body
         return Body::Sound { amount: 0 };
     }
     body_of(take_key(words, n, key), 0)
+}
+
+// The number of words that a record or the end takes.
+pub fn words_taken(words: &[u32]) -> usize
+    ensures { λ r. ⌜ r ≡ wordsTaken (now (words .entry)) ⌝ }
+{
+    let n = key_words(payload(words, 0) as usize);
+    if is_due(words, 0, UPDATE) {
+        return 1 + n + 2;
+    }
+    if is_due(words, 0, QUERY) {
+        return 1 + n;
+    }
+    1
 }

@@ -223,7 +223,7 @@ row-restored w source row words p rest o l e =
     record { checks = q .checks; after = q .after; is = same-all w (w / 8) _ source (omega arith) (o .size) (rw f at (q .same)) }
 
 -- a memory of n rows whose groups are all valid
-pub record Meter (n w : ℕ) (memory : List ℕ) : Type 0 where
+pub record SoundRows (n w : ℕ) (memory : List ℕ) : Type 0 where
   pub whole : w % 32 ≡ 0
   pub size : length memory ≡ n * stride w
   pub bytes : Bytes memory
@@ -249,7 +249,7 @@ sound-row w row a b c v =
     }
 
 -- the first row of a meter, and the others
-first-row : (n w : ℕ) (memory : List ℕ) → Meter (suc n) w memory → Sound w (take (stride w) memory)
+first-row : (n w : ℕ) (memory : List ℕ) → SoundRows (suc n) w memory → Sound w (take (stride w) memory)
 unfolding validRows
 first-row n w memory o =
     let l = suc-mul n (stride w) in
@@ -257,7 +257,7 @@ first-row n w memory o =
     sound-row w (take (stride w) memory) (o .whole) (length-take-le (stride w) memory (omega arith)) (bytes-take (stride w) memory (o .bytes))
     (both (allValid (drop w (take (stride w) memory))) (validRows n w (drop (stride w) memory)) (o .merges) .0)
 
-other-rows : (n w : ℕ) (memory : List ℕ) → Meter (suc n) w memory → Meter n w (drop (stride w) memory)
+other-rows : (n w : ℕ) (memory : List ℕ) → SoundRows (suc n) w memory → SoundRows n w (drop (stride w) memory)
 unfolding validRows
 other-rows n w memory o =
     let l = suc-mul n (stride w) in
@@ -288,7 +288,7 @@ pub record Rows (n w : ℕ) (memory old words : List ℕ) (p : ℕ) (rest : List
   pub after : drop (afterRows n w words p) words ≡ rest
   pub is : readRows n w old words p ≡ memory
 
-pub rows-restored : (n w : ℕ) (memory old words : List ℕ) (p : ℕ) (rest : List ℕ) → Meter n w memory → length old ≡ length memory
+pub rows-restored : (n w : ℕ) (memory old words : List ℕ) (p : ℕ) (rest : List ℕ) → SoundRows n w memory → length old ≡ length memory
     → drop p words ≡ rowsWords n w memory ++ rest → Rows n w memory old words p rest
 unfolding rowsWords checkFours afterRows readRows
 rows-restored zero w memory old words p rest o l e =

@@ -1,7 +1,7 @@
 -- A refused place is sharp: the words before it, read alone, are refused only because the next one is missing, or are a whole image.
 use mathlib.Core.Path.{_≡_, refl, sym, ap, subst, _∙_}
 use mathlib.Core.Logic.{_⊎_, inl, inr}
-use mathlib.Core.Bool.{true, false}
+use mathlib.Core.Bool.{Bool, true, false}
 use mathlib.Core.List.{List, [], _∷_}
 use Prim.Native.Nat.{ℕ, zero, suc, _+_, _*_, _/_, _%_, _^_, _≤_, _<_}
 use native.Mathlib.Omega.{arith}
@@ -15,7 +15,7 @@ use Rattle.word.specs.Word.{headKind, endKind, go, stop, next, payload, isDue, 
 use Rattle.word.proofs.Laws.{due-in}
 use Rattle.word.proofs.Passed.{goes, below-is}
 use Rattle.word.proofs.Places.{tested-at}
-use Rattle.word.proofs.Before.{Cut, cut-go, next-cut, payload-same, due-same, none-due, below-cut}
+use Rattle.word.proofs.Before.{Cut, cut-go, next-cut, next-same, payload-same, due-same, none-due, tested-same, below-same, below-cut}
 use Rattle.image_format.specs.Image.{headPayload, layoutKind, countKind, wordsOf, levelAt, isFirst}
 use Rattle.image_format.specs.Read.{checkHead, checkEnd, checked, firstBits, checkParts, checkSlot, checkSlots, checkGroups, mergesAt, checkFour, checkFours}
 
@@ -95,9 +95,14 @@ head-at d w words n =
     (λ u. rw u (tested-at words 0 headKind (ltb (payload words 0) (2 ^ 9)) badPayload (eqb-false (s .status) 0 u)))
 
 head-same : (d w : ℕ) (words : List ℕ) (q : ℕ) → checkHead d w (take (suc q) words) ≡ checkHead d w words
-unfolding checkHead below tested isDue payload
-head-same d w [] q = refl
-head-same d w (x ∷ xs) q = rw (lt-ltb 0 (suc (length (take q xs))) (omega arith), lt-ltb 0 (suc (length xs)) (omega arith))
+unfolding checkHead
+head-same d w words q =
+    let n = suc q in
+    let front = take n words in
+    let is : List ℕ → Bool = λ x. eqb (payload x 0) (headPayload d w) in
+    next-same (below front 0 headKind (2 ^ 9)) (below words 0 headKind (2 ^ 9)) (λ p. tested front 0 headKind (is front) otherMeter) (λ p. tested words 0 headKind (is words) otherMeter)
+    (below-same words n 0 headKind (2 ^ 9) (omega arith))
+    (tested-same words n 0 headKind otherMeter (is words) (is front) (omega arith) (ap (λ (x : ℕ). eqb x (headPayload d w)) (payload-same words n 0 (omega arith))))
 
 module _ (d w : ℕ) (words : List ℕ) where
   pub sharp-at : (q : ℕ) → (checked d w words .status ≡ 0 → ⊥) → checked d w words .position ≡ q
