@@ -2,7 +2,7 @@
 use mathlib.Core.Path.{_≡_, refl, sym, ap, _∙_}
 use mathlib.Core.Bool.{Bool, true, false, cond, _&&_}
 use Prim.Native.Nat.{ℕ, zero, suc, _+_, _*_, _/_, _%_, _<_}
-use mathlib.Core.List.{List, [], _∷_, map}
+use mathlib.Core.List.{List, [], _∷_}
 use native.Mathlib.Nat.{mod-eq-of-lt}
 use native.Mathlib.Omega.{arith}
 use borrow.Author.Tests.{lt-ltb, le-ltb}
@@ -16,7 +16,7 @@ use Rattle.group.specs.Group.{validMerge}
 use Rattle.group.specs.Status.{invalidMerge, badPayload, accepted, rejected}
 use Rattle.group_codes.specs.declared.Unpacked.{Unpacked}
 use Rattle.group_codes.specs.Pack.{layoutsOf, mergeCode, codeMerge, codeOfFour, fourCode, packed, fourMerges, unpacked}
-use Rattle.group_codes.specs.Codes.{codeOf, isCode, fourOf, codesOf}
+use Rattle.group_codes.specs.Codes.{codeOf, isCode, fourOf, codesOf, mergesOf}
 
 -- how many numbers below n pass a test
 pub count : (ℕ → Bool) → ℕ → ℕ
@@ -128,9 +128,6 @@ four-of a b c d =
     go w x y z hw hx hy hz true true true true = rw (lt-ltb w 26 hw, lt-ltb x 26 hx, lt-ltb y 26 hy, lt-ltb z 26 hz)
 
 -- the merge bytes of groups by their codes
-abbrev pub mergesOf : List ℕ → List ℕ
-mergesOf codes = map (λ (c : ℕ). codeMerge c) codes
-
 pub merge-at : (codes : List ℕ) (i : ℕ) → getD (mergesOf codes) i 0 ≡ codeMerge (getD codes i 0)
 merge-at codes i = ap (getD (mergesOf codes) i) (sym merge-none) ∙ List·getD-map (λ (c : ℕ). codeMerge c) codes i 0
 

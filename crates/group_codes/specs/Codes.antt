@@ -1,11 +1,11 @@
 -- Codes of groups one by one, as tables of them hold them. The code's own terms.
 use Prim.Native.Nat.{ℕ, _/_, _%_, _<_}
 use mathlib.Core.Bool.{Bool, cond, _&&_}
-use mathlib.Core.List.{List, [], _∷_}
+use mathlib.Core.List.{List, [], _∷_, map}
 use lib.Dec.{ltb}
 use lib.ListN.{getD}
 use Rattle.group.specs.Group.{validMerge}
-use Rattle.group_codes.specs.Pack.{layoutsOf, mergeCode, codeOfFour}
+use Rattle.group_codes.specs.Pack.{layoutsOf, mergeCode, codeMerge, codeOfFour}
 
 -- the layout code of a group, or a number above all codes for an invalid one
 abbrev pub codeOf : ℕ → ℕ
@@ -27,3 +27,7 @@ codesOf c =
 -- codes of valid groups
 abbrev pub AllCodes : List ℕ → Type 0
 AllCodes codes = (i : ℕ) → getD codes i 0 < layoutsOf 1
+
+-- the merge bytes of groups by their codes
+abbrev pub mergesOf : List ℕ → List ℕ
+mergesOf codes = map (λ (c : ℕ). codeMerge c) codes
