@@ -13,7 +13,8 @@ use Rattle.feed_records.specs.declared.Body.the-variants as body
 use Rattle.feed.specs.Head.{headStep, headed}
 use Rattle.feed_records.specs.Words.{opened, keyOf, updateBody, queryBody, wordsTaken}
 use Rattle.feed.specs.Record.{carriedUpdate, queried, carried, carriedAfter, recorded}
-use Rattle.feed_records.proofs.Past.{taken, some-taken, opened-taken, payload-same, below-same, update-same, query-same, key-same, opened-same}
+use Rattle.word.proofs.Before.{payload-same, below-same}
+use Rattle.feed_records.proofs.Past.{taken, some-taken, opened-taken, update-same, query-same, key-same, opened-same}
 
 module _ (words : List ℕ) (n : ℕ) where
   abbrev front : List ℕ

@@ -3,51 +3,25 @@ use mathlib.Core.Path.{_≡_, refl, ap}
 use mathlib.Core.Bool.{Bool, true, false, cond}
 use mathlib.Core.List.{List}
 use Prim.Native.Nat.{ℕ, zero, suc, _+_, _-_, _/_, _%_, _^_, _≤_, _<_}
-use native.Mathlib.Decide.{decLt}
 use native.Mathlib.Omega.{arith}
-use borrow.Author.Tests.{lt-ltb, le-ltb}
-use lib.Dec.{eqb, ltb}
-use lib.ListN.{length, take, length-take}
-use lib.Seq.{getD-take}
+use lib.Dec.{eqb}
+use lib.ListN.{take}
 use Rattle.group.specs.Status.{badPayload}
 use Rattle.geometry.specs.Order.{badKey}
-use Rattle.word.specs.declared.Step.{Step}
-use Rattle.word.specs.Word.{endKind, go, stop, badWord, next, payload, isDue, tested, below}
+use Rattle.word.specs.Word.{endKind, badWord, next, payload, isDue, below}
+use Rattle.word.proofs.Places.{tested-on, below-on, next-on}
+use Rattle.word.proofs.Before.{next-same, payload-same, due-same, tested-same, below-same}
 use Rattle.feed_records.specs.declared.Opening.{Opening}
 use Rattle.feed_records.specs.declared.Opening.the-variants as opening
 use Rattle.feed_records.specs.Words.{updateKind, queryKind, keyKind, amountKind, opensKey, opened, keyWords, keyPayload, keyWord, checkKey, checkAmount, keyByte, keyFrom, keyOf, amountOf, updateStep, queryStep, updateBody, queryBody, wordsTaken}
 
--- a test goes on by one word at most, and the tests of a key by one for each word
-tested-on : (words : List ℕ) (p kind : ℕ) (holds : Bool) (line : ℕ) → tested words p kind holds line .position ≤ p + 1
-unfolding tested
-tested-on words p kind holds line = due (isDue words p kind)
-  where
-    passed : (t : Bool) → cond t (go (p + 1)) (stop line p) .position ≤ p + 1
-    passed true = omega arith
-    passed false = omega arith
-
-    due : (t : Bool) → cond t (cond holds (go (p + 1)) (stop line p)) (stop badWord p) .position ≤ p + 1
-    due true = passed holds
-    due false = omega arith
-
-next-on : (n : ℕ) (s : Step) (f : ℕ → Step) → s .position ≤ n → f (s .position) .position ≤ n → next s f .position ≤ n
-unfolding next
-next-on n s f h k = test (eqb (s .status) 0)
-  where
-    test : (t : Bool) → cond t (f (s .position)) s .position ≤ n
-    test true = k
-    test false = h
-
+-- the tests of a key go on by one for each word
 key-on : (k n : ℕ) (words : List ℕ) (p : ℕ) → checkKey k n words p .position ≤ p + k
 unfolding checkKey keyWord
 key-on zero n words p = omega arith
 key-on (suc k) n words p =
     let h = tested-on words p keyKind (keyPayload n (payload words p)) badPayload in
     next-on (p + suc k) (keyWord n words p) (λ q. checkKey k (n - 3) words q) (omega arith) (omega (arith, key-on k (n - 3) words (keyWord n words p .position)))
-
-next-same : (s t : Step) (f g : ℕ → Step) → s ≡ t → f (t .position) ≡ g (t .position) → next s f ≡ next t g
-unfolding next
-next-same s t f g e h = rw (e, h)
 
 -- the words that a first word opens
 unfoldable pub taken : Opening → ℕ
@@ -106,29 +80,9 @@ module _ (words : List ℕ) (n : ℕ) where
   abbrev front : List ℕ
   front = take n words
 
-  pub payload-same : (p : ℕ) → p < n → payload front p ≡ payload words p
-  unfolding payload
-  payload-same p h = ap (λ (x : ℕ). x % 2 ^ 28) (getD-take n words p 0 h)
-
-  due-same : (p kind : ℕ) → p < n → isDue front p kind ≡ isDue words p kind
-  unfolding isDue
-  due-same p kind h =
-      elim (decLt p (length words)) [
-        | yes l ↦ rw (lt-ltb p (length front) (omega (arith, length-take n words)), lt-ltb p (length words) l, getD-take n words p 0 h)
-        | no l ↦ rw (le-ltb p (length front) (omega (arith, length-take n words)), le-ltb p (length words) (omega arith))
-      ]
-
-  tested-same : (p kind line : ℕ) (h i : Bool) → p < n → i ≡ h → tested front p kind i line ≡ tested words p kind h line
-  unfolding tested
-  tested-same p kind line h i l e = rw (due-same p kind l, e)
-
-  pub below-same : (p kind limit : ℕ) → p < n → below front p kind limit ≡ below words p kind limit
-  unfolding below
-  below-same p kind limit l = tested-same p kind badPayload (ltb (payload words p) limit) (ltb (payload front p) limit) l (ap (λ (x : ℕ). ltb x limit) (payload-same p l))
-
   key-word-same : (m p : ℕ) → p < n → keyWord m front p ≡ keyWord m words p
   unfolding keyWord
-  key-word-same m p l = tested-same p keyKind badPayload (keyPayload m (payload words p)) (keyPayload m (payload front p)) l (ap (keyPayload m) (payload-same p l))
+  key-word-same m p l = tested-same words n p keyKind badPayload (keyPayload m (payload words p)) (keyPayload m (payload front p)) l (ap (keyPayload m) (payload-same words n p l))
 
   key-words-same : (k m p : ℕ) → p + k ≤ n → checkKey k m front p ≡ checkKey k m words p
   unfolding checkKey keyWord
@@ -139,11 +93,11 @@ module _ (words : List ℕ) (n : ℕ) where
       (key-words-same k (m - 3) (keyWord m words p .position) (omega arith))
 
   amount-same : (p : ℕ) → p + 2 ≤ n → checkAmount front p ≡ checkAmount words p
-  unfolding checkAmount below
+  unfolding checkAmount
   amount-same p h =
-      let l = tested-on words p amountKind (ltb (payload words p) (2 ^ 16)) badPayload in
+      let l = below-on words p amountKind (2 ^ 16) in
       next-same (below front p amountKind (2 ^ 16)) (below words p amountKind (2 ^ 16)) (λ q. below front q amountKind (2 ^ 16)) (λ q. below words q amountKind (2 ^ 16))
-      (below-same p amountKind (2 ^ 16) (omega arith)) (below-same (below words p amountKind (2 ^ 16) .position) amountKind (2 ^ 16) (omega arith))
+      (below-same words n p amountKind (2 ^ 16) (omega arith)) (below-same words n (below words p amountKind (2 ^ 16) .position) amountKind (2 ^ 16) (omega arith))
 
   pub update-same : (m : ℕ) → 1 + keyWords m + 2 ≤ n → updateBody m front ≡ updateBody m words
   unfolding updateBody updateStep amountOf
@@ -152,7 +106,7 @@ module _ (words : List ℕ) (n : ℕ) where
       let s : next (checkKey (keyWords m) m front 1) (λ p. checkAmount front p) ≡ next (checkKey (keyWords m) m words 1) (λ p. checkAmount words p) =
       next-same (checkKey (keyWords m) m front 1) (checkKey (keyWords m) m words 1) (λ p. checkAmount front p) (λ p. checkAmount words p) (key-words-same (keyWords m) m 1 (omega arith))
       (amount-same (checkKey (keyWords m) m words 1 .position) (omega arith)) in
-      rw (s, payload-same (1 + keyWords m) (omega arith), payload-same (2 + keyWords m) (omega arith))
+      rw (s, payload-same words n (1 + keyWords m) (omega arith), payload-same words n (2 + keyWords m) (omega arith))
 
   pub query-same : (m : ℕ) → 1 + keyWords m ≤ n → queryBody m front ≡ queryBody m words
   unfolding queryBody queryStep
@@ -161,11 +115,11 @@ module _ (words : List ℕ) (n : ℕ) where
   key-from-same : (k i : ℕ) → 1 + keyWords (i + k) ≤ n → keyFrom k front i ≡ keyFrom k words i
   unfolding keyFrom keyByte
   key-from-same zero i h = refl
-  key-from-same (suc k) i h = rw (payload-same (1 + i / 3) (omega arith), key-from-same k (i + 1) (omega arith))
+  key-from-same (suc k) i h = rw (payload-same words n (1 + i / 3) (omega arith), key-from-same k (i + 1) (omega arith))
 
   pub key-same : (m : ℕ) → 1 + keyWords m ≤ n → keyOf m front ≡ keyOf m words
   key-same m h = key-from-same m 0 (omega arith)
 
   pub opened-same : (before : ℕ) → 1 ≤ n → opened before front ≡ opened before words
   unfolding opened
-  opened-same before h = rw (due-same 0 updateKind h, due-same 0 queryKind h, due-same 0 endKind h, payload-same 0 h)
+  opened-same before h = rw (due-same words n 0 updateKind h, due-same words n 0 queryKind h, due-same words n 0 endKind h, payload-same words n 0 h)

@@ -1,3 +1,4 @@
 pub mod Readings
 pub mod Counters
 pub mod Masks
+pub mod Merges

@@ -1,76 +1,31 @@
 -- Words that a reader accepts are those that the writer gives for what was read.
 use mathlib.Core.Path.{_≡_, refl, sym, ap, ap₂, subst, _∙_}
-use mathlib.Core.Bool.{Bool, true, false}
+use mathlib.Core.Bool.{true, false}
 use mathlib.Core.List.{List, _∷_, _++_, append-assoc}
 use Prim.Native.Nat.{ℕ, zero, suc, _+_, _-_, _*_, _/_, _%_, _^_, _≤_, _<_}
 use native.Mathlib.Nat.{add-zero, zero-add, zero-mul, add-assoc, mul-assoc, add-mul, mod-eq-of-lt}
-use native.Mathlib.Numerals.{add-one}
 use native.Mathlib.Omega.{arith}
-use borrow.Author.Tests.{eqb-true, eqb-false, ltb-true}
-use lib.Dec.{eqb, ltb}
+use borrow.Author.Tests.{eqb-true, ltb-true}
+use borrow.Table.Steps.{cases}
 use lib.Arith.{digits-lt, digits-div, digits-mod}
-use lib.ListN.{length, getD, drop, replicate}
+use lib.ListN.{drop, replicate}
 use lib.Pow.{pow-add, pow-mono}
-use lib.Seq.{drop-cons}
-use Rattle.group_layout.specs.Layout.{valid}
-use Rattle.group_block.specs.declared.Counter.{Counter}
-use Rattle.group_block.specs.Block.{cap, counterAt}
 use Rattle.group.specs.declared.Group.{Group}
-use Rattle.group.specs.Status.{badPayload}
-use Rattle.group.specs.Group.{decode, read, changed}
+use Rattle.group.specs.declared.Reading.{Reading}
+use Rattle.group.specs.Group.{validMerge, read, changed}
+use Rattle.group.proofs.Changing.{Good, good-changed, zero-good}
+use Rattle.group_fields.proofs.Readings.{level-most, changed-at, changed-before}
 use Rattle.word.specs.declared.Step.{Step}
-use Rattle.word.specs.Word.{go, next, payload, isDue, tested, below}
+use Rattle.word.specs.Word.{go, payload, below}
+use Rattle.word.proofs.Passed.{passed, below-is}
 use Rattle.image_format.specs.Image.{word, countKind, parts, wordsOf, levelAt, isFirst, slotWords, slotsWords, groupWords}
 use Rattle.image_format.specs.Write.{slotSize, slotsSize, groupSize}
 use Rattle.image_format.specs.Read.{firstBits, checkParts, checkSlot, checkSlots, valueFrom, readSlot, readSlots, readGroup}
-use Rattle.word.proofs.Laws.{both}
-use Rattle.image_format.proofs.Laws.{slot-none, slot-some, size-first, size-other, by-test}
-use Rattle.image_reader.proofs.Laws.{read-slot-other, read-slot-first, read-slot-merge}
-use Rattle.group_block.proofs.Slots.{level-le}
-use Rattle.group.proofs.Changing.{Good, good-changed, changed-at, changed-before, zero-good}
+use Rattle.image_format.proofs.Laws.{slot-none, slot-some, size-first, size-other}
+use Rattle.image_format.proofs.Sizes.{read-level}
 use Rattle.image_format.proofs.Fields.{words-bits}
+use Rattle.image_reader.proofs.Laws.{read-slot-other, read-slot-first, read-slot-merge}
 use Rattle.image_reader.proofs.Digits.{power-step, value-digits}
-use Rattle.image_reader.proofs.Restoring.{Agree, read-value}
-use Rattle.image_format.proofs.Counters.{level-at, first-level}
-
--- a test that was passed, and the tests after it
-pub record Passed (s : Step) (f : ℕ → Step) (q : ℕ) : Type 0 where
-  pub here : s ≡ go (s .position)
-  pub after : f (s .position) ≡ go q
-
-pub passed : (s : Step) (f : ℕ → Step) (q : ℕ) → next s f ≡ go q → Passed s f q
-unfolding next
-passed s f q e =
-    by-test (eqb (s .status) 0)
-    (λ t. record { here = ap (λ (z : ℕ). record { status = z; position = s .position }) (eqb-true (s .status) 0 t); after = rw t at e })
-    (λ t. absurd (eqb-false (s .status) 0 t (ap (λ (x : Step). x .status) (rw t at e))))
-
--- a word that has passed its test
-pub record Word (words : List ℕ) (p kind : ℕ) (holds : Bool) (q : ℕ) : Type 0 where
-  pub true-of : holds ≡ true
-  pub position : q ≡ p + 1
-  pub is : drop p words ≡ word kind (payload words p) ∷ drop (p + 1) words
-
-due-is : (words : List ℕ) (p kind : ℕ) → isDue words p kind ≡ true → drop p words ≡ word kind (payload words p) ∷ drop (p + 1) words
-unfolding isDue payload word
-due-is words p kind e =
-    let t = both (ltb p (length words)) (eqb (getD words p 0 / 2 ^ 28) kind) e in
-    let k = eqb-true (getD words p 0 / 2 ^ 28) kind (t .1) in
-    let x : getD words p 0 ≡ kind * 2 ^ 28 + getD words p 0 % 2 ^ 28 = omega arith in
-    drop-cons words p 0 (ltb-true p (length words) (t .0)) ∙ ap₂ (λ (y i : ℕ). y ∷ drop i words) x (sym (add-one p))
-
-pub tested-is : (words : List ℕ) (p kind : ℕ) (holds : Bool) (line q : ℕ) → 0 < line → tested words p kind holds line ≡ go q → Word words p kind holds q
-unfolding tested
-tested-is words p kind holds line q h e =
-    by-test (isDue words p kind)
-    (λ t. by-test holds
-    (λ u. record { true-of = u; position = ap (λ (x : Step). x .position) (sym (rw (t, u) at e)); is = due-is words p kind t })
-    (λ u. absurd (omega (arith, ap (λ (x : Step). x .status) (rw (t, u) at e)))))
-    (λ t. absurd (omega (arith, ap (λ (x : Step). x .status) (rw t at e))))
-
-pub below-is : (words : List ℕ) (p kind limit q : ℕ) → below words p kind limit ≡ go q → Word words p kind (ltb (payload words p) limit) q
-unfolding below
-below-is words p kind limit q e = tested-is words p kind (ltb (payload words p) limit) badPayload q (omega arith) e
 
 -- the number that n words make
 low : ℕ → List ℕ → ℕ → ℕ
@@ -83,7 +38,7 @@ record Digits (n : ℕ) (words : List ℕ) (p limit q : ℕ) : Type 0 where
   is : (h : ℕ) → drop p words ≡ parts n (h * 2 ^ (24 * n) + low n words p) ++ drop q words
 
 digits-are : (n : ℕ) (words : List ℕ) (p limit q : ℕ) → limit ≤ 2 ^ 24 → checkParts n words p limit ≡ go q → Digits n words p limit q
-unfolding checkParts low parts
+unfolding checkParts low parts word
 digits-are zero words p limit q l e =
     let z : p ≡ q = ap (λ (s : Step). s .position) e in
     record { small = omega arith; position = sym z ∙ sym (add-zero p); is = λ h. ap (λ (i : ℕ). drop i words) z }
@@ -115,12 +70,11 @@ first-low n words p bits q l e =
     rw (pow-add 2 bits (24 * n)) (digits-lt (ltb-true (payload words p) (2 ^ bits) (b .true-of)) (r .small))
 
 pub record Value (level : ℕ) (words : List ℕ) (p q : ℕ) : Type 0 where
-  pub fits : valueFrom (wordsOf level) 0 words p < cap level
+  pub fits : valueFrom (wordsOf level) 0 words p < 2 ^ (8 * 2 ^ level)
   pub position : q ≡ p + wordsOf level
   pub is : drop p words ≡ parts (wordsOf level) (valueFrom (wordsOf level) 0 words p) ++ drop q words
 
 pub value-is : (level : ℕ) (words : List ℕ) (p q : ℕ) → level ≤ 3 → checkParts (wordsOf level) words p (2 ^ firstBits level) ≡ go q → Value level words p q
-unfolding cap
 value-is level words p q l e =
     let b = words-bits level in
     let n = wordsOf level in
@@ -138,31 +92,39 @@ value-is level words p q l e =
     let v : valueFrom n 0 words p ≡ low n words p = value-digits n 0 (low n words p) words p (drop q words) (omega (arith, y, g)) i ∙ y in
     record { fits = rw v f; position = d .position; is = rw v i }
 
+-- the slots before k of two groups are read alike
+abbrev Agree : ℕ → Group → Group → Type 0
+Agree k h g = (j : ℕ) → j < k → read h j ≡ read g j
+
 -- a slot whose words have passed
 record Slot (k : ℕ) (h : Group) (words : List ℕ) (p q : ℕ) : Type 0 where
   position : q ≡ p + slotSize (h .merge) k
   good : Good (readSlot k h words p)
   kept : Agree k (readSlot k h words p) h
-  is : (f : Group) → Good f → f .merge ≡ h .merge → counterAt (decode f) k ≡ counterAt (decode (readSlot k h words p)) k → drop p words ≡ slotWords f k ++ drop q words
+  is : (f : Group) → f .merge ≡ h .merge → read f k ≡ read (readSlot k h words p) k → drop p words ≡ slotWords f k ++ drop q words
 
 module _ (k : ℕ) (h : Group) (words : List ℕ) (p q : ℕ) (o : Good h) (i : k < 8) (e : checkSlot (h .merge) k words p ≡ go q) where
+  starts : isFirst (h .merge) k ≡ true → k % 2 ^ read h k .level ≡ 0
+  unfolding isFirst
+  starts t = rw (read-level h k) (eqb-true (k % 2 ^ levelAt (h .merge) k) 0 t)
+
   slot-first : isFirst (h .merge) k ≡ true → Slot k h words p q
   unfolding checkSlot
   slot-first t =
       let L = levelAt (h .merge) k in
       let n = wordsOf L in
       let v = valueFrom n 0 words p in
-      let three : L ≤ 3 = rw (level-at h k o i) (level-le (decode h) k) in
+      let l = read-level h k in
+      let three : L ≤ 3 = rw (← l) (level-most h k) in
       let a = value-is L words p q three (rw t at e) in
       let R : readSlot k h words p ≡ changed h k v .group = sym (read-slot-first k h L n v words p refl t refl refl) in
-      let vh : v % cap (counterAt (decode h) k .level) ≡ v = mod-eq-of-lt {n = v} {m = cap (counterAt (decode h) k .level)} (rw (← level-at h k o i) (a .fits)) in
+      let vh : v % 2 ^ (8 * 2 ^ read h k .level) ≡ v = mod-eq-of-lt {n = v} {m = 2 ^ (8 * 2 ^ read h k .level)} (rw l (a .fits)) in
       record {
         position = a .position ∙ ap (λ (x : ℕ). p + x) (size-first (h .merge) k L n refl t refl);
         good = rw R (good-changed h k v o);
-        kept = λ j l. ap (λ (x : Group). counterAt (decode x) j) R ∙ changed-before k h v j o i (first-level h k o i t) l;
-        is = λ f d m c.
-            let w : read f k .value ≡ v
-            = read-value f k d i ∙ ap (λ (x : Counter). x .value) (c ∙ ap (λ (x : Group). counterAt (decode x) k) R ∙ changed-at k h v o i) ∙ vh in
+        kept = λ j m. ap (λ (x : Group). read x j) R ∙ changed-before h k v j o i (starts t) m;
+        is = λ f m c.
+            let w : read f k .value ≡ v = ap (λ (x : Reading). x .value) (c ∙ ap (λ (x : Group). read x k) R ∙ changed-at h k v o i) ∙ vh in
             let s = slot-some f k L n (read f k) (ap (λ (x : ℕ). levelAt x k) (sym m)) (ap (λ (x : ℕ). isFirst x k) m ∙ t) refl refl in
             a .is ∙ ap (λ (l : List ℕ). l ++ drop q words) (ap (parts n) (sym w) ∙ s);
       }
@@ -175,12 +137,12 @@ module _ (k : ℕ) (h : Group) (words : List ℕ) (p q : ℕ) (o : Good h) (i : 
       record {
         position = sym z ∙ sym (ap (λ (x : ℕ). p + x) (sym (size-other (h .merge) k t)) ∙ add-zero p);
         good = rw R o;
-        kept = λ j l. ap (λ (x : Group). counterAt (decode x) j) R;
-        is = λ f d m c. ap (λ (x : ℕ). drop x words) z ∙ ap (λ (l : List ℕ). l ++ drop q words) (sym (slot-none f k (ap (λ (x : ℕ). isFirst x k) m ∙ t)));
+        kept = λ j l. ap (λ (x : Group). read x j) R;
+        is = λ f m c. ap (λ (x : ℕ). drop x words) z ∙ ap (λ (l : List ℕ). l ++ drop q words) (sym (slot-none f k (ap (λ (x : ℕ). isFirst x k) m ∙ t)));
       }
 
   slot-is : Slot k h words p q
-  slot-is = by-test (isFirst (h .merge) k) slot-first slot-other
+  slot-is = cases (isFirst (h .merge) k) slot-first slot-other
 
 -- slots whose words have passed
 record Slots (n k : ℕ) (h : Group) (words : List ℕ) (p q : ℕ) : Type 0 where
@@ -211,7 +173,7 @@ slots-are (suc n) k h words p q o i e =
       merge = y .merge ∙ m;
       kept = λ j l. y .kept j (omega arith) ∙ s .kept j l;
       is =
-          s .is F (y .good) (y .merge ∙ m) (y .kept k (omega arith))
+          s .is F (y .merge ∙ m) (y .kept k (omega arith))
           ∙ ap (λ (u : List ℕ). slotWords F k ++ u) (ap (λ (u : ℕ). drop u words) (s .position) ∙ y .is)
           ∙ sym (append-assoc (slotWords F k) (slotsWords n (k + 1) F) (drop q words));
     }
@@ -223,7 +185,7 @@ pub record Read (m : ℕ) (words : List ℕ) (p q : ℕ) : Type 0 where
   pub merge : readGroup m words p .merge ≡ m
   pub is : drop p words ≡ groupWords (readGroup m words p) ++ drop q words
 
-pub group-is : (m : ℕ) (words : List ℕ) (p q : ℕ) → valid 3 m ≡ true → checkSlots 8 0 m words p ≡ go q → Read m words p q
+pub group-is : (m : ℕ) (words : List ℕ) (p q : ℕ) → validMerge m ≡ true → checkSlots 8 0 m words p ≡ go q → Read m words p q
 unfolding groupSize readGroup groupWords
 group-is m words p q v e =
     let s = slots-are 8 0 (record { counts = replicate 8 0; merge = m }) words p q (zero-good m v) refl e in

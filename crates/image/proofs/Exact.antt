@@ -2,20 +2,22 @@
 use mathlib.Core.Path.{_≡_, refl, sym, ap, ap₂, _∙_}
 use mathlib.Core.Bool.{true}
 use mathlib.Core.List.{List, [], _∷_, _++_, append-assoc}
-use Prim.Native.Nat.{ℕ, zero, suc, _+_, _*_, _/_, _%_, _≤_, _<_}
+use Prim.Native.Nat.{ℕ, zero, suc, _+_, _-_, _*_, _/_, _%_, _≤_, _<_}
 use native.Mathlib.Nat.{zero-add, suc-add, zero-mul, suc-mul, add-comm}
 use native.Mathlib.Decide.{decLt}
 use native.Mathlib.Omega.{arith}
 use borrow.Author.Tests.{lt-ltb, ltb-true}
-use lib.ListN.{length, getD, take, drop, length-append, length-drop}
-use lib.Seq.{getD-take, getD-drop, ext-getD, length-take-le, take-at, drop-at}
-use Rattle.group_layout.specs.Layout.{valid}
+use lib.ListN.{length, getD, take, drop, length-append, length-drop, List·getD-append, List·getD-eq-default}
+use lib.Seq.{getD-take, getD-drop, getD-append-add, ext-getD, length-take-le, take-at, drop-at}
+use Rattle.laws.proofs.Lists.{Bytes}
 use Rattle.group.specs.declared.Answer.{Answer}
 use Rattle.group.specs.declared.Group.{Group}
+use Rattle.group.specs.Group.{validMerge}
 use Rattle.group_codes.specs.Pack.{packed, fourMerges, unpacked}
 use Rattle.group.proofs.Laws.{Eight}
 use Rattle.group_codes.proofs.Packing.{code-merge, pack-unpack}
 use Rattle.group.proofs.Changing.{Good}
+use Rattle.group_fields.proofs.Merges.{merge-byte}
 use Rattle.geometry.specs.Geometry.{stride}
 use Rattle.geometry.specs.Rows.{groupAt, withGroup}
 use Rattle.word.specs.declared.Step.{Step}
@@ -25,7 +27,8 @@ use Rattle.image_format.specs.Write.{allValid, validRows, groupSize}
 use Rattle.image_format.specs.Read.{mergesAt, checkSlots, checkGroups, checkFour, checkFours, readGroup, readGroups, afterGroups, readFours, afterFours, readRows}
 use Rattle.word.proofs.Laws.{both}
 use Rattle.image.proofs.Rows.{with-length, with-before, with-counts, with-merge, with-after, merges-from}
-use Rattle.image.proofs.Accepting.{passed, below-is, group-is}
+use Rattle.word.proofs.Passed.{passed, below-is}
+use Rattle.image.proofs.Accepting.{group-is}
 
 -- a group that was stored, and the groups before it
 module _ (w g : ℕ) (row : List ℕ) (x : Group) (o : Eight (x .counts)) (a : 8 * g + 8 ≤ w) (b : w + g < length row) where
@@ -76,7 +79,7 @@ groups-are [] g w row words p q v a b e =
 groups-are (m ∷ ms) g w row words p q v a b e =
     let t = passed (checkSlots 8 0 m words p) (λ r. checkGroups ms words r) q e in
     let r = checkSlots 8 0 m words p .position in
-    let va = both (valid 3 m) (allValid ms) v in
+    let va = both (validMerge m) (allValid ms) v in
     let d = group-is m words p r (va .0) (t .here) in
     let x = readGroup m words p in
     let one = withGroup w row g x in
@@ -140,7 +143,7 @@ four-are : (g w : ℕ) (row words : List ℕ) (p q : ℕ) → 8 * (g + 4) ≤ w 
     → (Groups (mergesAt words p) g w row words (p + 1) q (readGroups (mergesAt words p) g w row words (p + 1)))
     × (drop p words ≡ fourWords w (readGroups (mergesAt words p) g w row words (p + 1)) g ++ drop q words)
     × (length (mergesAt words p) ≡ 4)
-unfolding checkFour fourWords mergesAt
+unfolding checkFour fourWords mergesAt word
 four-are g w row words p q a b e =
     let t = passed (below words p layoutKind 456976) (λ r. checkGroups (mergesAt words p) words r) q e in
     let r = below words p layoutKind 456976 .position in
@@ -206,15 +209,41 @@ fours-are (suc n) g w row words p q a b e =
           ∙ sym (append-assoc (fourWords w new g) (rowWords n (g + 4) w new) (drop q words));
     }
 
-all-valid : (ms : List ℕ) → ((i : ℕ) → i < length ms → valid 3 (getD ms i 0) ≡ true) → allValid ms ≡ true
+all-valid : (ms : List ℕ) → ((i : ℕ) → i < length ms → validMerge (getD ms i 0) ≡ true) → allValid ms ≡ true
 unfolding allValid
 all-valid [] f = refl
 all-valid (m ∷ ms) f = rw (f 0 (omega arith), all-valid ms (λ i h. f (suc i) (omega arith)))
+
+-- a row of bytes, by its groups; and bytes one after another
+row-bytes : (w : ℕ) (row : List ℕ) → w % 32 ≡ 0 → length row ≡ w + w / 8 → ((j : ℕ) → j < w / 8 → Good (groupAt w row j)) → Bytes row
+unfolding groupAt
+row-bytes w row a b f i = elim (decLt i w) [
+  | yes l ↦
+      let e : 8 * (i / 8) + i % 8 ≡ i = omega arith in
+      let small = f (i / 8) (omega arith) .eight .small (i % 8) in
+      rw (getD-take 8 (drop (8 * (i / 8)) row) (i % 8) 0 (omega arith), getD-drop (8 * (i / 8)) row (i % 8) 0, e) at small
+  | no l ↦ elim (decLt i (w + w / 8)) [
+    | yes m ↦
+        let e : w + (i - w) ≡ i = omega arith in
+        rw e at (merge-byte (getD row (w + (i - w)) 0) (f (i - w) (omega arith) .merges))
+    | no m ↦ rw (List·getD-eq-default row 0 {n = i} (omega arith)) (omega arith)
+  ]
+]
+
+bytes-append : (xs ys : List ℕ) → Bytes xs → Bytes ys → Bytes (xs ++ ys)
+bytes-append xs ys f g i = elim (decLt i (length xs)) [
+  | yes l ↦ rw (List·getD-append xs ys 0 i l) (f i)
+  | no l ↦
+      let e : length xs + (i - length xs) ≡ i = omega arith in
+      let here = getD-append-add xs ys (i - length xs) 0 in
+      rw (← e, here) (g (i - length xs))
+]
 
 -- a row whose words have passed
 record Row (w : ℕ) (row words : List ℕ) (p q : ℕ) (new : List ℕ) : Type 0 where
   position : q ≡ afterFours (w / 32) words p
   long : length new ≡ length row
+  bytes : Bytes new
   merges : allValid (drop w new) ≡ true
   is : drop p words ≡ rowWords (w / 32) 0 w new ++ drop q words
 
@@ -227,6 +256,7 @@ row-is w row words p q a b e =
     record {
       position = y .position;
       long = l;
+      bytes = row-bytes w new a (omega arith) (λ j h. y .good j (omega arith) (omega arith));
       merges = all-valid (drop w new) (λ i h. rw (getD-drop w new i 0) (y .good i (omega arith) (omega (arith, length-drop w new)) .merges));
       is = y .is;
     }
@@ -250,6 +280,7 @@ fours-split (suc a) b words p q e =
 -- rows whose words have passed
 pub record Rows (n w : ℕ) (old words : List ℕ) (p q : ℕ) (new : List ℕ) : Type 0 where
   pub long : length new ≡ length old
+  pub bytes : Bytes new
   pub merges : validRows n w new ≡ true
   pub is : drop p words ≡ rowsWords n w new ++ drop q words
 
@@ -258,7 +289,13 @@ pub rows-are : (n w : ℕ) (old words : List ℕ) (p q : ℕ) → w % 32 ≡ 0 �
 unfolding readRows validRows rowsWords checkFours
 rows-are zero w old words p q a b e =
     let z : p ≡ q = ap (λ (s : Step). s .position) (ap (λ (k : ℕ). checkFours k words p) (sym (zero-mul (w / 32))) ∙ e) in
-    record { long = refl; merges = refl; is = ap (λ (x : ℕ). drop x words) z }
+    let none : length old ≡ 0 = b ∙ zero-mul (stride w) in
+    record {
+      long = refl;
+      bytes = λ i. rw (List·getD-eq-default old 0 {n = i} (omega arith)) (omega arith);
+      merges = refl;
+      is = ap (λ (x : ℕ). drop x words) z;
+    }
 rows-are (suc n) w old words p q a b e =
     let s = stride w in
     let m = suc-mul n s in
@@ -275,6 +312,7 @@ rows-are (suc n) w old words p q a b e =
     let v : drop s (row ++ others) ≡ others = drop-at row others s (r .long ∙ l) in
     record {
       long = length-append row others ∙ omega (arith, r .long, y .long);
+      bytes = bytes-append row others (r .bytes) (y .bytes);
       merges = rw (u, v, r .merges, y .merges);
       is = rw (u, v) (r .is ∙ ap (λ (x : List ℕ). rowWords (w / 32) 0 w row ++ x) (ap (λ (i : ℕ). drop i words) (r .position) ∙ y .is) ∙ sym (append-assoc (rowWords (w / 32) 0 w row) (rowsWords n w others) (drop q words)));
     }

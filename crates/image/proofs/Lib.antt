@@ -3,4 +3,5 @@ pub mod Rows
 pub mod Accepting
 pub mod Exact
 pub mod Sharp
+pub mod Places
 pub mod Theorems

@@ -11,8 +11,8 @@ use borrow.Author.Tests.{eqb-false}
 use lib.ListN.{length, getD, take, drop, set, length-append, length-drop, length-set, List·getD-append, take-append-drop}
 use lib.Seq.{getD-take, getD-drop, getD-append-add, getD-set-same, getD-set-other, ext-getD, length-take-le}
 use Rattle.laws.proofs.Lists.{Bytes}
-use Rattle.group_layout.specs.Layout.{valid}
 use Rattle.group.specs.declared.Group.{Group}
+use Rattle.group.specs.Group.{validMerge}
 use Rattle.group_codes.specs.declared.Unpacked.{Unpacked}
 use Rattle.group_codes.specs.Pack.{fourCode, packed, unpacked}
 use Rattle.group_codes.proofs.Packing.{unpack-pack}
@@ -27,7 +27,7 @@ use Rattle.image_format.specs.Write.{allValid, validRows, groupSize}
 use Rattle.image_format.specs.Read.{mergesAt, checkGroups, checkFour, checkFours, readGroups, afterGroups, readFours, afterFours, readRows}
 use Rattle.word.proofs.Laws.{both}
 use Rattle.image_writer.proofs.Laws.{layout-lt}
-use Rattle.image_reader.proofs.Digits.{here, payload-here, below-here}
+use Rattle.image_checker.proofs.Digits.{here, payload-here, below-here}
 use Rattle.image_format.proofs.Laws.{by-test}
 use Rattle.image_reader.proofs.Restoring.{group-restored}
 
@@ -152,7 +152,7 @@ groups-restored (suc n) g w source row words p rest o i s e =
     }
 
 -- 32 slots
-packed-valid : (a b c d : ℕ) → valid 3 a ≡ true → valid 3 b ≡ true → valid 3 c ≡ true → valid 3 d ≡ true → packed a b c d .value ≡ fourCode a b c d
+packed-valid : (a b c d : ℕ) → validMerge a ≡ true → validMerge b ≡ true → validMerge c ≡ true → validMerge d ≡ true → packed a b c d .value ≡ fourCode a b c d
 unfolding packed
 packed-valid a b c d va vb vc vd = rw (va, vb, vc, vd)
 
@@ -229,11 +229,11 @@ pub record Meter (n w : ℕ) (memory : List ℕ) : Type 0 where
   pub bytes : Bytes memory
   pub merges : validRows n w memory ≡ true
 
-valid-at : (ms : List ℕ) (i : ℕ) → allValid ms ≡ true → i < length ms → valid 3 (getD ms i 0) ≡ true
+valid-at : (ms : List ℕ) (i : ℕ) → allValid ms ≡ true → i < length ms → validMerge (getD ms i 0) ≡ true
 unfolding allValid
 valid-at [] i v h = absurd (omega arith)
-valid-at (m ∷ ms) zero v h = both (valid 3 m) (allValid ms) v .0
-valid-at (m ∷ ms) (suc i) v h = valid-at ms i (both (valid 3 m) (allValid ms) v .1) (omega arith)
+valid-at (m ∷ ms) zero v h = both (validMerge m) (allValid ms) v .0
+valid-at (m ∷ ms) (suc i) v h = valid-at ms i (both (validMerge m) (allValid ms) v .1) (omega arith)
 
 sound-row : (w : ℕ) (row : List ℕ) → w % 32 ≡ 0 → length row ≡ stride w → Bytes row → allValid (drop w row) ≡ true → Sound w row
 unfolding stride groupAt

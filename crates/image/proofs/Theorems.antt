@@ -1,13 +1,15 @@
--- What the writer wrote for a meter, read back with the same depth and width, is accepted and restores that meter byte for byte.
--- Every list of words that the reader accepts is what the writer gives for the memory read. A refused place is sharp.
-use mathlib.Core.Logic.{_⊎_, inl, inr, ⊎-elim}
+-- Words are accepted if and only if they are the image of a meter of that depth and width. What an accepted write wrote, read back,
+-- restores the meter byte for byte. A refused place is sharp.
+use mathlib.Core.Logic.{_⊎_, inl, inr, ⊎-elim, _↔_}
 use mathlib.Core.Path.{_≡_, refl, sym, ap, ap₂, subst, _∙_}
 use mathlib.Core.Bool.{true, cond}
 use mathlib.Core.List.{List, [], _∷_, _++_}
 use Prim.Native.Nat.{ℕ, zero, suc, _+_, _-_, _*_, _/_, _%_, _^_, _≤_, _<_}
 use native.Mathlib.Nat.{add-zero, mul-one, mul-assoc, mul-le-mul-left}
+use native.Mathlib.Decide.{decLt}
 use native.Mathlib.Omega.{arith}
 use borrow.Author.Tests.{eq-eqb, eqb-true, eqb-false, lt-ltb, le-ltb}
+use borrow.Table.Steps.{cases}
 use lib.Dec.{eqb, ltb}
 use lib.ListN.{length, take, drop, length-drop, length-append, drop-of-length-le}
 use lib.Pow.{pow-add, pow-pos}
@@ -19,25 +21,21 @@ use Rattle.geometry.specs.Order.{badShape, Done}
 use Rattle.geometry.proofs.Widths.{width-is}
 use Rattle.word.specs.declared.Step.{Step}
 use Rattle.word.specs.Word.{headKind, endKind, go, stop, badWord, next, payload, tested, below}
-use Rattle.image_format.specs.Image.{word, logFrom, logWidth, headPayload, rowsWords, body, endWord, image}
-use Rattle.image_format.specs.Write.{validRows, written}
+use Rattle.image_format.specs.Image.{word, headPayload, rowsWords, body, endWord, image}
+use Rattle.image_format.specs.Write.{validRows, Written, written}
 use Rattle.image_format.specs.Read.{otherMeter, checkHead, checkFours, checkEnd, checked, readRows, taken}
-use Rattle.image.proofs.Calls.{Sound, sound-call, write-done, read-call, read-faulty, read-done}
-use Rattle.image_reader.proofs.Digits.{payload-here, due-here, below-here}
-use Rattle.image_format.proofs.Laws.{by-test}
-use Rattle.image.proofs.Accepting.{passed, tested-is}
+use Rattle.image.specs.Meters.{Meter, IsImage}
+use Rattle.image.proofs.Calls.{Sound, sound-call, write-call, write-invalid, write-short, write-done, read-call, read-faulty, read-done}
+use Rattle.image_format.proofs.Laws.{log-width-most}
+use Rattle.image_checker.proofs.Digits.{payload-here, due-here, below-here}
+use Rattle.word.proofs.Passed.{passed, tested-is}
 use Rattle.image.proofs.Exact.{rows-are}
 use Rattle.image.proofs.Sharp.{sharp-at}
 use Rattle.image.proofs.Rows.{Rows, afterRows, rows-restored}
 
-log-le : (n k p w : ℕ) → logFrom n k p w ≤ k + n
-unfolding logFrom
-log-le zero k p w = omega arith
-log-le (suc n) k p w = by-test (ltb p w) (λ t. rw t (omega (arith, log-le n (k + 1) (p * 2) w))) (λ t. rw t (omega arith))
-
 head-lt : (d w : ℕ) → d ≤ 8 → headPayload d w < 2 ^ 9
-unfolding headPayload logWidth
-head-lt d w h = omega (arith, log-le 11 5 32 w)
+unfolding headPayload
+head-lt d w h = omega (arith, log-width-most w)
 
 module _ (d w : ℕ) (memory old : List ℕ) (call : badShape d w (length memory) ≡ 0) (bytes : Bytes memory) (merges : validRows d w memory ≡ true) (long : length old ≡ length memory) where
   sound : Sound d w (length memory)
@@ -89,11 +87,38 @@ module _ (d w : ℕ) (memory old : List ℕ) (call : badShape d w (length memory
       read-done d w old all-words 0 (sym call ∙ ap (badShape d w) (sym long)) refl (go (length all-words)) (sym passes) refl
       ∙ ap (λ (m : List ℕ). record { answer = accepted (length all-words); memory = m }) (rows .is)
 
-  -- the same, from what a write left in the words that it was lent
-  pub written-restored : (lent : List ℕ) → length (image d w memory) ≤ length lent
-      → taken d w old (take (written d w memory lent .answer .value) (written d w memory lent .words)) ≡ record { answer = accepted (length (image d w memory)); memory = memory }
-  written-restored lent h =
-      rw (write-done d w memory lent 0 (sym call) refl merges h, take-append-seam (image d w memory) (drop (length (image d w memory)) lent)) restored
+-- what an accepted write has tested
+record Writes (d w : ℕ) (memory lent : List ℕ) : Type 0 where
+  call : badShape d w (length memory) ≡ 0
+  merges : validRows d w memory ≡ true
+  room : length (image d w memory) ≤ length lent
+
+module _ (d w : ℕ) (memory lent : List ℕ) (e : written d w memory lent .answer .status ≡ 0) where
+  not-by : (x : Written) → written d w memory lent ≡ x → x .answer .status ≡ 0
+  not-by x f = ap (λ (y : Written). y .answer .status) (sym f) ∙ e
+
+  writes : Writes d w memory lent
+  writes =
+      cases (eqb (badShape d w (length memory)) 0)
+      (λ t.
+      let z = eqb-true (badShape d w (length memory)) 0 t in
+      cases (validRows d w memory)
+      (λ v. elim (decLt (length lent) (length (image d w memory))) [
+        | yes l ↦ absurd (omega (arith, not-by _ (write-short d w memory lent 0 (sym z) refl v l)))
+        | no l ↦ record { call = z; merges = v; room = omega arith }
+      ])
+      (λ v. absurd (omega (arith, not-by _ (write-invalid d w memory lent 0 (sym z) refl v)))))
+      (λ t.
+      let n = eqb-false (badShape d w (length memory)) 0 t in
+      absurd (n (not-by _ (write-call d w memory lent (badShape d w (length memory)) refl n))))
+
+  -- The words that the figure counts, read with the same d and w into any memory of that length, are accepted with the same figure and
+  -- restore the meter. A memory that is lent is of bytes.
+  pub written-restored : (old : List ℕ) → Bytes memory → length old ≡ length memory
+      → taken d w old (take (written d w memory lent .answer .value) (written d w memory lent .words)) ≡ record { answer = written d w memory lent .answer; memory = memory }
+  written-restored old bytes long =
+      rw (write-done d w memory lent 0 (sym (writes .call)) refl (writes .merges) (writes .room), take-append-seam (image d w memory) (drop (length (image d w memory)) lent))
+      (restored d w memory old (writes .call) bytes (writes .merges) long)
 
 -- what an accepted read has tested
 record Accepted (d w : ℕ) (old words : List ℕ) : Type 0 where
@@ -103,11 +128,11 @@ record Accepted (d w : ℕ) (old words : List ℕ) : Type 0 where
 
 accepted-is : (d w : ℕ) (old words : List ℕ) → taken d w old words .answer .status ≡ 0 → Accepted d w old words
 accepted-is d w old words e =
-    by-test (eqb (badShape d w (length old)) 0)
+    cases (eqb (badShape d w (length old)) 0)
     (λ t.
     let z = eqb-true (badShape d w (length old)) 0 t in
     let c = checked d w words in
-    by-test (eqb (c .status) 0)
+    cases (eqb (c .status) 0)
     (λ u.
     let y = eqb-true (c .status) 0 u in
     record { call = z; checks = ap (λ (s : ℕ). record { status = s; position = c .position }) y; is = ap (λ (x : Done). x .memory) (read-done d w old words 0 (sym z) refl c refl y) })
@@ -120,7 +145,7 @@ record Head (d w : ℕ) (words : List ℕ) (q : ℕ) : Type 0 where
   is : drop 0 words ≡ word headKind (headPayload d w) ∷ drop 1 words
 
 head-is : (d w : ℕ) (words : List ℕ) (q : ℕ) → checkHead d w words ≡ go q → Head d w words q
-unfolding checkHead
+unfolding checkHead word
 head-is d w words q e =
     let t = passed (below words 0 headKind (2 ^ 9)) (λ p. tested words 0 headKind (eqb (payload words 0) (headPayload d w)) otherMeter) q e in
     let x = tested-is words 0 headKind (eqb (payload words 0) (headPayload d w)) otherMeter q (omega arith) (t .after) in
@@ -131,13 +156,13 @@ record End (words : List ℕ) (p : ℕ) : Type 0 where
   is : drop p words ≡ endWord p ∷ []
 
 end-is : (words : List ℕ) (p q : ℕ) → checkEnd words p ≡ go q → End words p
-unfolding checkEnd endWord
+unfolding checkEnd endWord word
 end-is words p q e =
     let test = tested words p endKind (eqb (payload words p) (p % 2 ^ 28)) badPayload in
     let t = passed test (λ r. cond (eqb (length words) r) (go r) (stop badWord r)) q e in
     let x = tested-is words p endKind (eqb (payload words p) (p % 2 ^ 28)) badPayload (test .position) (omega arith) (t .here) in
     let l : length words ≡ test .position
-    = by-test (eqb (length words) (test .position)) (λ u. eqb-true (length words) (test .position) u) (λ u. absurd (omega (arith, ap (λ (s : Step). s .status) (rw u at (t .after))))) in
+    = cases (eqb (length words) (test .position)) (λ u. eqb-true (length words) (test .position) u) (λ u. absurd (omega (arith, ap (λ (s : Step). s .status) (rw u at (t .after))))) in
     record {
       long = l ∙ x .position;
       is = x .is ∙ ap₂ (λ (y : ℕ) (ys : List ℕ). word endKind y ∷ ys) (eqb-true (payload words p) (p % 2 ^ 28) (x .true-of)) (drop-of-length-le words {i = p + 1} (omega (arith, l, x .position)));
@@ -145,8 +170,7 @@ end-is words p q e =
 
 -- a memory whose image the words are
 record Exact (d w : ℕ) (words memory : List ℕ) : Type 0 where
-  call : badShape d w (length memory) ≡ 0
-  merges : validRows d w memory ≡ true
+  meter : Meter d w memory
   is : words ≡ image d w memory
 
 module _ (d w : ℕ) (old words : List ℕ) (e : taken d w old words .answer .status ≡ 0) where
@@ -167,7 +191,7 @@ module _ (d w : ℕ) (old words : List ℕ) (e : taken d w old words .answer .st
       let f : drop 1 words ≡ rows ++ endWord q ∷ [] = r .is ∙ ap (λ (z : List ℕ). rows ++ z) (x .is) in
       let n : q ≡ suc (length rows) = omega (arith, x .long, ap length f, length-drop 1 words, length-append rows (endWord q ∷ [])) in
       let i : words ≡ image d w m = h .is ∙ ap (λ (z : List ℕ). word headKind (headPayload d w) ∷ z) (f ∙ ap (λ (k : ℕ). rows ++ endWord k ∷ []) n) in
-      subst (λ (x : List ℕ). Exact d w words x) (sym (a .is)) (record { call = ap (badShape d w) (r .long) ∙ a .call; merges = r .merges; is = i })
+      subst (λ (x : List ℕ). Exact d w words x) (sym (a .is)) (record { meter = record { shape = ap (badShape d w) (r .long) ∙ a .call; bytes = r .bytes; merges = r .merges }; is = i })
 
   pub accepted-image : words ≡ image d w (taken d w old words .memory)
   accepted-image = exact .is
@@ -176,8 +200,20 @@ module _ (d w : ℕ) (old words : List ℕ) (e : taken d w old words .answer .st
       → written d w (taken d w old words .memory) lent ≡ record { answer = accepted (length words); words = words ++ drop (length words) lent }
   accepted-written lent h =
       let i = exact .is in
-      write-done d w (taken d w old words .memory) lent 0 (sym (exact .call)) refl (exact .merges) (omega (arith, ap length i))
+      write-done d w (taken d w old words .memory) lent 0 (sym (exact .meter .shape)) refl (exact .meter .merges) (omega (arith, ap length i))
       ∙ ap (λ (x : List ℕ). record { answer = accepted (length x); words = x ++ drop (length x) lent }) (sym i)
+
+-- Words are accepted, by a call with a valid depth, width and length of its memory, if and only if they are the image of a meter.
+pub accepted-iff : (d w : ℕ) (old words : List ℕ) → badShape d w (length old) ≡ 0 → (taken d w old words .answer .status ≡ 0) ↔ IsImage d w words
+accepted-iff d w old words call =
+    ((λ e. record { memory = taken d w old words .memory; meter = exact d w old words e .meter; is = exact d w old words e .is }), back)
+  where
+    back : IsImage d w words → taken d w old words .answer .status ≡ 0
+    back i =
+        let m = i .meter in
+        let long : length old ≡ length (i .memory) = sound-call d w (length old) call .long ∙ sym (sound-call d w (length (i .memory)) (m .shape) .long) in
+        ap (λ (x : List ℕ). taken d w old x .answer .status) (i .is)
+        ∙ ap (λ (x : Done). x .answer .status) (restored d w (i .memory) old (m .shape) (m .bytes) (m .merges) long)
 
 -- A refused place is sharp: the words before it, read alone, are refused only because a word is missing there, or are accepted and so
 -- are a whole image.
@@ -195,23 +231,3 @@ module _ (d w : ℕ) (old words : List ℕ) (call : badShape d w (length old) �
       (λ x. inl (ap (λ (y : Done). y .answer) (read-faulty d w old (take q words) 0 (sym call) refl (stop badWord q) (sym x) (λ z. omega arith))))
       (λ x. inr (ap (λ (y : Done). y .answer) (read-done d w old (take q words) 0 (sym call) refl (go q) (sym x) refl)))
       (sharp-at d w words q faulty (sym at-fault ∙ e))
-
--- the logarithm in a head is the width's
-log-power : (n k p i : ℕ) → 0 < p → i ≤ n → logFrom n k p (p * 2 ^ i) ≡ k + i
-unfolding logFrom
-log-power zero k p i h l = let z : i ≡ 0 = omega arith in rw z (sym (add-zero k))
-log-power (suc n) k p zero h l = rw (mul-one p, le-ltb p p (omega arith)) (sym (add-zero k))
-log-power (suc n) k p (suc i) h l =
-    let f : suc i ≡ 1 + i = omega arith in
-    let e : p * 2 ^ suc i ≡ p * 2 * 2 ^ i = ap (λ (x : ℕ). p * 2 ^ x) f ∙ ap (λ (x : ℕ). p * x) (pow-add 2 1 i) ∙ sym (mul-assoc p 2 (2 ^ i)) in
-    let m : p * 2 * 1 ≤ p * 2 * 2 ^ i = mul-le-mul-left {m = 1} {n = 2 ^ i} (p * 2) (pow-pos i) in
-    rw (e, lt-ltb p (p * 2 * 2 ^ i) (omega arith)) (log-power n (k + 1) (p * 2) i (omega arith) (omega arith) ∙ omega arith)
-
-pub log-width-is : (w : ℕ) → validWidth w ≡ true → 2 ^ logWidth w ≡ w
-unfolding logWidth
-log-width-is w v =
-    let r = width-is w v in
-    let i = r .0 - 5 in
-    let five : r .0 ≡ 5 + i = omega (arith, r .1) in
-    let e : w ≡ 32 * 2 ^ i = r .3 ∙ ap (λ (k : ℕ). 2 ^ k) five ∙ pow-add 2 5 i in
-    rw e (ap (λ (k : ℕ). 2 ^ k) (log-power 11 5 32 i (omega arith) (omega (arith, r .2))) ∙ pow-add 2 5 i)

@@ -1,6 +1,8 @@
 // The image of a meter: 32-bit words that hold its depth, its width, and every counter at its layout.
 use group::Answer;
 ghost use mathlib.Core.Path.{_≡_};
+ghost use Prim.Native.Nat.{_≤_};
+ghost use lib.ListN.{length};
 ghost use Rattle.image_format.specs.Write.{written};
 ghost use Rattle.image_format.specs.Read.{taken};
 
@@ -34,15 +36,16 @@ pub fn write(d: usize, w: usize, memory: &[u8], words: &mut [u32]) -> Answer
 pub fn read(d: usize, w: usize, memory: &mut [u8], words: &[u32]) -> Answer
     ensures { λ r. ⌜ r ≡ taken d w (now (memory .entry)) (now (words .entry)) .answer ⌝ }
     ensures { λ _. ⌜ now (memory .exit) ≡ taken d w (now (memory .entry)) (now (words .entry)) .memory ⌝ }
+    ensures { λ r. ⌜ r .position ≤ length (now (words .entry)) ⌝ }
 {
     let status = geometry::bad_shape(d, w, memory.len());
     if status != 0 {
         return rejected(status, 0);
     }
-    let n = image_reader::table_size(words.len(), d, w);
-    let layouts = image_reader::layout_table(n);
+    let n = image_checker::table_size(words.len(), d, w);
+    let layouts = image_checker::layout_table(n);
     let fields = image_format::field_table(n);
-    let s = image_reader::check(words, d, w, &layouts[0..n], &fields[0..17 * n]);
+    let s = image_checker::check(words, d, w, &layouts[0..n], &fields[0..17 * n]);
     if s.status != 0 {
         return rejected(s.status, s.position);
     }

@@ -10,12 +10,12 @@ use native.Mathlib.Numerals.{add-one}
 use native.Mathlib.Decide.{decLt}
 use borrow.Author.Tests.{eq-eqb, ne-eqb}
 use lib.Dec.{eqb}
-use lib.Pow.{pow-add, pow-mono, pow-lt}
+use lib.Pow.{pow-mono, pow-lt}
 use Rattle.group.specs.declared.Group.{Group}
 use Rattle.group.specs.declared.Reading.{Reading}
 use Rattle.group.specs.Group.{read}
 use Rattle.geometry.specs.Geometry.{validWidth}
-use Rattle.geometry.proofs.Widths.{width-is as power-is}
+use Rattle.geometry.proofs.Widths.{width-is}
 use Rattle.image_format.specs.Image.{parts, wordsOf, levelAt, isFirst, slotWords, logFrom, logWidth}
 use Rattle.image_format.specs.Write.{slotSize, slotsSize}
 
@@ -58,25 +58,11 @@ log-none n w e = rw e
 -- the logarithm of a width is one
 pub log-width-is : (w : ℕ) → validWidth w ≡ true → 2 ^ logWidth w ≡ w
 unfolding logWidth
-log-width-is w e = let r = power-is w e in rw (r .3) (ap (λ (k : ℕ). 2 ^ k) (log-found 17 (r .0) (omega (arith, r .2))))
+log-width-is w e = let r = width-is w e in rw (r .3) (ap (λ (k : ℕ). 2 ^ k) (log-found 17 (r .0) (omega (arith, r .2))))
 
 pub log-width-most : (w : ℕ) → logWidth w ≤ 16
 unfolding logWidth
 log-width-most w = omega (arith, log-most 17 w (omega arith))
-
--- what the code needs of a width
-pub record Width (w : ℕ) : Type 0 where
-  pub least : 32 ≤ w
-  pub most : w ≤ 65536
-  pub whole : w % 32 ≡ 0
-
-pub width-is : (w : ℕ) → validWidth w ≡ true → Width w
-width-is w e =
-    let r = power-is w e in
-    let k = r .0 in
-    let five : k ≡ k - 5 + 5 = omega (arith, r .1) in
-    let shares : 2 ^ k ≡ 2 ^ (k - 5) * 32 = ap (λ (n : ℕ). 2 ^ n) five ∙ pow-add 2 (k - 5) 5 in
-    rw (r .3) (record { least = pow-mono {i = 5} {j = k} (r .1); most = pow-mono {i = k} {j = 16} (r .2); whole = omega (arith, shares) })
 
 -- sizes
 pub size-first : (m k level n : ℕ) → level ≡ levelAt m k → isFirst m k ≡ true → n ≡ wordsOf level → n ≡ slotSize m k

@@ -1,13 +1,12 @@
 use Prim.Native.Nat.{ℕ, _-_, _*_, _<_}
-use mathlib.Core.Path.{_≡_, sym, ap, _∙_}
+use mathlib.Core.Path.{_≡_, refl, sym, _∙_}
 use native.Mathlib.Omega.{arith}
 use lib.ListN.{length, getD, take}
+use Rattle.image.proofs.Places.{all-of}
 use Rattle.image.proofs.Calls.{Sound, sound-call, read-call, read-faulty, read-done}
 use Rattle.group_codes.specs.Pack.{codeMerge}
-use Rattle.image_format.specs.Fields.{Fields}
-use Rattle.image_format.proofs.Sizes.{table-part}
-use Rattle.image_format.proofs.Fields.{fields-part}
-use Rattle.geometry.specs.Order.{Done}
+use Rattle.image_format.specs.Tables.{Fields}
+use Rattle.image_format.proofs.Tables.{table-part, fields-part}
 use borrow.Author.Needs.{needs}
 use Rattle.image.proofs.read.Statement.{statement}
 use Rattle.image.proofs.read.Tie as tie
@@ -22,7 +21,7 @@ returns : tie.Need-returns
 returns c = let a = c .before .before .before .before .before .args in
     let s = c .before .before .bad-shape in
     let e = read-call (a .d) (a .w) (a .memory .now) (a .words .now) (s .result) (s .ensures) (c .before .if1 .taken) in
-    (c .rejected .ensures ∙ ap (λ (x : Done). x .answer) (sym e), ap (λ (x : Done). x .memory) (sym e))
+    all-of (a .d) (a .w) (a .memory .now) (a .words .now) _ _ _ e (c .rejected .ensures) refl
 
 -- a call whose shape is accepted
 sound : (c : tie.Else1) → let a = c .before .before .before .before .args in Sound (a .d) (a .w) (length (a .memory .now))
@@ -83,7 +82,7 @@ returns-2 c = let a = c .before .before .before .before .before .before .before 
     let z = c .before .before .before .before .before .before .before .before .before .before .before .if1 .left in
     let t = c .before .before .before .check in
     let e = read-faulty (a .d) (a .w) (a .memory .now) (a .words .now) (s .result) (s .ensures) z (t .result) (t .ensures) (c .before .if2 .taken) in
-    (c .rejected2 .ensures ∙ ap (λ (x : Done). x .answer) (sym e), ap (λ (x : Done). x .memory) (sym e))
+    all-of (a .d) (a .w) (a .memory .now) (a .words .now) _ _ _ e (c .rejected2 .ensures) refl
 
 sub-read-rows : tie.Need-sub-read-rows
 sub-read-rows c = search needs
@@ -123,7 +122,7 @@ returns-3 c = let a = c .before .before .before .before .before .before .before 
     let z = c .before .before .before .before .before .before .before .before .before .before .before .before .before .before .before .before .before .before .before .if1 .left in
     let t = c .before .before .before .before .before .before .before .before .before .before .before .check in
     let e = read-done (a .d) (a .w) (a .memory .now) (a .words .now) (s .result) (s .ensures) z (t .result) (t .ensures) (c .before .before .before .before .before .before .before .before .before .if2 .left) in
-    (c .accepted .ensures ∙ ap (λ (x : Done). x .answer) (sym e), c .before .before .before .read-rows .ensures ∙ ap (λ (x : Done). x .memory) (sym e))
+    all-of (a .d) (a .w) (a .memory .now) (a .words .now) _ _ _ e (c .accepted .ensures) (c .before .before .before .read-rows .ensures)
 
 pub read-spec : {M : Type 1} → statement M
 read-spec =

@@ -26,7 +26,7 @@ returns c =
     let a = c .before .before .before .before .before .read .ensures in
     let g = c .give .ensures in (
       g .0 ∙ ap (λ (x : Answer). x .status) (a .0),
-      (g .1 .0 ∙ ap (λ (x : Answer). x .position) (a .0), (g .1 .1 ∙ ap (λ (x : Answer). x .value) (a .0), a .1)),
+      (g .1 .0 ∙ ap (λ (x : Answer). x .position) (a .0), (g .1 .1 ∙ ap (λ (x : Answer). x .value) (a .0), a .1 .0)),
     )
 
 pub meter-image-read-spec : {M : Type 1} → statement M
