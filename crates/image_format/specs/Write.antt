@@ -1,22 +1,24 @@
--- Writing an image. Document 01, 'Images and feeds' and 'Turned away, in checking order'.
+-- Writing an image. Document 01, 'Images and feeds' and 'Turned away, in checking order'. The contract of writing and the theorems cite it.
 use Prim.Native.Nat.{ℕ, zero, suc, _+_}
 use mathlib.Core.Bool.{Bool, true, cond, _&&_}
 use mathlib.Core.List.{List, [], _∷_, _++_}
 use lib.Dec.{leb}
 use lib.ListN.{length, take, drop}
-use Rattle.group_layout.specs.Layout.{valid}
-use Rattle.answer.specs.declared.Answer.{Answer}
-use Rattle.answer.specs.Answers.{accepted, refused}
-use Rattle.answer.specs.Numbers.{invalidMerge, tooFewWords}
+use Rattle.group.specs.declared.Answer.{Answer}
+use Rattle.group.specs.Group.{validMerge}
+use Rattle.group.specs.Status.{invalidMerge, accepted, rejected}
 use Rattle.geometry.specs.Geometry.{stride}
-use Rattle.answer.specs.Order.{unless, firstOf}
-use Rattle.geometry.specs.Checks.{badShape}
+use Rattle.geometry.specs.Order.{unless, firstOf, badShape}
 use Rattle.image_format.specs.Image.{wordsOf, levelAt, isFirst, image}
+
+-- line 7
+abbrev pub tooFewWords : ℕ
+tooFewWords = 7
 
 -- whether all of these merge bytes are valid
 unfoldable pub allValid : List ℕ → Bool
 allValid [] = true
-allValid (m ∷ ms) = valid 3 m && allValid ms
+allValid (m ∷ ms) = validMerge m && allValid ms
 
 -- whether the merge bytes of n rows of w slots are valid; a row's are those after its w count bytes
 unfoldable pub validRows : ℕ → ℕ → List ℕ → Bool
@@ -48,7 +50,7 @@ writeStatus d w memory words =
 -- Lent words past the image stay.
 unfoldable pub finishWrite : ℕ → List ℕ → List ℕ → Written
 finishWrite zero new words = record { answer = accepted (length new); words = new ++ drop (length new) words }
-finishWrite (suc s) new words = record { answer = refused (suc s); words = words }
+finishWrite (suc s) new words = record { answer = rejected (suc s); words = words }
 
 unfoldable pub written : ℕ → ℕ → List ℕ → List ℕ → Written
 written d w memory words = finishWrite (writeStatus d w memory words) (image d w memory) words
