@@ -1,100 +1,15 @@
--- Laws of words and decimal numbers that the code's proofs use, and what decimal digits are worth.
-use mathlib.Core.Logic.{⊎-elim}
-use mathlib.Core.Path.{_≡_, refl, sym, ap, _∙_}
-use mathlib.Core.Bool.{Bool, false, not, _||_}
-use mathlib.Core.List.{List, [], _∷_, _++_, append-assoc}
-use Prim.Native.Nat.{ℕ, zero, suc, _+_, _-_, _*_, _/_, _%_, _^_, _≤_, _<_}
-use native.Mathlib.Nat.{add-zero, zero-add, div-lt-iff-lt-mul, pow-suc}
-use native.Mathlib.Numerals.{add-one, sub-one}
+-- Laws of lines that the code's proofs use.
+use mathlib.Core.Path.{_≡_, refl}
+use mathlib.Core.List.{[], _∷_}
+use Prim.Native.Nat.{ℕ}
 use native.Mathlib.Omega.{arith}
-use native.Mathlib.Decide.{decLt}
-use borrow.Author.Tests.{lt-ltb, le-ltb, ne-eqb}
-use lib.Dec.{eqb}
-use lib.ListN.{length, getD, take, drop, set}
-use lib.Seq.{paste-suc, take-suc, take-suc-set}
 use types.Run.{OneOf}
 use denote.Enum.Declared.{tagOf}
 use Rattle.feed.specs.declared.Recorded.{Recorded}
 use Rattle.feed.specs.declared.Recorded.the-variants as recorded
 use Rattle.feed.proofs.Recorded as the-recorded
-use Rattle.feed_lines.specs.declared.Line.{Line}
-use Rattle.feed_lines.specs.declared.Line.the-variants as line
-use Rattle.feed_lines.proofs.Line as the-line
-use Rattle.feed_lines.specs.Line.{lineOf, continues, isEnd, updatedWord, text}
-use Rattle.feed_lines.specs.Text.{digitsBefore, decimal, numberAfter}
-use Rattle.feed_lines.specs.Words.{wordAt, wordsFrom}
-
-pub words-length : (n : ℕ) (bytes : List ℕ) (i : ℕ) → length (wordsFrom n bytes i) ≡ n
-unfolding wordsFrom
-words-length zero bytes i = refl
-words-length (suc n) bytes i = ap suc (words-length n bytes (i + 1))
-
-pub words-at : (n : ℕ) (bytes : List ℕ) (i k : ℕ) → k < n → getD (wordsFrom n bytes i) k 0 ≡ wordAt bytes (i + k)
-unfolding wordsFrom
-words-at zero bytes i k h = absurd (omega arith)
-words-at (suc n) bytes i zero h = rw add-zero
-words-at (suc n) bytes i (suc k) h =
-    let e : i + 1 + k ≡ i + suc k = omega arith in
-    words-at n bytes (i + 1) k (omega arith) ∙ ap (wordAt bytes) e
-
--- a turn of a copy from the front
-pub copy-more : (s d : List ℕ) (i : ℕ) → i < length s → i < length d → set (take i s ++ drop i d) i (getD s i 0) ≡ take (i + 1) s ++ drop (i + 1) d
-copy-more s d i h k =
-    let k0 : 0 + i < length d = omega arith in
-    simp (zero-add, add-one) (simp zero-add at (paste-suc d 0 s i 0 k0 h))
-
--- a turn of a copy behind the first bytes of a buffer
-pub append-turn : (out before s : List ℕ) (at i : ℕ) → at + i < length out → i < length s → take (at + i) out ≡ before ++ take i s
-    → take (at + (i + 1)) (set out (at + i) (getD s i 0)) ≡ before ++ take (i + 1) s
-append-turn out before s at i h k e =
-    let n : at + (i + 1) ≡ suc (at + i) = omega arith in
-    rw (n, add-one)
-    (take-suc-set out (at + i) (getD s i 0) h ∙ ap (λ (l : List ℕ). l ++ (getD s i 0 ∷ [])) e ∙ append-assoc before (take i s) (getD s i 0 ∷ [])
-    ∙ ap (λ (l : List ℕ). before ++ l) (sym (take-suc s i 0 k)))
-
--- a number of more than one digit, and the last digit of one
-pub digits-more : (k n : ℕ) (text : List ℕ) → 1 ≤ k → 10 ≤ n → digitsBefore k n text ≡ digitsBefore (k - 1) (n / 10) ((48 + n % 10) ∷ text)
-unfolding digitsBefore
-digits-more zero n text h l = absurd (omega arith)
-digits-more (suc k) n text h l = rw (le-ltb n 10 l, sub-one (suc k))
-
-pub digits-last : (k n : ℕ) (text : List ℕ) → 1 ≤ k → n < 10 → digitsBefore k n text ≡ (48 + n) ∷ text
-unfolding digitsBefore
-digits-last zero n text h l = absurd (omega arith)
-digits-last (suc k) n text h l = rw (lt-ltb n 10 l)
-
--- the places that a number's digits need
-pub two-places : (k n : ℕ) → 10 ≤ n → n < 10 ^ k → 2 ≤ k
-two-places zero n h l = absurd (omega arith)
-two-places (suc zero) n h l = absurd (omega arith)
-two-places (suc (suc k)) n h l = omega arith
-
-pub less-places : (k n : ℕ) → 1 ≤ k → n < 10 ^ k → n / 10 < 10 ^ (k - 1)
-less-places zero n h l = absurd (omega arith)
-less-places (suc k) n h l = rw (sub-one (suc k)) (div-lt-iff-lt-mul {k = 10} {x = n} {y = 10 ^ k} (omega arith) .1 (omega (arith, pow-suc 10 k)))
-
--- what is put in front of the end of a list
-pub drop-set-at : (xs : List ℕ) (i x : ℕ) → i < length xs → drop i (set xs i x) ≡ x ∷ drop (suc i) xs
-drop-set-at [] i x h = absurd (omega arith)
-drop-set-at (y ∷ ys) zero x h = refl
-drop-set-at (y ∷ ys) (suc i) x h = drop-set-at ys i x (omega arith)
-
--- The digits of a number are worth that number.
-after-digits : (k n : ℕ) (text : List ℕ) → n < 10 ^ k → 1 ≤ k → numberAfter 0 (digitsBefore k n text) ≡ numberAfter n text
-unfolding digitsBefore numberAfter
-after-digits zero n text h p = absurd (omega arith)
-after-digits (suc k) n text h p = elim (decLt n 10) [
-  | yes l ↦ rw (lt-ltb n 10 l) (ap (λ (v : ℕ). numberAfter v text) (omega arith))
-  | no l ↦
-      let m : 10 ≤ n = omega arith in
-      let e : n / 10 * 10 + (48 + n % 10 - 48) ≡ n = omega arith in
-      let q = less-places (suc k) n (omega arith) h in
-      rw (le-ltb n 10 m) (after-digits k (n / 10) ((48 + n % 10) ∷ text) (rw (sub-one (suc k)) at q) (omega (arith, two-places (suc k) n m h)) ∙ ap (λ (v : ℕ). numberAfter v text) e)
-]
-
-pub decimal-value : (n : ℕ) → n < 2 ^ 64 → numberAfter 0 (decimal n) ≡ n
-unfolding decimal numberAfter
-decimal-value n h = after-digits 20 n [] (omega arith) (omega arith)
+use Rattle.feed_text.specs.declared.Line.the-variants as line
+use Rattle.feed_lines.specs.Line.{lineOf}
 
 -- the first and the third of the cases of a record's outcome
 pub updated-line : (r : Recorded) (before records : ℕ) → OneOf (0 ∷ []) (tagOf the-recorded.the-type r) → lineOf r before records ≡ line.Updated
@@ -102,52 +17,11 @@ unfolding lineOf
 updated-line recorded.Updated before records h = refl
 updated-line (recorded.Estimate v) before records h = absurd (omega arith)
 updated-line recorded.Ended before records h = absurd (omega arith)
-updated-line (recorded.Refused s p) before records h = absurd (omega arith)
+updated-line (recorded.Rejected s p) before records h = absurd (omega arith)
 
 pub ended-line : (r : Recorded) (before records : ℕ) → OneOf (2 ∷ []) (tagOf the-recorded.the-type r) → lineOf r before records ≡ line.End records
 unfolding lineOf
 ended-line recorded.Updated before records h = absurd (omega arith)
 ended-line (recorded.Estimate v) before records h = absurd (omega arith)
 ended-line recorded.Ended before records h = refl
-ended-line (recorded.Refused s p) before records h = absurd (omega arith)
-
--- the second of the cases of a line
-pub text-updated : (l : Line) → OneOf (1 ∷ []) (tagOf the-line.the-type l) → text l ≡ updatedWord
-unfolding text
-text-updated (line.Geometry d w) h = absurd (omega arith)
-text-updated line.Updated h = refl
-text-updated (line.Estimate v) h = absurd (omega arith)
-text-updated (line.End n) h = absurd (omega arith)
-text-updated (line.Refused s) h = absurd (omega arith)
-text-updated (line.Stopped s i) h = absurd (omega arith)
-
--- whether a record follows a line, by the line's tag
-abbrev continuing : ℕ → Bool
-continuing t = not (eqb t 3 || eqb t 5)
-
-by-tag : (l : Line) → continues l ≡ continuing (tagOf the-line.the-type l)
-unfolding continues
-by-tag (line.Geometry d w) = refl
-by-tag line.Updated = refl
-by-tag (line.Estimate v) = refl
-by-tag (line.End n) = refl
-by-tag (line.Refused s) = refl
-by-tag (line.Stopped s i) = refl
-
-pub tag-continues : (l : Line) (t : ℕ) → OneOf (t ∷ []) (tagOf the-line.the-type l) → continuing t ≡ continues l
-tag-continues l t h = sym (by-tag l ∙ ap continuing h)
-
--- the end's tag, and those of the other lines
-pub tag-end : (l : Line) → isEnd l ≡ eqb (tagOf the-line.the-type l) 3
-unfolding isEnd
-tag-end (line.Geometry d w) = refl
-tag-end line.Updated = refl
-tag-end (line.Estimate v) = refl
-tag-end (line.End n) = refl
-tag-end (line.Refused s) = refl
-tag-end (line.Stopped s i) = refl
-
-pub not-end : (t : ℕ) → OneOf (0 ∷ 1 ∷ 2 ∷ 4 ∷ 5 ∷ []) t → eqb t 3 ≡ false
-not-end t h =
-    ne-eqb t 3
-    (λ e. ⊎-elim (λ k. omega arith) (λ k. ⊎-elim (λ m. omega arith) (λ m. ⊎-elim (λ n. omega arith) (λ n. ⊎-elim (λ o. omega arith) (λ o. omega arith) n) m) k) h)
+ended-line (recorded.Rejected s p) before records h = absurd (omega arith)

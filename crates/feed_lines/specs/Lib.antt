@@ -1,3 +1,3 @@
-pub mod Text
 pub mod Line
-pub mod Words
+pub mod Feed
+pub mod Step

@@ -1,37 +1,33 @@
-// The program's lines as text, and its input's words from bytes.
-mod text;
-mod words;
-
+// A feed's run without its input and output: the head's line, a cleared meter, and one step for each record and the end.
 use feed::Recorded;
-use answer::Answer;
-pub use text::Text;
-use text::begin;
-use text::pair;
-use text::single;
-pub use words::assemble;
+use feed_text::Line;
+use group::Answer;
 ghost use mathlib.Core.Path.{_≡_};
 ghost use Prim.Native.Nat.{_+_, _^_, _<_, _≤_};
+ghost use lib.ListN.{length, replicate};
+ghost use Rattle.geometry.specs.Geometry as geometry;
+ghost use Rattle.geometry.specs.Order.{badShape};
 ghost use Rattle.feed.specs.Answers.{recordAnswer};
-ghost use Rattle.feed_lines.specs.Text.{content};
-ghost use Rattle.feed_lines.specs.Line as spec;
-ghost use Rattle.feed_lines.specs.Line.{headLine, lineOf, isEnd, Bounded};
+ghost use Rattle.feed.specs.Head.{headed};
+ghost use Rattle.feed.specs.Record.{recorded};
+ghost use Rattle.feed_lines.specs.Line.{headLine, lineOf};
+ghost use Rattle.feed_lines.specs.Step as spec;
+ghost use Rattle.feed_lines.specs.Step.{Fitting, FittingLine, takenBy};
 
 // The largest width that the program lends memory for.
 pub const MOST_SLOTS: usize = 4096;
 
-pub enum Line {
-    Geometry { d: usize, w: usize },
-    Updated,
-    Estimate { value: u64 },
-    End { records: u64 },
-    Refused { status: u8 },
-    Stopped { status: u8, index: u64 },
+// What a record or the end did: its line and the words that it took, with the words and records before the next.
+pub struct Progress {
+    pub line: Line,
+    pub taken: usize,
+    pub words: u64,
+    pub records: u64,
 }
 
 // The line of a head's answer.
-pub fn head_line(a: Answer) -> Line
+fn head_line(a: Answer) -> Line
     ensures { λ l. ⌜ l ≡ headLine a ⌝ }
-    ensures { λ l. ⌜ Bounded l ⌝ }
 {
     if a.status != 0 {
         return Line::Stopped {
@@ -52,54 +48,33 @@ pub fn head_line(a: Answer) -> Line
     }
 }
 
-// Whether a record follows.
-pub fn continues(l: Line) -> bool
-    ensures { λ r. ⌜ r ≡ spec.continues l ⌝ }
+// A feed's first line, from the words at hand.
+pub fn head(words: &[u32]) -> Line
+    ensures { λ l. ⌜ l ≡ headLine (headed (now (words .entry))) ⌝ }
+    ensures { λ l. ⌜ FittingLine l ⌝ }
 {
-    match l {
-        Line::Geometry { d: _, w: _ } => true,
-        Line::Updated => true,
-        Line::Estimate { value: _ } => true,
-        Line::End { records: _ } => false,
-        Line::Refused { status: _ } => true,
-        Line::Stopped {
-            status: _,
-            index: _,
-        } => false,
-    }
+    head_line(feed::head(words))
 }
 
-// Whether a line is the end's.
-pub fn is_end(l: Line) -> bool
-    ensures { λ r. ⌜ r ≡ isEnd l ⌝ }
+// The bytes of the meter of an accepted head.
+pub fn size(d: usize, w: usize) -> usize
+    requires { ⌜ Fitting d w ⌝ }
+    ensures { λ r. ⌜ r ≡ geometry.size d w ⌝ }
+    ensures { λ r. ⌜ (r ≤ 36864) × (badShape d w r ≡ 0) ⌝ }
 {
-    if let Line::End { records: _ } = l {
-        true
-    } else {
-        false
-    }
+    d * geometry::stride(w)
 }
 
-fn stops(status: u8) -> bool
-    ensures { λ r. ⌜ r ≡ spec.stops status ⌝ }
+// The records start on a cleared meter.
+pub fn start(d: usize, w: usize, memory: &mut [u8])
+    requires { ⌜ badShape d w (length (now memory)) ≡ 0 ⌝ }
+    ensures { λ _. ⌜ now (memory .exit) ≡ replicate (geometry.size d w) 0 ⌝ }
 {
-    if status == 1 {
-        return true;
-    }
-    if status == 2 {
-        return true;
-    }
-    if status == 4 {
-        return true;
-    }
-    if status == 8 {
-        return true;
-    }
-    status == 9
+    meter::clear(d, w, memory);
 }
 
 // The line of a record or the end, after so many words of the feed and so many records.
-pub fn line_of(r: Recorded, before: u64, records: u64) -> Line
+fn line_of(r: Recorded, before: u64, records: u64) -> Line
     requires { ⌜ before + recordAnswer r .position < 2 ^ 64 ⌝ }
     ensures { λ l. ⌜ l ≡ lineOf r before records ⌝ }
 {
@@ -107,30 +82,47 @@ pub fn line_of(r: Recorded, before: u64, records: u64) -> Line
         Recorded::Updated => Line::Updated,
         Recorded::Estimate { value } => Line::Estimate { value },
         Recorded::Ended => Line::End { records },
-        Recorded::Refused { status, position } => rejected_line(status, before + position),
+        Recorded::Rejected { status, position } => {
+            feed_text::rejected_line(status, before + position)
+        }
     }
 }
 
-fn rejected_line(status: u8, index: u64) -> Line
-    ensures { λ l. ⌜ l ≡ spec.refusedLine status index ⌝ }
+// The words that a line's record took. After a stop nothing is read.
+fn taken(l: Line, words: &[u32]) -> usize
+    ensures { λ r. ⌜ r ≡ takenBy l (now (words .entry)) ⌝ }
 {
-    if stops(status) {
-        return Line::Stopped { status, index };
+    if feed_text::continues(l) {
+        return feed::words_taken(words);
     }
-    Line::Refused { status }
+    if feed_text::is_end(l) {
+        return feed::words_taken(words);
+    }
+    0
 }
 
-// Each line begins with its word.
-pub fn text_of(l: Line) -> Text
-    ensures { λ t. ⌜ content t ≡ spec.text l ⌝ }
-    ensures { λ t. ⌜ t .length ≤ 64 ⌝ }
+// One record or the end, from the words at hand.
+pub fn step(
+    d: usize,
+    w: usize,
+    memory: &mut [u8],
+    before: u64,
+    records: u64,
+    words: &[u32],
+) -> Progress
+    requires { ⌜ badShape d w (length (now memory)) ≡ 0 ⌝ ∗ ⌜ length (now words) ≤ 25 ⌝ }
+    requires { ⌜ before < 2 ^ 63 ⌝ ∗ ⌜ records < 2 ^ 63 ⌝ }
+    ensures { λ r. ⌜ r ≡ spec.progress d w (now (memory .entry)) before records (now (words .entry)) ⌝ }
+    ensures { λ _. ⌜ now (memory .exit) ≡ recorded d w (now (memory .entry)) before (now (words .entry)) .memory ⌝ }
+    ensures { λ r. ⌜ r .taken ≤ length (now (words .entry)) ⌝ }
 {
-    match l {
-        Line::Geometry { d, w } => pair(b"geometry ", d as u64, b" ", w as u64),
-        Line::Updated => begin(b"updated\n"),
-        Line::Estimate { value } => single(b"estimate ", value),
-        Line::End { records } => single(b"end ", records),
-        Line::Refused { status } => single(b"refused ", status as u64),
-        Line::Stopped { status, index } => pair(b"stopped ", status as u64, b" at ", index),
+    let r = feed::record(d, w, memory, before, words);
+    let line = line_of(r, before, records);
+    let n = taken(line, words);
+    Progress {
+        line,
+        taken: n,
+        words: before + n as u64,
+        records: records + 1,
     }
 }

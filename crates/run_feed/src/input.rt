@@ -1,15 +1,16 @@
 // Standard input, read in pieces. No byte is lost or read twice, however few a read brings.
 use libc::STDIN_FILENO;
 ghost use mathlib.Core.Path.{_≡_};
-ghost use Prim.Native.Nat.{_+_, _-_, _≤_, _<_};
+ghost use mathlib.Core.List.{_++_};
+ghost use Prim.Native.Nat.{_+_, _≤_, _<_};
 ghost use lib.ListN.{length, take, drop};
-ghost use Rattle.run_feed.specs.Buffers.{Within, unused};
+ghost use Rattle.run_feed.specs.Buffers.{Within, advanced, Filled, Refilled};
 
 // The bytes of the buffer that are read and not yet used, and whether more may come.
 pub struct Input {
     pub start: usize,
     pub end: usize,
-    pub open: bool,
+    pub more: bool,
 }
 
 // The bytes of the longest record: 25 words.
@@ -18,7 +19,7 @@ pub const LONGEST: usize = 100;
 // The n bytes at a place, moved to the front.
 fn shift(buffer: &mut [u8], from: usize, n: usize)
     requires { ⌜ from + n ≤ length (now buffer) ⌝ }
-    ensures { λ _. ⌜ take n (now (buffer .exit)) ≡ take n (drop from (now (buffer .entry))) ⌝ }
+    ensures { λ _. ⌜ now (buffer .exit) ≡ take n (drop from (now (buffer .entry))) ++ drop n (now (buffer .entry)) ⌝ }
 {
     for i in 0..n {
         buffer[i] = buffer[from + i];
@@ -38,14 +39,13 @@ fn read_more(buffer: &mut [u8], at: usize) -> usize
 // Reads on until a whole record is at hand or the input has ended.
 pub fn refill(buffer: &mut [u8], i: Input) -> Input
     requires { ⌜ Within i (now buffer) ⌝ ∗ ⌜ 100 ≤ length (now buffer) ⌝ }
-    ensures { λ r. ⌜ Within r (now (buffer .exit)) ⌝ }
-    ensures { λ r. ⌜ take (i .end - i .start) (drop (r .start) (now (buffer .exit))) ≡ unused i (now (buffer .entry)) ⌝ }
+    ensures { λ r. ⌜ Refilled i (now (buffer .entry)) r (now (buffer .exit)) ⌝ }
 {
     let left = i.end - i.start;
     if LONGEST <= left {
         return i;
     }
-    if !i.open {
+    if !i.more {
         return i;
     }
     shift(buffer, i.start, left);
@@ -55,43 +55,35 @@ pub fn refill(buffer: &mut [u8], i: Input) -> Input
 // The bytes at the front and, behind them, as many as come before a whole record is there.
 fn fill(buffer: &mut [u8], n: usize) -> Input
     requires { ⌜ n ≤ length (now buffer) ⌝ ∗ ⌜ 100 ≤ length (now buffer) ⌝ }
-    ensures { λ r. ⌜ (r .start ≡ 0) × (n ≤ r .end) × (r .end ≤ length (now (buffer .exit))) ⌝ }
-    ensures { λ _. ⌜ take n (now (buffer .exit)) ≡ take n (now (buffer .entry)) ⌝ }
+    ensures { λ r. ⌜ Filled n (now (buffer .entry)) r (now (buffer .exit)) ⌝ }
 {
     let mut end = n;
     while end < LONGEST {
-        let more = read_more(buffer, end);
-        if more == 0 {
+        let got = read_more(buffer, end);
+        if got == 0 {
             return Input {
                 start: 0,
                 end,
-                open: false,
+                more: false,
             };
         }
-        end += more;
+        end += got;
     }
     Input {
         start: 0,
         end,
-        open: true,
+        more: true,
     }
 }
 
 // The bytes after the first n.
 pub fn after(i: Input, n: usize) -> Input
-    requires { ⌜ i .start ≤ i .end ⌝ }
-    ensures { λ r. ⌜ (i .start ≤ r .start) × (r .start ≤ r .end) × (r .end ≡ i .end) ⌝ }
+    requires { ⌜ i .start + n ≤ i .end ⌝ }
+    ensures { λ r. ⌜ r ≡ advanced i n ⌝ }
 {
-    if i.end - i.start < n {
-        return Input {
-            start: i.end,
-            end: i.end,
-            open: i.open,
-        };
-    }
     Input {
         start: i.start + n,
         end: i.end,
-        open: i.open,
+        more: i.more,
     }
 }

@@ -2,13 +2,24 @@
 mod input;
 mod output;
 
-use feed_lines::Line;
+use feed_lines::Progress;
+use feed_text::Line;
 use input::Input;
 ghost use mathlib.Core.Path.{_≡_};
+ghost use mathlib.Core.Bool.{true};
+ghost use mathlib.Core.List.{_++_};
 ghost use Prim.Native.Nat.{_+_, _*_, _^_, _≤_, _<_};
-ghost use lib.ListN.{length};
-ghost use Rattle.feed_lines.specs.Line.{Bounded};
-ghost use Rattle.run_feed.specs.Buffers.{Within};
+ghost use lib.ListN.{length, take, drop, replicate};
+ghost use Rattle.geometry.specs.Geometry.{size};
+ghost use Rattle.geometry.specs.Order.{badShape};
+ghost use Rattle.feed.specs.Head.{headed};
+ghost use Rattle.feed.specs.Record.{recorded};
+ghost use Rattle.feed_text.specs.Words.{wholeWords};
+ghost use Rattle.feed_lines.specs.Line.{headLine};
+ghost use Rattle.feed_lines.specs.Feed.{feedText};
+ghost use Rattle.feed_lines.specs.Step.{FittingLine, progress};
+ghost use Rattle.run_feed.specs.Buffers.{Within, unused};
+ghost use Rattle.run_feed.specs.Run.{Ran, Printed, seen, dueAfterEnd, dueAfterHead};
 
 // The most bytes that the program lends to a meter: 8 rows of 4,096 slots.
 const MEMORY: usize = 36864;
@@ -19,7 +30,8 @@ const WORDS: usize = 25;
 // Every loop ends: this many records are more than any run has time for.
 const TURNS: u64 = 288230376151711744;
 
-// Where the run is: the input, the words and records before this point, the bytes of output at hand, and whether a record follows.
+// Where the run is: the input, the words and records before this point, the bytes of output at hand, and whether a record follows or
+// the end was read.
 struct State {
     input: Input,
     words: u64,
@@ -29,41 +41,19 @@ struct State {
     ended: bool,
 }
 
-// What a record or the end did: its line, and the words that it took.
-struct Done {
-    line: Line,
-    taken: usize,
-}
-
-fn least(a: usize, b: usize) -> usize
-    ensures { λ r. ⌜ (r ≤ a) × (r ≤ b) ⌝ }
-{
-    if a < b { a } else { b }
-}
-
-// One record or the end, from the words at hand.
-fn carry(memory: &mut [u8], d: usize, w: usize, words: &[u32], before: u64, records: u64) -> Done
-    requires { ⌜ length (now words) ≤ 25 ⌝ ∗ ⌜ before < 2 ^ 63 ⌝ }
-    ensures { λ r. ⌜ r .taken ≤ length (now (words .entry)) ⌝ }
-{
-    let r = feed::record(d, w, memory, before, words);
-    let line = feed_lines::line_of(r, before, records);
-    Done {
-        line,
-        taken: least(feed::words_taken(words), words.len()),
-    }
-}
-
-// The words at hand, at most those of the longest record, are carried out.
-fn next(memory: &mut [u8], d: usize, w: usize, bytes: &[u8], before: u64, records: u64) -> Done
-    requires { ⌜ before < 2 ^ 63 ⌝ }
-    ensures { λ r. ⌜ r .taken ≤ 25 ⌝ }
+// One record or the end, from the bytes at hand.
+fn next(memory: &mut [u8], d: usize, w: usize, bytes: &[u8], before: u64, records: u64) -> Progress
+    requires { ⌜ badShape d w (length (now memory)) ≡ 0 ⌝ ∗ ⌜ before < 2 ^ 63 ⌝ ∗ ⌜ records < 2 ^ 63 ⌝ }
+    ensures { λ r. ⌜ r ≡ progress d w (now (memory .entry)) before records (take 25 (wholeWords (now (bytes .entry)))) ⌝ }
+    ensures { λ _. ⌜ now (memory .exit) ≡ recorded d w (now (memory .entry)) before (take 25 (wholeWords (now (bytes .entry)))) .memory ⌝ }
+    ensures { λ r. ⌜ (r .taken ≤ 25) × (4 * r .taken ≤ length (now (bytes .entry))) ⌝ }
 {
     let mut words = [0u32; WORDS];
-    let n = feed_lines::assemble(bytes, &mut words);
-    carry(memory, d, w, &words[..n], before, records)
+    let n = feed_text::assemble(bytes, &mut words);
+    feed_lines::step(d, w, memory, before, records, &words[..n])
 }
 
+// One record or the end: read on, carry it out, and put its line behind those at hand.
 fn step(
     memory: &mut [u8],
     d: usize,
@@ -72,27 +62,28 @@ fn step(
     output: &mut [u8],
     s: State,
 ) -> State
+    requires { ⌜ badShape d w (length (now memory)) ≡ 0 ⌝ ∗ ⌜ s .runs ≡ true ⌝ }
     requires { ⌜ Within (s .input) (now input) ⌝ ∗ ⌜ 100 ≤ length (now input) ⌝ }
     requires { ⌜ s .out ≤ length (now output) ⌝ ∗ ⌜ 64 ≤ length (now output) ⌝ }
     requires { ⌜ s .words < 2 ^ 63 ⌝ ∗ ⌜ s .records < 2 ^ 63 ⌝ }
-    ensures { λ r. ⌜ Within (r .input) (now (input .exit)) ⌝ }
-    ensures { λ r. ⌜ r .out ≤ length (now (output .exit)) ⌝ }
-    ensures { λ r. ⌜ (r .words ≤ s .words + 25) × (r .records ≤ s .records + 1) ⌝ }
+    ensures { λ r. ⌜ Within (r .input) (now (input .exit)) ⌝ ∗ ⌜ r .out ≤ length (now (output .exit)) ⌝ }
+    ensures { λ r. ⌜ (r .words ≤ s .words + 25) × (r .records ≡ s .records + 1) × (r .runs ≡ true → s .words + 1 ≤ r .words) ⌝ }
+    ensures { λ r. ⌜ Ran d w (now (memory .entry)) s (now (input .entry)) (now (output .entry))
+        (now (memory .exit)) r (now (input .exit)) (now (output .exit)) ⌝ }
 {
     let i = input::refill(input, s.input);
     let start = i.start;
     let end = i.end;
-    let done = next(memory, d, w, &input[start..end], s.words, s.records);
-    let line = done.line;
-    let taken = done.taken;
-    let out = output::put(output, s.out, feed_lines::text_of(line));
+    let p = next(memory, d, w, &input[start..end], s.words, s.records);
+    let line = p.line;
+    let out = output::put(output, s.out, feed_text::text_of(line));
     State {
-        input: input::after(i, 4 * taken),
-        words: s.words + taken as u64,
-        records: s.records + 1,
+        input: input::after(i, 4 * p.taken),
+        words: p.words,
+        records: p.records,
         out,
-        runs: feed_lines::continues(line),
-        ended: feed_lines::is_end(line),
+        runs: feed_text::continues(line),
+        ended: feed_text::is_end(line),
     }
 }
 
@@ -105,11 +96,13 @@ fn run_records(
     output: &mut [u8],
     first: State,
 ) -> State
+    requires { ⌜ badShape d w (length (now memory)) ≡ 0 ⌝ ∗ ⌜ first .words ≡ 1 ⌝ ∗ ⌜ first .records ≡ 0 ⌝ }
     requires { ⌜ Within (first .input) (now input) ⌝ ∗ ⌜ 100 ≤ length (now input) ⌝ }
     requires { ⌜ first .out ≤ length (now output) ⌝ ∗ ⌜ 64 ≤ length (now output) ⌝ }
-    requires { ⌜ first .words ≤ 1 ⌝ ∗ ⌜ first .records ≡ 0 ⌝ }
-    ensures { λ r. ⌜ Within (r .input) (now (input .exit)) ⌝ ∗ ⌜ 100 ≤ length (now (input .exit)) ⌝ }
-    ensures { λ r. ⌜ r .out ≤ length (now (output .exit)) ⌝ ∗ ⌜ 64 ≤ length (now (output .exit)) ⌝ }
+    ensures { λ r. ⌜ Within (r .input) (now (input .exit)) ⌝ ∗ ⌜ r .out ≤ length (now (output .exit)) ⌝ }
+    ensures { λ r. ⌜ (r .runs ≡ true → 2 ^ 58 < r .words) ⌝ }
+    ensures { λ r. ⌜ Ran d w (now (memory .entry)) first (now (input .entry)) (now (output .entry))
+        (now (memory .exit)) r (now (input .exit)) (now (output .exit)) ⌝ }
 {
     let mut s = first;
     let mut turns = TURNS;
@@ -128,6 +121,8 @@ fn after_end(input: &mut [u8], output: &mut [u8], s: State) -> usize
     requires { ⌜ Within (s .input) (now input) ⌝ ∗ ⌜ 100 ≤ length (now input) ⌝ }
     requires { ⌜ s .out ≤ length (now output) ⌝ ∗ ⌜ 64 ≤ length (now output) ⌝ }
     ensures { λ r. ⌜ r ≤ length (now (output .exit)) ⌝ }
+    ensures { λ r. ⌜ Printed (seen s (now (input .entry))) (s .input .more) (dueAfterEnd s (now (input .entry)) (now (output .entry)))
+        r (now (output .exit)) ⌝ }
 {
     let i = input::refill(input, s.input);
     if i.start == i.end {
@@ -137,27 +132,20 @@ fn after_end(input: &mut [u8], output: &mut [u8], s: State) -> usize
         status: answer::BAD_WORD,
         index: s.words,
     };
-    output::put(output, s.out, feed_lines::text_of(line))
+    output::put(output, s.out, feed_text::text_of(line))
 }
 
 // The head's line, from the bytes at hand.
 fn head(bytes: &[u8]) -> Line
-    ensures { λ l. ⌜ Bounded l ⌝ }
+    ensures { λ l. ⌜ l ≡ headLine (headed (take 1 (wholeWords (now (bytes .entry))))) ⌝ }
+    ensures { λ l. ⌜ FittingLine l ⌝ }
 {
     let mut words = [0u32; 1];
-    let n = feed_lines::assemble(bytes, &mut words);
-    feed_lines::head_line(feed::head(&words[..n]))
+    let n = feed_text::assemble(bytes, &mut words);
+    feed_lines::head(&words[..n])
 }
 
-// The memory that a meter takes, of the bytes at hand. An accepted head has at most 8 rows, and then they are enough.
-fn size(d: usize, w: usize, most: usize) -> usize
-    requires { ⌜ d < 16 ⌝ ∗ ⌜ w ≤ 4096 ⌝ }
-    ensures { λ r. ⌜ r ≤ most ⌝ }
-{
-    least(d * (w * 9 / 8), most)
-}
-
-// A cleared meter, and the records after an accepted head.
+// The records after an accepted head, on a cleared meter.
 fn run_meter(
     memory: &mut [u8],
     d: usize,
@@ -167,11 +155,14 @@ fn run_meter(
     i: Input,
     out: usize,
 ) -> usize
+    requires { ⌜ badShape d w (length (now memory)) ≡ 0 ⌝ ∗ ⌜ i .start + 4 ≤ i .end ⌝ }
     requires { ⌜ Within i (now input) ⌝ ∗ ⌜ 100 ≤ length (now input) ⌝ }
     requires { ⌜ out ≤ length (now output) ⌝ ∗ ⌜ 64 ≤ length (now output) ⌝ }
     ensures { λ r. ⌜ r ≤ length (now (output .exit)) ⌝ }
+    ensures { λ r. ⌜ Printed (length (unused i (now (input .entry)))) (i .more) (dueAfterHead d w i (now (input .entry)) out (now (output .entry)))
+        r (now (output .exit)) ⌝ }
 {
-    meter::clear(d, w, memory);
+    feed_lines::start(d, w, memory);
     let first = State {
         input: input::after(i, 4),
         words: 1,
@@ -189,25 +180,26 @@ fn run_meter(
 
 // The whole feed. Gives the number of bytes of output at hand.
 fn run(memory: &mut [u8], input: &mut [u8], output: &mut [u8]) -> usize
-    requires { ⌜ 100 ≤ length (now input) ⌝ ∗ ⌜ 64 ≤ length (now output) ⌝ }
+    requires { ⌜ 36864 ≤ length (now memory) ⌝ ∗ ⌜ 100 ≤ length (now input) ⌝ ∗ ⌜ 64 ≤ length (now output) ⌝ }
     ensures { λ r. ⌜ r ≤ length (now (output .exit)) ⌝ }
+    ensures { λ r. ⌜ Printed 0 true feedText r (now (output .exit)) ⌝ }
 {
     let i = input::refill(
         input,
         Input {
             start: 0,
             end: 0,
-            open: true,
+            more: true,
         },
     );
     let start = i.start;
     let end = i.end;
     let line = head(&input[start..end]);
-    let out = output::put(output, 0, feed_lines::text_of(line));
+    let out = output::put(output, 0, feed_text::text_of(line));
     let Line::Geometry { d, w } = line else {
         return out;
     };
-    let n = size(d, w, memory.len());
+    let n = feed_lines::size(d, w);
     run_meter(&mut memory[..n], d, w, input, output, i, out)
 }
 

@@ -1,5 +1,3 @@
-use mathlib.Core.Path.{refl}
-use native.Mathlib.Omega.{arith}
 use borrow.Author.Tests.{eq-eqb, ne-eqb, le-leb, lt-leb}
 use Rattle.feed_lines.specs.Line.{headLine}
 use borrow.Author.Needs.{needs}
@@ -8,7 +6,7 @@ use Rattle.feed_lines.proofs.head_line.Tie as tie
 
 returns : tie.Need-returns
 unfolding headLine
-returns c = rw (ne-eqb (c .before .before .args .a .status) 0 (c .if1 .taken)) (refl, tt)
+returns c = rw (ne-eqb (c .before .before .args .a .status) 0 (c .if1 .taken))
 
 head-width-requires : tie.Need-head-width-requires
 head-width-requires c κs = search needs
@@ -16,7 +14,7 @@ head-width-requires c κs = search needs
 returns-2 : tie.Need-returns-2
 unfolding headLine
 returns-2 c = let a = c .before .before .before .before .args .a in
-    rw (eq-eqb (a .status) 0 (c .before .before .if1 .left), ← c .before .head-width .ensures, lt-leb (c .before .head-width .result) 4096 (c .if2 .taken)) (refl, tt)
+    rw (eq-eqb (a .status) 0 (c .before .before .if1 .left), ← c .before .head-width .ensures, lt-leb (c .before .head-width .result) 4096 (c .if2 .taken))
 
 head-depth-requires : tie.Need-head-depth-requires
 head-depth-requires c κs = search needs
@@ -25,7 +23,6 @@ returns-3 : tie.Need-returns-3
 unfolding headLine
 returns-3 c = let a = c .before .before .before .before .before .args .a in
     rw (eq-eqb (a .status) 0 (c .before .before .before .if1 .left), ← c .before .before .head-width .ensures, le-leb (c .before .before .head-width .result) 4096 (c .before .if2 .left), ← c .head-depth .ensures)
-    (refl, (omega (arith, c .head-depth .ensures), c .before .if2 .left))
 
 pub head-line-spec : {M : Type 1} → statement M
 head-line-spec =

@@ -1,3 +1,4 @@
+use mathlib.Core.Logic.{inl, inr}
 use mathlib.Core.Path.{_≡_, refl, sym, ap, _∙_}
 use mathlib.Core.List.{List}
 use Prim.Native.Nat.{ℕ, _-_, _≤_}
@@ -31,7 +32,13 @@ returns : tie.Need-returns Inv-loop μ-loop
 returns c = let l = c .before .before .before .before .before .before .loop in
     let r = c .before .before .before .read-more in
     let n = c .before .before .before .before .before .before .before .before .args .n in
-    ((refl, l .inv .0, omega (arith, r .ensures .0)), kept n (l .end) (r .last .0) (l .buffer) (l .inv .0) (r .ensures .1) ∙ l .inv .3)
+    record {
+      front = refl;
+      grown = l .inv .0;
+      inside = omega (arith, r .ensures .0);
+      kept = kept n (l .end) (r .last .0) (l .buffer) (l .inv .0) (r .ensures .1) ∙ l .inv .3;
+      enough = inr refl;
+    }
 
 add-end : tie.Need-add-end Inv-loop μ-loop
 add-end c = search needs
@@ -50,7 +57,8 @@ same-length-2 : tie.Need-same-length-2 Inv-loop μ-loop
 same-length-2 c = search needs
 
 returns-2 : tie.Need-returns-2 Inv-loop μ-loop
-returns-2 c = let l = c .before .loop in ((refl, l .inv .0, l .inv .1), l .inv .3)
+returns-2 c = let l = c .before .loop in
+    record { front = refl; grown = l .inv .0; inside = l .inv .1; kept = l .inv .3; enough = inl (omega arith) }
 
 pub fill-spec : {M : Type 1} → statement M
 fill-spec =

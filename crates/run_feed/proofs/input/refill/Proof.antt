@@ -1,7 +1,10 @@
-use mathlib.Core.Path.{_∙_}
+use mathlib.Core.Logic.{inl, inr}
+use mathlib.Core.Path.{_≡_}
+use mathlib.Core.Bool.{true, false}
 use native.Mathlib.Omega.{arith}
-use Prim.Native.Nat.{_-_}
+use borrow.Author.Tests.{not-true, not-false}
 use borrow.Author.Needs.{needs}
+use Rattle.run_feed.proofs.Buffers.{held, refilled}
 use Rattle.run_feed.proofs.input.refill.Statement.{statement}
 use Rattle.run_feed.proofs.input.refill.Tie as tie
 
@@ -9,10 +12,12 @@ sub-left : tie.Need-sub-left
 sub-left c = search needs
 
 returns : tie.Need-returns
-returns c = search needs
+returns c = let s = c .before .before .before in held (s .args .i) (s .args .buffer .now) (s .pre .0) (inl (omega arith))
 
 returns-2 : tie.Need-returns-2
-returns-2 c = search needs
+returns-2 c = let s = c .before .before .before .before .before in
+    let m : s .args .i .more ≡ false = not-true _ (c .if2 .taken) in
+    held (s .args .i) (s .args .buffer .now) (s .pre .0) (inr m)
 
 shift-requires : tie.Need-shift-requires
 shift-requires c κs = search needs
@@ -25,8 +30,10 @@ same-length c = search needs
 
 returns-3 : tie.Need-returns-3
 returns-3 c = let f = c .before .before .fill in
-    let e = f .ensures .0 .0 in
-    ((rw e (omega arith), f .ensures .0 .2), rw e (f .ensures .1 ∙ c .before .before .before .before .before .before .shift .ensures))
+    let m = c .before .before .before .before .before .before .shift in
+    let s = c .before .before .before .before .before .before .before .before .before .before .before .before .before in
+    let o : s .args .i .more ≡ true = not-false _ (c .before .before .before .before .before .before .before .before .if2 .left) in
+    refilled (s .args .i) (s .args .buffer .now) (m .last .0) (f .result) (f .last .0) (s .pre .0) o (m .ensures) (f .ensures)
 
 pub refill-spec : {M : Type 1} → statement M
 refill-spec =

@@ -3,7 +3,7 @@ use mathlib.Core.List.{List, [], _∷_, _++_}
 use Prim.Native.Nat.{ℕ, _+_, _-_, _≤_}
 use native.Mathlib.Omega.{arith}
 use native.Mathlib.Numerals.{add-one}
-use lib.ListN.{length, take, drop, getD, length-set, length-drop}
+use lib.ListN.{length, take, drop, getD, length-set, length-drop, take-append-drop}
 use lib.Seq.{take-suc, take-suc-set, drop-set-lt, getD-drop, drop-drop}
 use borrow.Author.Needs.{needs}
 use Rattle.run_feed.proofs.input.shift.Statement.{statement}
@@ -61,7 +61,7 @@ same-length c = search needs
 returns : tie.Need-returns Inv-loop μ-loop
 returns c = let l = c .before .loop in
     let e : l .i ≡ c .before .before .args .n = omega arith in
-    rw (← e) (l .inv .4)
+    rw (← e) (sym (take-append-drop (l .i) (l .buffer)) ∙ ap₂ (λ (x y : List ℕ). x ++ y) (l .inv .4) (l .inv .3))
 
 pub shift-spec : {M : Type 1} → statement M
 shift-spec =

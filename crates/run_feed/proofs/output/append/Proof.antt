@@ -1,8 +1,7 @@
-use Rattle.feed_lines.proofs.Laws.{append-turn}
-use mathlib.Core.Path.{_≡_, refl, _∙_}
-use mathlib.Core.List.{_++_, append-nil}
+use mathlib.Core.Path.{_≡_, refl, sym, ap, _∙_}
 use Prim.Native.Nat.{_+_, _-_, _≤_}
-use native.Mathlib.Nat.{add-zero}
+use native.Mathlib.Numerals.{add-one}
+use lib.Seq.{paste, paste-zero, paste-suc}
 use native.Mathlib.Omega.{arith}
 use lib.ListN.{length, take, getD, length-set}
 use borrow.Author.Needs.{needs}
@@ -10,7 +9,7 @@ use Rattle.run_feed.proofs.output.append.Statement.{statement}
 use Rattle.run_feed.proofs.output.append.Tie as tie
 
 abbrev Inv-loop : tie.InvT-loop
-Inv-loop out₀ at bytes n i₀ out i = (i ≤ n) × (n ≤ 64) × (length bytes ≡ 64) × (at + n ≤ length out₀) × (length out ≡ length out₀) × (take (at + i) out ≡ take at out₀ ++ take i bytes)
+Inv-loop out₀ at bytes n i₀ out i = (i ≤ n) × (n ≤ 64) × (length bytes ≡ 64) × (at + n ≤ length out₀) × (length out ≡ length out₀) × (out ≡ paste out₀ at bytes i)
 
 abbrev μ-loop : tie.MeasureT-loop
 μ-loop out₀ at bytes n i₀ out i = n - i
@@ -18,7 +17,7 @@ abbrev μ-loop : tie.MeasureT-loop
 loop-holds : tie.Need-loop-holds Inv-loop μ-loop
 loop-holds c = let a = c .before .args in
     let long : length (a .t .bytes) ≡ 64 = search needs in
-    (omega arith, c .before .pre .1, long, c .before .pre .0, refl, rw (add-zero, append-nil))
+    (omega arith, c .before .pre .1, long, c .before .pre .0, refl, paste-zero (a .out .now) (a .at) (a .t .bytes))
 
 array-read-out : tie.Need-array-read-out Inv-loop μ-loop
 array-read-out c = search needs
@@ -44,7 +43,7 @@ loop-again c = let l = c .before .loop in
       l .inv .2,
       l .inv .3,
       length-set (l .out) (a .at + l .i) (getD x (l .i) 0) ∙ l .inv .4,
-      append-turn (l .out) (take (a .at) (a .out .now)) x (a .at) (l .i) (omega arith) (omega arith) (l .inv .5),
+      rw (l .inv .5) (paste-suc (a .out .now) (a .at) x (l .i) 0 (omega arith) (omega arith) ∙ ap (paste (a .out .now) (a .at) x) (sym (add-one (l .i)))),
     )
 
 add-result : tie.Need-add-result Inv-loop μ-loop

@@ -1,0 +1,47 @@
+-- One step of a run over the words at hand, and what is left to print: the code's own terms.
+use Prim.Native.Nat.{ℕ, suc, _+_, _*_, _≤_}
+use mathlib.Core.Logic.{_⊎_}
+use mathlib.Core.Path.{_≡_}
+use mathlib.Core.Bool.{Bool, true, cond, _||_}
+use mathlib.Core.List.{List, []}
+use lib.ListN.{length}
+use Rattle.geometry.specs.Geometry.{validDepth, validWidth}
+use Rattle.feed_records.specs.Words.{wordsTaken}
+use Rattle.feed_text.specs.declared.Line.{Line}
+use Rattle.feed_text.specs.declared.Line.the-variants as line
+use Rattle.feed_text.specs.Words.{wholeWords}
+use Rattle.feed_text.specs.Line.{continues, isEnd}
+use Rattle.feed_lines.specs.declared.Progress.{Progress}
+use Rattle.feed_lines.specs.Line.{mostSlots}
+use Rattle.feed_lines.specs.Feed.{recordLine, recordLines}
+
+-- the meter of an accepted head
+abbrev pub Fitting : ℕ → ℕ → Type 0
+Fitting d w = (validDepth d ≡ true) × (validWidth w ≡ true) × (w ≤ mostSlots)
+
+abbrev pub FittingLine : Line → Type 0
+FittingLine (line.Geometry d w) = Fitting d w
+FittingLine line.Updated = Unit
+FittingLine (line.Estimate v) = Unit
+FittingLine (line.End n) = Unit
+FittingLine (line.Refused s) = Unit
+FittingLine (line.Stopped s i) = Unit
+
+-- the words that a line's record took; after a stop nothing is read, so none
+unfoldable pub takenBy : Line → List ℕ → ℕ
+takenBy l words = cond (continues l || isEnd l) (wordsTaken words) 0
+
+abbrev pub progressOf : Line → ℕ → ℕ → ℕ → Progress
+progressOf l taken before records = record { line = l; taken = taken; words = before + taken; records = records + 1 }
+
+unfoldable pub progress : ℕ → ℕ → List ℕ → ℕ → ℕ → List ℕ → Progress
+progress d w memory before records words =
+    progressOf (recordLine d w memory before records words) (takenBy (recordLine d w memory before records words) words) before records
+
+-- the lines of records and the end, all of them
+abbrev pub linesFrom : ℕ → ℕ → List ℕ → ℕ → ℕ → List ℕ → List Line
+linesFrom d w memory before records bytes = recordLines (suc (length (wholeWords bytes))) d w memory before records bytes
+
+-- Bytes at hand before those that are still to come: at least the longest record's, or all.
+abbrev pub Enough : List ℕ → List ℕ → Type 0
+Enough held rest = (4 * 25 ≤ length held) ⊎ (rest ≡ [])

@@ -1,0 +1,52 @@
+use mathlib.Core.Path.{sym, _∙_}
+use Rattle.feed_text.proofs.Laws.{word-at}
+use borrow.Author.Needs.{needs}
+use Rattle.feed_text.proofs.words.word_at.Statement.{statement}
+use Rattle.feed_text.proofs.words.word_at.Tie as tie
+
+mul-p : tie.Need-mul-p
+mul-p c = search needs
+
+shared-slice-read-word-of : tie.Need-shared-slice-read-word-of
+shared-slice-read-word-of c = search needs
+
+add-word-of : tie.Need-add-word-of
+add-word-of c = search needs
+
+shared-slice-read-word-of-2 : tie.Need-shared-slice-read-word-of-2
+shared-slice-read-word-of-2 c = search needs
+
+add-word-of-2 : tie.Need-add-word-of-2
+add-word-of-2 c = search needs
+
+shared-slice-read-word-of-3 : tie.Need-shared-slice-read-word-of-3
+shared-slice-read-word-of-3 c = search needs
+
+add-word-of-3 : tie.Need-add-word-of-3
+add-word-of-3 c = search needs
+
+shared-slice-read-word-of-4 : tie.Need-shared-slice-read-word-of-4
+shared-slice-read-word-of-4 c = search needs
+
+word-of-requires : tie.Need-word-of-requires
+word-of-requires c κs = search needs
+
+returns : tie.Need-returns
+returns c =
+    let s = c .before .before .before .before .before .before in
+    c .word-of .ensures ∙ sym (word-at (s .args .bytes .now) (s .args .i) (s .pre))
+
+pub word-at-spec : {M : Type 1} → statement M
+word-at-spec =
+    tie.close
+    (tie.spec
+    mul-p
+    shared-slice-read-word-of
+    add-word-of
+    shared-slice-read-word-of-2
+    add-word-of-2
+    shared-slice-read-word-of-3
+    add-word-of-3
+    shared-slice-read-word-of-4
+    word-of-requires
+    returns)

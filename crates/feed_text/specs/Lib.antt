@@ -1,0 +1,4 @@
+pub mod Text
+pub mod Words
+pub mod Buffers
+pub mod Line

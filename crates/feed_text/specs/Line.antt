@@ -1,0 +1,78 @@
+-- The program's lines and their text; contracts and theorems cite them. Document 01, 'The program's lines'.
+use Prim.Native.Nat.{ℕ}
+use mathlib.Core.Bool.{Bool, true, false, cond, _||_}
+use mathlib.Core.List.{List, [], _∷_, _++_}
+use lib.Dec.{eqb}
+use Rattle.feed_text.specs.declared.Line.{Line}
+use Rattle.feed_text.specs.declared.Line.the-variants as line
+use Rattle.feed_text.specs.Text.{decimal, newline}
+
+-- The word at the start of each line, in ASCII, with the space or newline after it.
+-- "geometry "
+abbrev pub geometryWord : List ℕ
+geometryWord = 103 ∷ 101 ∷ 111 ∷ 109 ∷ 101 ∷ 116 ∷ 114 ∷ 121 ∷ 32 ∷ []
+
+-- "updated\n"
+abbrev pub updatedWord : List ℕ
+updatedWord = 117 ∷ 112 ∷ 100 ∷ 97 ∷ 116 ∷ 101 ∷ 100 ∷ 10 ∷ []
+
+-- "estimate "
+abbrev pub estimateWord : List ℕ
+estimateWord = 101 ∷ 115 ∷ 116 ∷ 105 ∷ 109 ∷ 97 ∷ 116 ∷ 101 ∷ 32 ∷ []
+
+-- "end "
+abbrev pub endWord : List ℕ
+endWord = 101 ∷ 110 ∷ 100 ∷ 32 ∷ []
+
+-- "refused "
+abbrev pub refusedWord : List ℕ
+refusedWord = 114 ∷ 101 ∷ 102 ∷ 117 ∷ 115 ∷ 101 ∷ 100 ∷ 32 ∷ []
+
+-- "stopped "
+abbrev pub stoppedWord : List ℕ
+stoppedWord = 115 ∷ 116 ∷ 111 ∷ 112 ∷ 112 ∷ 101 ∷ 100 ∷ 32 ∷ []
+
+-- " at "
+abbrev pub atWord : List ℕ
+atWord = 32 ∷ 97 ∷ 116 ∷ 32 ∷ []
+
+abbrev pub space : List ℕ
+space = 32 ∷ []
+
+-- the text of a line, and of lines one after another
+unfoldable pub text : Line → List ℕ
+text (line.Geometry d w) = geometryWord ++ decimal d ++ space ++ decimal w ++ newline
+text line.Updated = updatedWord
+text (line.Estimate v) = estimateWord ++ decimal v ++ newline
+text (line.End n) = endWord ++ decimal n ++ newline
+text (line.Refused s) = refusedWord ++ decimal s ++ newline
+text (line.Stopped s i) = stoppedWord ++ decimal s ++ atWord ++ decimal i ++ newline
+
+unfoldable pub texts : List Line → List ℕ
+texts [] = []
+texts (l ∷ ls) = text l ++ texts ls
+
+-- Numbers 1, 2, 4, 8 and 9 stop a feed.
+unfoldable pub stops : ℕ → Bool
+stops s = eqb s 1 || eqb s 2 || eqb s 4 || eqb s 8 || eqb s 9
+
+unfoldable pub rejectedLine : ℕ → ℕ → Line
+rejectedLine s i = cond (stops s) (line.Stopped s i) (line.Refused s)
+
+-- whether a record follows
+unfoldable pub continues : Line → Bool
+continues line.Updated = true
+continues (line.Estimate v) = true
+continues (line.Refused s) = true
+continues (line.Geometry d w) = true
+continues (line.End n) = false
+continues (line.Stopped s i) = false
+
+-- whether a line is the end's
+unfoldable pub isEnd : Line → Bool
+isEnd (line.End n) = true
+isEnd line.Updated = false
+isEnd (line.Estimate v) = false
+isEnd (line.Refused s) = false
+isEnd (line.Geometry d w) = false
+isEnd (line.Stopped s i) = false

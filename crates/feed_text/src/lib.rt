@@ -1,0 +1,94 @@
+// The program's lines and their text, put together by value, and words from bytes. No input or output.
+mod text;
+mod words;
+
+pub use text::Text;
+use text::begin;
+use text::pair;
+use text::single;
+pub use words::assemble;
+ghost use mathlib.Core.Path.{_≡_};
+ghost use Prim.Native.Nat.{_≤_};
+ghost use Rattle.feed_text.specs.Buffers.{content};
+ghost use Rattle.feed_text.specs.Line as spec;
+ghost use Rattle.feed_text.specs.Line.{isEnd};
+
+pub enum Line {
+    Geometry { d: usize, w: usize },
+    Updated,
+    Estimate { value: u64 },
+    End { records: u64 },
+    Refused { status: u8 },
+    Stopped { status: u8, index: u64 },
+}
+
+// Whether a record follows.
+pub fn continues(l: Line) -> bool
+    ensures { λ r. ⌜ r ≡ spec.continues l ⌝ }
+{
+    match l {
+        Line::Geometry { d: _, w: _ } => true,
+        Line::Updated => true,
+        Line::Estimate { value: _ } => true,
+        Line::End { records: _ } => false,
+        Line::Refused { status: _ } => true,
+        Line::Stopped {
+            status: _,
+            index: _,
+        } => false,
+    }
+}
+
+// Whether a line is the end's.
+pub fn is_end(l: Line) -> bool
+    ensures { λ r. ⌜ r ≡ isEnd l ⌝ }
+{
+    if let Line::End { records: _ } = l {
+        true
+    } else {
+        false
+    }
+}
+
+fn stops(status: u8) -> bool
+    ensures { λ r. ⌜ r ≡ spec.stops status ⌝ }
+{
+    if status == 1 {
+        return true;
+    }
+    if status == 2 {
+        return true;
+    }
+    if status == 4 {
+        return true;
+    }
+    if status == 8 {
+        return true;
+    }
+    status == 9
+}
+
+// The line of a call that was refused, by its number and the index of its word.
+pub fn rejected_line(status: u8, index: u64) -> Line
+    ensures { λ l. ⌜ l ≡ spec.rejectedLine status index ⌝ }
+{
+    if stops(status) {
+        return Line::Stopped { status, index };
+    }
+    Line::Refused { status }
+}
+
+// Each line begins with its word.
+pub fn text_of(l: Line) -> Text
+    ensures { λ t. ⌜ content t ≡ spec.text l ⌝ }
+    ensures { λ t. ⌜ t .length ≤ 64 ⌝ }
+{
+    match l {
+        Line::Geometry { d, w } => pair(b"geometry ", d as u64, b" ", w as u64),
+        Line::Updated => begin(b"updated\n"),
+        Line::Estimate { value } => single(b"estimate ", value),
+        Line::End { records } => single(b"end ", records),
+        Line::Refused { status } => single(b"refused ", status as u64),
+        Line::Stopped { status, index } => pair(b"stopped ", status as u64, b" at ", index),
+    }
+}
