@@ -5,11 +5,11 @@ pub use feed_head::head_width;
 use feed_records::Body;
 use feed_records::Opening;
 pub use feed_records::words_taken;
-use group::Answer;
+use answer::Answer;
 ghost use mathlib.Core.Path.{_≡_};
 ghost use Prim.Native.Nat.{_≤_};
 ghost use lib.ListN.{length};
-ghost use Rattle.geometry.specs.Order.{badShape, badKey};
+ghost use Rattle.geometry.specs.Checks.{badShape, badKey};
 ghost use Rattle.feed_records.specs.Answers.{bodyAnswer};
 ghost use Rattle.feed.specs.Answers.{recordAnswer};
 ghost use Rattle.feed_records.specs.Words.{updateBody, queryBody};
@@ -21,7 +21,7 @@ pub enum Recorded {
     Updated,
     Estimate { value: u64 },
     Ended,
-    Rejected { status: u8, position: u64 },
+    Refused { status: u8, position: u64 },
 }
 
 // The number, place and figure of a record.
@@ -29,36 +29,32 @@ pub fn answer(r: Recorded) -> Answer
     ensures { λ a. ⌜ a ≡ recordAnswer r ⌝ }
 {
     match r {
-        Recorded::Updated => geometry::answer(0, 0),
-        Recorded::Estimate { value } => geometry::answer(0, value),
-        Recorded::Ended => geometry::answer(0, 0),
-        Recorded::Rejected { status, position } => Answer {
-            status,
-            position,
-            value: 0,
-        },
+        Recorded::Updated => answer::accepted(0),
+        Recorded::Estimate { value } => answer::accepted(value),
+        Recorded::Ended => answer::accepted(0),
+        Recorded::Refused { status, position } => answer::refused_at(status, position),
     }
 }
 
-fn rejection(a: Answer) -> Recorded
-    ensures { λ r. ⌜ r ≡ spec.rejection a ⌝ }
+fn refusal(a: Answer) -> Recorded
+    ensures { λ r. ⌜ r ≡ spec.refusal a ⌝ }
 {
-    Recorded::Rejected {
+    Recorded::Refused {
         status: a.status,
         position: a.position,
     }
 }
 
-// A rejection by a faulty word.
+// A refusal by a faulty word.
 fn refused(b: Body) -> Recorded
-    ensures { λ r. ⌜ r ≡ spec.rejection (bodyAnswer b) ⌝ }
+    ensures { λ r. ⌜ r ≡ spec.refusal (bodyAnswer b) ⌝ }
 {
     match b {
-        Body::Sound { amount: _ } => Recorded::Rejected {
+        Body::Sound { amount: _ } => Recorded::Refused {
             status: 0,
             position: 0,
         },
-        Body::Refused { status, position } => Recorded::Rejected { status, position },
+        Body::Refused { status, position } => Recorded::Refused { status, position },
     }
 }
 
@@ -75,7 +71,7 @@ fn update(d: usize, w: usize, memory: &mut [u8], n: usize, words: &[u32]) -> Rec
     };
     let a = meter::update_checked(d, w, memory, &key[0..n], amount);
     if a.status != 0 {
-        return rejection(a);
+        return refusal(a);
     }
     Recorded::Updated
 }
@@ -92,7 +88,7 @@ fn query(d: usize, w: usize, memory: &[u8], n: usize, words: &[u32]) -> Recorded
     };
     let a = meter::estimate_checked(d, w, memory, &key[0..n]);
     if a.status != 0 {
-        return rejection(a);
+        return refusal(a);
     }
     Recorded::Estimate { value: a.value }
 }
@@ -105,7 +101,7 @@ pub fn record(d: usize, w: usize, memory: &mut [u8], before: u64, words: &[u32])
 {
     let bad = geometry::bad_shape(d, w, memory.len());
     if bad != 0 {
-        return Recorded::Rejected {
+        return Recorded::Refused {
             status: bad,
             position: 0,
         };
@@ -115,7 +111,7 @@ pub fn record(d: usize, w: usize, memory: &mut [u8], before: u64, words: &[u32])
         Opening::Update { length } => update(d, w, memory, length, words),
         Opening::Query { length } => query(d, w, memory, length, words),
         Opening::End => Recorded::Ended,
-        Opening::Refused { status } => Recorded::Rejected {
+        Opening::Refused { status } => Recorded::Refused {
             status,
             position: 0,
         },

@@ -8,12 +8,12 @@ use native.Mathlib.Omega.{arith}
 use lib.ListN.{length, take, drop, replicate, length-take, length-drop, length-append, length-replicate}
 use lib.Seq.{take-all, drop-append-le}
 use Rattle.geometry.specs.Geometry.{size}
-use Rattle.geometry.specs.Order.{badShape}
+use Rattle.geometry.specs.Checks.{badShape}
 use Rattle.feed_records.specs.Words.{wordsTaken}
 use Rattle.feed_records.proofs.Past.{some-taken}
 use Rattle.feed.specs.Head.{headDepth, headWidth, headed}
 use Rattle.feed.specs.Record.{Carried, recorded}
-use Rattle.feed.proofs.Past.{head-alone}
+use Rattle.feed_head.proofs.Laws.{head-alone}
 use Rattle.feed_text.specs.declared.Line.{Line}
 use Rattle.feed_text.specs.declared.Line.the-variants as line
 use Rattle.feed_text.specs.Words.{wholeWords}

@@ -11,9 +11,10 @@ use lib.Dec.{eqb, leb}
 use lib.ListN.{length}
 use types.Run.{OneOf}
 use denote.Enum.Declared.{tagOf}
-use Rattle.group.specs.declared.Answer.{Answer}
+use Rattle.answer.specs.declared.Answer.{Answer}
 use Rattle.geometry.specs.Geometry.{validDepth, validWidth, stride, size}
-use Rattle.geometry.specs.Order.{firstOf, badShape}
+use Rattle.answer.specs.Order.{firstOf}
+use Rattle.geometry.specs.Checks.{badShape}
 use Rattle.geometry.proofs.Widths.{depth-in}
 use Rattle.word.specs.Word.{headKind, stop, next, payload, isDue, tested, below}
 use Rattle.word.proofs.Laws.{due-in}

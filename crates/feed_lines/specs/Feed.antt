@@ -4,7 +4,7 @@ use mathlib.Core.Bool.{cond}
 use mathlib.Core.List.{List, [], _∷_}
 use lib.ListN.{length, drop, replicate}
 use Rattle.geometry.specs.Geometry.{size}
-use Rattle.word.specs.Word.{badWord}
+use Rattle.answer.specs.Numbers.{badWord}
 use Rattle.feed_records.specs.Words.{wordsTaken}
 use Rattle.feed.specs.Head.{headDepth, headWidth, headed}
 use Rattle.feed.specs.Record.{recorded}

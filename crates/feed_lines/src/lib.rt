@@ -1,12 +1,12 @@
 // A feed's run without its input and output: the head's line, a cleared meter, and one step for each record and the end.
 use feed::Recorded;
 use feed_text::Line;
-use group::Answer;
+use answer::Answer;
 ghost use mathlib.Core.Path.{_≡_};
 ghost use Prim.Native.Nat.{_+_, _^_, _<_, _≤_};
 ghost use lib.ListN.{length, replicate};
 ghost use Rattle.geometry.specs.Geometry as geometry;
-ghost use Rattle.geometry.specs.Order.{badShape};
+ghost use Rattle.geometry.specs.Checks.{badShape};
 ghost use Rattle.feed.specs.Answers.{recordAnswer};
 ghost use Rattle.feed.specs.Head.{headed};
 ghost use Rattle.feed.specs.Record.{recorded};
@@ -82,8 +82,8 @@ fn line_of(r: Recorded, before: u64, records: u64) -> Line
         Recorded::Updated => Line::Updated,
         Recorded::Estimate { value } => Line::Estimate { value },
         Recorded::Ended => Line::End { records },
-        Recorded::Rejected { status, position } => {
-            feed_text::rejected_line(status, before + position)
+        Recorded::Refused { status, position } => {
+            feed_text::refused_line(status, before + position)
         }
     }
 }

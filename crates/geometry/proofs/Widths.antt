@@ -1,4 +1,4 @@
--- Laws of widths and of the order of rejections.
+-- Laws of widths and of the order of refusals.
 use mathlib.Core.Path.{_≡_, refl, sym, ap, _∙_}
 use mathlib.Core.Bool.{Bool, true, false, true≢false, or-true, and-eq-true-iff}
 use mathlib.Core.Logic.{⊎-elim}
@@ -15,8 +15,8 @@ use lib.Pow.{pow-add, pow-mono, pow-lt}
 use Rattle.laws.proofs.Tests.{or-cases}
 use Rattle.laws.proofs.Tests.{both-ways}
 use Rattle.geometry.specs.Geometry.{oneOfPowers, validDepth, validWidth, stride, size, RowsIn}
-use Rattle.geometry.specs.Order.{firstOf, unless, badShape, earlier, answerOf}
-use Rattle.group.specs.Status.{rejected}
+use Rattle.answer.specs.Order.{firstOf, unless}
+use Rattle.geometry.specs.Checks.{badShape}
 
 shift : (p i : ℕ) → p * 2 * 2 ^ i ≡ p * 2 ^ suc i
 shift p i = mul-assoc p 2 (2 ^ i) ∙ ap (λ (x : ℕ). p * x) (mul-comm 2 (2 ^ i) ∙ sym (pow-suc 2 i))
@@ -51,30 +51,28 @@ is-width k h l =
     let e : 2 ^ k ≡ 32 * 2 ^ (k - 5) = ap (λ (n : ℕ). 2 ^ n) (omega arith) ∙ pow-add 2 5 (k - 5) in
     rw e (are-powers 12 32 (k - 5) (omega arith))
 
--- what follows from it
+-- what a valid width has: the one place for it, which the crates above cite
 pub record Wide (w : ℕ) : Type 0 where
   pub low : 32 ≤ w
   pub high : w ≤ 65536
-  pub eights : w % 8 ≡ 0
   pub whole : w % 32 ≡ 0
+  pub eights : w % 8 ≡ 0
   pub shares : 2 ^ 32 % w ≡ 0
 
 pub wide : (w : ℕ) → validWidth w ≡ true → Wide w
 wide w e =
     let r = width-is w e in
     let k = r .0 in
-    let three : k ≡ k - 3 + 3 = omega (arith, r .1) in
     let five : k ≡ k - 5 + 5 = omega (arith, r .1) in
     let rest : 32 ≡ 32 - k + k = omega (arith, r .2) in
-    let by-eight : 2 ^ k ≡ 2 ^ (k - 3) * 8 = ap (λ (n : ℕ). 2 ^ n) three ∙ pow-add 2 (k - 3) 3 in
-    let by-whole : 2 ^ k ≡ 2 ^ (k - 5) * 32 = ap (λ (n : ℕ). 2 ^ n) five ∙ pow-add 2 (k - 5) 5 in
+    let by-32 : 2 ^ k ≡ 2 ^ (k - 5) * 32 = ap (λ (n : ℕ). 2 ^ n) five ∙ pow-add 2 (k - 5) 5 in
     let shared : 2 ^ 32 ≡ 2 ^ (32 - k) * 2 ^ k = ap (λ (n : ℕ). 2 ^ n) rest ∙ pow-add 2 (32 - k) k in
     rw (r .3)
     (record {
       low = pow-mono {i = 5} {j = k} (r .1);
       high = pow-mono {i = k} {j = 16} (r .2);
-      eights = rw by-eight (mul-mod-left (2 ^ (k - 3)) 8);
-      whole = rw by-whole (mul-mod-left (2 ^ (k - 5)) 32);
+      whole = omega (arith, by-32);
+      eights = omega (arith, by-32);
       shares = rw shared (mul-mod-left (2 ^ (32 - k)) (2 ^ k));
     })
 
@@ -117,49 +115,6 @@ width-test w l h =
 pub stride-is : (w : ℕ) → stride w ≡ w + w / 8
 unfolding stride
 stride-is w = omega arith
-
--- tests in checking order, taken in two parts
-pub first-rest : (xs ys : List ℕ) → firstOf xs ≡ 0 → firstOf (xs ++ ys) ≡ firstOf ys
-unfolding firstOf
-first-rest [] ys e = refl
-first-rest (zero ∷ xs) ys e = first-rest xs ys e
-first-rest (suc s ∷ xs) ys e = absurd (omega arith)
-
-pub first-part : (xs ys : List ℕ) → 0 < firstOf xs → firstOf (xs ++ ys) ≡ firstOf xs
-unfolding firstOf
-first-part [] ys e = absurd (omega arith)
-first-part (zero ∷ xs) ys e = first-part xs ys e
-first-part (suc s ∷ xs) ys e = refl
-
-pub first-one : (s : ℕ) → firstOf (s ∷ []) ≡ s
-unfolding firstOf
-first-one zero = refl
-first-one (suc s) = refl
-
-pub earlier-none : (a : ℕ) → earlier a 0 ≡ a
-unfolding earlier
-earlier-none zero = refl
-earlier-none (suc a) = refl
-
-pub earlier-least : (a b : ℕ) → 0 < a → 0 < b → earlier a b ≡ min a b
-unfolding earlier
-earlier-least zero b h k = absurd (omega arith)
-earlier-least (suc a) zero h k = absurd (omega arith)
-earlier-least (suc a) (suc b) h k = refl
-
--- which of several groups' answers comes first does not depend on how they are taken together
-pub earlier-assoc : (a b c : ℕ) → earlier (earlier a b) c ≡ earlier a (earlier b c)
-unfolding earlier
-earlier-assoc zero b c = refl
-earlier-assoc (suc a) zero c = refl
-earlier-assoc (suc a) (suc b) zero = earlier-none (min (suc a) (suc b))
-earlier-assoc (suc a) (suc b) (suc c) =
-    rw (earlier-least (min (suc a) (suc b)) (suc c) (omega arith) (omega arith), earlier-least (suc a) (min (suc b) (suc c)) (omega arith) (omega arith)) (omega arith)
-
-pub answer-rejected : (s v : ℕ) → (s ≡ 0 → ⊥) → rejected s ≡ answerOf s v
-unfolding answerOf
-answer-rejected zero v h = absurd (h refl)
-answer-rejected (suc s) v h = refl
 
 pub depth-in : (d : ℕ) → validDepth d ≡ true → (1 ≤ d) × (d ≤ 8)
 unfolding validDepth

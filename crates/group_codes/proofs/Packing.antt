@@ -13,7 +13,8 @@ use Rattle.group_layout.specs.Code.{layouts, mergedCode, code, uncode}
 use Rattle.group_layout.proofs.Laws.{layout-marks, marks-layout, valid-marks}
 use Rattle.group_layout.proofs.Codes.{code-lt, uncode-code, code-uncode}
 use Rattle.group.specs.Group.{validMerge}
-use Rattle.group.specs.Status.{invalidMerge, badPayload, accepted, rejected}
+use Rattle.answer.specs.Answers.{accepted, refused}
+use Rattle.answer.specs.Numbers.{invalidMerge, badPayload}
 use Rattle.group_codes.specs.declared.Unpacked.{Unpacked}
 use Rattle.group_codes.specs.Pack.{layoutsOf, mergeCode, codeMerge, codeOfFour, fourCode, packed, fourMerges, unpacked}
 use Rattle.group_codes.specs.Codes.{codeOf, isCode, fourOf, codesOf, mergesOf}
@@ -99,7 +100,7 @@ pub packed-lt : (a b c d : ℕ) → packed a b c d .value < layoutsOf 4
 unfolding packed
 packed-lt a b c d = go (validMerge a && validMerge b && validMerge c && validMerge d)
   where
-    go : (t : Bool) → cond t (accepted (fourCode a b c d)) (rejected invalidMerge) .value < layoutsOf 4
+    go : (t : Bool) → cond t (accepted (fourCode a b c d)) (refused invalidMerge) .value < layoutsOf 4
     go true = four-below a b c d
     go false = omega arith
 
@@ -118,7 +119,7 @@ four-of a b c d =
     go (mergeCode a) (mergeCode b) (mergeCode c) (mergeCode d) (code-below a) (code-below b) (code-below c) (code-below d) (validMerge a) (validMerge b) (validMerge c) (validMerge d)
   where
     go : (w x y z : ℕ) → w < 26 → x < 26 → y < 26 → z < 26 → (p q r s : Bool)
-        → cond (p && q && r && s) (accepted (codeOfFour w x y z)) (rejected invalidMerge) .value
+        → cond (p && q && r && s) (accepted (codeOfFour w x y z)) (refused invalidMerge) .value
         ≡ cond (isCode (cond p w 26) && isCode (cond q x 26) && isCode (cond r y 26) && isCode (cond s z 26))
         (codeOfFour (cond p w 26) (cond q x 26) (cond r y 26) (cond s z 26)) 0
     go w x y z hw hx hy hz false q r s = refl
@@ -140,7 +141,7 @@ codes-are c = go (ltb c (layoutsOf 4))
   where
     go : (b : Bool)
         → mergesOf (cond b (c / layoutsOf 3 ∷ c / layoutsOf 2 % layoutsOf 1 ∷ c / layoutsOf 1 % layoutsOf 1 ∷ c % layoutsOf 1 ∷ []) (0 ∷ 0 ∷ 0 ∷ 0 ∷ []))
-        ≡ cond {A = Unpacked} b (record { answer = accepted 0; merges = fourMerges c }) (record { answer = rejected badPayload; merges = 0 ∷ 0 ∷ 0 ∷ 0 ∷ [] }) .merges
+        ≡ cond {A = Unpacked} b (record { answer = accepted 0; merges = fourMerges c }) (record { answer = refused badPayload; merges = 0 ∷ 0 ∷ 0 ∷ 0 ∷ [] }) .merges
     go true = refl
     go false = rw merge-none
 

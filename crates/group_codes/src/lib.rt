@@ -1,5 +1,5 @@
 // Layout codes of a group and of four groups.
-use group::Answer;
+use answer::Answer;
 ghost use mathlib.Core.Path.{_≡_};
 ghost use mathlib.Core.Bool.{_&&_};
 ghost use Rattle.group.specs.Group.{validMerge};
@@ -15,7 +15,7 @@ const THREE_LAYOUTS: u32 = LAYOUTS * TWO_LAYOUTS;
 
 pub const FOUR_LAYOUTS: u32 = LAYOUTS * THREE_LAYOUTS;
 
-// The merge bytes of four groups; all 0 if rejected.
+// The merge bytes of four groups; all 0 if refused.
 pub struct Unpacked {
     pub answer: Answer,
     pub merges: [u8; 4],
@@ -26,9 +26,9 @@ pub fn code(merge: u8) -> Answer
     ensures { λ r. ⌜ r ≡ groupCode merge ⌝ }
 {
     if !group::is_valid(merge) {
-        return group::rejected(group::INVALID_MERGE);
+        return answer::refused(answer::INVALID_MERGE);
     }
-    group::accepted(group_layout::code(3, merge) as u64)
+    answer::accepted(group_layout::code(3, merge) as u64)
 }
 
 fn four_valid(a: u8, b: u8, c: u8, d: u8) -> bool
@@ -49,11 +49,11 @@ pub fn pack(a: u8, b: u8, c: u8, d: u8) -> Answer
     ensures { λ r. ⌜ r ≡ packed a b c d ⌝ }
 {
     if !four_valid(a, b, c, d) {
-        return group::rejected(group::INVALID_MERGE);
+        return answer::refused(answer::INVALID_MERGE);
     }
     let high = group_layout::code(3, a) * THREE_LAYOUTS + group_layout::code(3, b) * TWO_LAYOUTS;
     let three = high + group_layout::code(3, c) * LAYOUTS;
-    group::accepted((three + group_layout::code(3, d)) as u64)
+    answer::accepted((three + group_layout::code(3, d)) as u64)
 }
 
 // The merge bytes of the four groups that a layout code stands for.
@@ -62,7 +62,7 @@ pub fn unpack(code: u32) -> Unpacked
 {
     if FOUR_LAYOUTS <= code {
         return Unpacked {
-            answer: group::rejected(group::BAD_PAYLOAD),
+            answer: answer::refused(answer::BAD_PAYLOAD),
             merges: [0; 4],
         };
     }
@@ -71,7 +71,7 @@ pub fn unpack(code: u32) -> Unpacked
     let c = group_layout::unpack(3, code / LAYOUTS % LAYOUTS);
     let d = group_layout::unpack(3, code % LAYOUTS);
     Unpacked {
-        answer: group::accepted(0),
+        answer: answer::accepted(0),
         merges: [a, b, c, d],
     }
 }

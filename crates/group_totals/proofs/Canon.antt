@@ -13,10 +13,10 @@ use Rattle.group_layout.specs.Layout.{widest}
 use Rattle.group_block.specs.Kind.{ordinary}
 use Rattle.group_block.specs.Block.{Block, counter, split, cap, Fits, shape, counterAt, total}
 use Rattle.group_block.specs.Sum.{Sum, fits, over, sumTotal, held, join, add, unite}
-use Rattle.group_block.specs.Counts.{Adds, Counts, valueAt, levelAt}
+use Rattle.group_block.specs.Counts.{Adds, Counts}
 use Rattle.group_block.proofs.Laws.{cap-double}
 use Rattle.group_block.proofs.Sides.{half, by-half}
-use Rattle.group_block.proofs.Counting.{total-counts, value-counts}
+use Rattle.group_block.proofs.Counting.{total-counts, value-counts, counter-at}
 
 -- whether a counter of level n holds the total of block i of that level; `totals n i` is that total
 unfoldable pub small : (ℕ → ℕ → ℕ) → ℕ → ℕ → Bool
@@ -178,12 +178,6 @@ module _ (t u v : ℕ → ℕ → ℕ) (adds-t : Adds ordinary t) (adds-u : Adds
       (sym (sum-merged v n i (λ x y. l (omega (arith, sum n (2 * i))) (omega (arith, sum n (2 * i + 1))))))))
       (λ l. rw (canon-total u adds-u (suc n) i, ← sum (suc n) i)
       (sym (sum-merged v n i (λ x y. l (omega (arith, sum n (2 * i))) (omega (arith, sum n (2 * i + 1)))))))
-
--- the counter of a slot, by its value and its level
-counter-at : {n : ℕ} (b : Block n) (k : ℕ) → counterAt b k ≡ record { value = valueAt b k; level = levelAt b k }
-unfolding counterAt valueAt levelAt
-counter-at (counter v) k = refl
-counter-at (split {n} l r) k = cases (ltb k (2 ^ n)) (λ e. rw e (counter-at l k)) (λ e. rw e (counter-at r (k - 2 ^ n)))
 
 module _ (t : ℕ → ℕ → ℕ) where
   -- a slot's counter holds the total of the block of its level that the slot is in

@@ -6,13 +6,15 @@ use Prim.Native.Nat.{ℕ, zero, suc, _*_, _≤_, _<_}
 use borrow.Author.Tests.{eq-eqb, ne-eqb, le-leb, lt-leb}
 use lib.Dec.{leb}
 use lib.ListN.{length, drop}
-use Rattle.group.specs.Status.{invalidMerge, accepted, rejected}
+use Rattle.answer.specs.Answers.{accepted, refused}
+use Rattle.answer.specs.Numbers.{invalidMerge, tooFewWords}
 use Rattle.geometry.specs.Geometry.{stride, size}
-use Rattle.geometry.specs.Order.{unless, firstOf, badShape}
+use Rattle.answer.specs.Order.{unless, firstOf}
+use Rattle.geometry.specs.Checks.{badShape}
 use Rattle.geometry.proofs.Widths.{Wide, wide, shape-good}
 use Rattle.word.specs.declared.Step.{Step}
 use Rattle.image_format.specs.Image.{image}
-use Rattle.image_format.specs.Write.{tooFewWords, validRows, writeStatus, finishWrite, written}
+use Rattle.image_format.specs.Write.{validRows, writeStatus, finishWrite, written}
 use Rattle.image_format.specs.Read.{checked, readRows, finishRead, readAfter, taken}
 
 -- a call whose depth, width and memory have passed
@@ -29,21 +31,21 @@ sound-call d w n e =
     record { deep = s .0; depth = s .1 .1; width = wide w (s .1 .0); long = s .1 .2 }
 
 module _ (d w : ℕ) (memory words : List ℕ) where
-  pub write-call : (s : ℕ) → s ≡ badShape d w (length memory) → (s ≡ 0 → ⊥) → written d w memory words ≡ record { answer = rejected s; words = words }
+  pub write-call : (s : ℕ) → s ≡ badShape d w (length memory) → (s ≡ 0 → ⊥) → written d w memory words ≡ record { answer = refused s; words = words }
   unfolding written writeStatus firstOf finishWrite
   write-call s e h = rw (← e) (go s h)
     where
       go : (s : ℕ) → (s ≡ 0 → ⊥)
-          → finishWrite (firstOf (s ∷ unless (validRows d w memory) invalidMerge ∷ unless (leb (length (image d w memory)) (length words)) tooFewWords ∷ [])) (image d w memory) words ≡ record { answer = rejected s; words = words }
+          → finishWrite (firstOf (s ∷ unless (validRows d w memory) invalidMerge ∷ unless (leb (length (image d w memory)) (length words)) tooFewWords ∷ [])) (image d w memory) words ≡ record { answer = refused s; words = words }
       go zero h = absurd (h refl)
       go (suc s) h = refl
 
   module _ (s : ℕ) (e : s ≡ badShape d w (length memory)) (z : s ≡ 0) where
-    pub write-invalid : validRows d w memory ≡ false → written d w memory words ≡ record { answer = rejected invalidMerge; words = words }
+    pub write-invalid : validRows d w memory ≡ false → written d w memory words ≡ record { answer = refused invalidMerge; words = words }
     unfolding written writeStatus firstOf finishWrite
     write-invalid v = rw (← e, z, v)
 
-    pub write-short : validRows d w memory ≡ true → length words < length (image d w memory) → written d w memory words ≡ record { answer = rejected tooFewWords; words = words }
+    pub write-short : validRows d w memory ≡ true → length words < length (image d w memory) → written d w memory words ≡ record { answer = refused tooFewWords; words = words }
     unfolding written writeStatus firstOf finishWrite
     write-short v l = rw (← e, z, v, lt-leb (length (image d w memory)) (length words) l)
 
@@ -52,11 +54,11 @@ module _ (d w : ℕ) (memory words : List ℕ) where
     unfolding written writeStatus firstOf finishWrite
     write-done v l = rw (← e, z, v, le-leb (length (image d w memory)) (length words) l)
 
-  pub read-call : (s : ℕ) → s ≡ badShape d w (length memory) → (s ≡ 0 → ⊥) → taken d w memory words ≡ record { answer = rejected s; memory = memory }
+  pub read-call : (s : ℕ) → s ≡ badShape d w (length memory) → (s ≡ 0 → ⊥) → taken d w memory words ≡ record { answer = refused s; memory = memory }
   unfolding taken readAfter
   read-call s e h = rw (← e) (go s h)
     where
-      go : (s : ℕ) → (s ≡ 0 → ⊥) → readAfter s d w memory words ≡ record { answer = rejected s; memory = memory }
+      go : (s : ℕ) → (s ≡ 0 → ⊥) → readAfter s d w memory words ≡ record { answer = refused s; memory = memory }
       go zero h = absurd (h refl)
       go (suc s) h = refl
 

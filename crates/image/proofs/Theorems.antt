@@ -15,15 +15,16 @@ use lib.ListN.{length, take, drop, length-drop, length-append, drop-of-length-le
 use lib.Pow.{pow-add, pow-pos}
 use lib.Seq.{take-append-seam}
 use Rattle.laws.proofs.Lists.{Bytes}
-use Rattle.group.specs.Status.{badPayload, accepted}
+use Rattle.answer.specs.Answers.{accepted, Done}
+use Rattle.answer.specs.Numbers.{badPayload, badWord, otherMeter}
 use Rattle.geometry.specs.Geometry.{validWidth}
-use Rattle.geometry.specs.Order.{badShape, Done}
+use Rattle.geometry.specs.Checks.{badShape}
 use Rattle.geometry.proofs.Widths.{width-is}
 use Rattle.word.specs.declared.Step.{Step}
-use Rattle.word.specs.Word.{headKind, endKind, go, stop, badWord, next, payload, tested, below}
+use Rattle.word.specs.Word.{headKind, endKind, go, stop, next, payload, tested, below}
 use Rattle.image_format.specs.Image.{word, headPayload, rowsWords, body, endWord, image}
 use Rattle.image_format.specs.Write.{validRows, Written, written}
-use Rattle.image_format.specs.Read.{otherMeter, checkHead, checkFours, checkEnd, checked, readRows, taken}
+use Rattle.image_format.specs.Read.{checkHead, checkFours, checkEnd, checked, readRows, taken}
 use Rattle.image.specs.Meters.{Meter, IsImage}
 use Rattle.image.proofs.Calls.{Sound, sound-call, write-call, write-invalid, write-short, write-done, read-call, read-faulty, read-done}
 use Rattle.image_format.proofs.Laws.{log-width-most}

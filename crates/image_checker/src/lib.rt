@@ -30,7 +30,7 @@ fn check_head(words: &[u32], d: usize, w: usize) -> Step
         0,
         word::HEAD,
         payload(words, 0) == log_width(w) * 16 + d as u32,
-        image_format::OTHER_METER,
+        answer::OTHER_METER,
     )
 }
 
@@ -246,13 +246,13 @@ fn check_end(words: &[u32], p: usize) -> Step
         p,
         word::END,
         payload(words, p) == (p % 268435456) as u32,
-        group::BAD_PAYLOAD,
+        answer::BAD_PAYLOAD,
     );
     if s.status != 0 {
         return s;
     }
     if words.len() != s.position {
-        return stop(word::BAD_WORD, s.position);
+        return stop(answer::BAD_WORD, s.position);
     }
     s
 }

@@ -4,16 +4,14 @@ use mathlib.Core.Bool.{Bool, true, cond, _&&_}
 use mathlib.Core.List.{List, [], _∷_, _++_}
 use lib.Dec.{leb}
 use lib.ListN.{length, take, drop}
-use Rattle.group.specs.declared.Answer.{Answer}
+use Rattle.answer.specs.declared.Answer.{Answer}
 use Rattle.group.specs.Group.{validMerge}
-use Rattle.group.specs.Status.{invalidMerge, accepted, rejected}
+use Rattle.answer.specs.Answers.{accepted, refused}
+use Rattle.answer.specs.Numbers.{invalidMerge, tooFewWords}
 use Rattle.geometry.specs.Geometry.{stride}
-use Rattle.geometry.specs.Order.{unless, firstOf, badShape}
+use Rattle.answer.specs.Order.{unless, firstOf}
+use Rattle.geometry.specs.Checks.{badShape}
 use Rattle.image_format.specs.Image.{wordsOf, levelAt, isFirst, image}
-
--- line 7
-abbrev pub tooFewWords : ℕ
-tooFewWords = 7
 
 -- whether all of these merge bytes are valid
 unfoldable pub allValid : List ℕ → Bool
@@ -50,7 +48,7 @@ writeStatus d w memory words =
 -- Lent words past the image stay.
 unfoldable pub finishWrite : ℕ → List ℕ → List ℕ → Written
 finishWrite zero new words = record { answer = accepted (length new); words = new ++ drop (length new) words }
-finishWrite (suc s) new words = record { answer = rejected (suc s); words = words }
+finishWrite (suc s) new words = record { answer = refused (suc s); words = words }
 
 unfoldable pub written : ℕ → ℕ → List ℕ → List ℕ → Written
 written d w memory words = finishWrite (writeStatus d w memory words) (image d w memory) words

@@ -7,7 +7,7 @@ use Prim.Native.Nat.{ℕ, _+_, _-_, _*_, _^_, _≤_, _<_}
 use native.Mathlib.Omega.{arith}
 use lib.ListN.{length, take, drop, replicate, length-append, length-take, length-drop}
 use Rattle.geometry.specs.Geometry.{size}
-use Rattle.geometry.specs.Order.{badShape}
+use Rattle.geometry.specs.Checks.{badShape}
 use Rattle.feed_records.proofs.Past.{some-taken}
 use Rattle.feed.specs.Head.{headed}
 use Rattle.feed.specs.Record.{recorded}

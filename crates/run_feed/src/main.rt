@@ -11,7 +11,7 @@ ghost use mathlib.Core.List.{_++_};
 ghost use Prim.Native.Nat.{_+_, _*_, _^_, _≤_, _<_};
 ghost use lib.ListN.{length, take, drop, replicate};
 ghost use Rattle.geometry.specs.Geometry.{size};
-ghost use Rattle.geometry.specs.Order.{badShape};
+ghost use Rattle.geometry.specs.Checks.{badShape};
 ghost use Rattle.feed.specs.Head.{headed};
 ghost use Rattle.feed.specs.Record.{recorded};
 ghost use Rattle.feed_text.specs.Words.{wholeWords};

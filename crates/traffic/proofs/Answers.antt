@@ -10,12 +10,13 @@ use lib.ListN.{length}
 use lib.Pow.{pow-pos, shl-shr}
 use Rattle.group.specs.declared.Group.{Group}
 use Rattle.group.specs.declared.Reading.{Reading}
-use Rattle.group.specs.Status.{accepted}
+use Rattle.answer.specs.Answers.{accepted, answerOf}
 use Rattle.hash.specs.Hash.{basis}
 use Rattle.group.specs.Group.{read, widestOf}
 use Rattle.group_totals.proofs.Groups.{groupOf, widest-status, widest-most, widest-cause, read-status, read-level, read-value, wider}
 use Rattle.geometry.specs.Geometry.{validDepth, validWidth, stride, size}
-use Rattle.geometry.specs.Order.{firstOf, earliest, badShape, badKey, answerOf}
+use Rattle.answer.specs.Order.{firstOf, earliest}
+use Rattle.geometry.specs.Checks.{badShape, badKey}
 use Rattle.geometry.specs.Rows.{ofRows, ofGroups, least, largest}
 use Rattle.meter_keys.specs.Keys.{keySlot}
 use Rattle.meter_row.specs.Row.{readRow, levelStatus, levelAt, widestStatus, widestRow}

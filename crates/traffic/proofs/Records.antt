@@ -7,8 +7,8 @@ use native.Mathlib.Omega.{arith}
 use borrow.Author.Tests.{eqb-true, eqb-false}
 use lib.Dec.{ltb, eqb, eqb·suc-zero}
 use lib.ListN.{length, getD}
-use Rattle.group.specs.declared.Answer.{Answer}
-use Rattle.geometry.specs.Order.{badShape, badKey}
+use Rattle.answer.specs.declared.Answer.{Answer}
+use Rattle.geometry.specs.Checks.{badShape, badKey}
 use Rattle.meter.specs.Meter.{updated, estimated}
 use Rattle.word.specs.Word.{endKind, payload, isDue}
 use Rattle.feed.specs.declared.Recorded.{Recorded}
@@ -27,7 +27,7 @@ module _ (d w : ℕ) (memory : List ℕ) (before : ℕ) (words : List ℕ) where
 
   -- to prove a thing of what the call does, prove it of a refusal, an update, a query and the end
   module _ (P : Carried → Type 0)
-      (rejects : (s p : ℕ) → eqb s 0 ≡ false → P (record { outcome = case.Rejected s p; memory = memory }))
+      (refuses : (s p : ℕ) → eqb s 0 ≡ false → P (record { outcome = case.Refused s p; memory = memory }))
       (updates : isDue words 0 updateKind ≡ true → P (record { outcome = outcomeOf (updated d w memory key amount .answer) case.Updated; memory = updated d w memory key amount .memory }))
       (queries : isDue words 0 updateKind ≡ false → isDue words 0 queryKind ≡ true → P (record { outcome = outcomeOf (estimated d w memory key) (case.Estimate (estimated d w memory key .value)); memory = memory }))
       (ends : isDue words 0 updateKind ≡ false → isDue words 0 queryKind ≡ false → P (record { outcome = case.Ended; memory = memory })) where
@@ -38,23 +38,23 @@ module _ (d w : ℕ) (memory : List ℕ) (before : ℕ) (words : List ℕ) where
         cases (isDue words 0 updateKind)
         (λ u. rw u
         (cases (eqb (badKey n) 0)
-        (λ k. rw k (cases (eqb (updateStep n words .status) 0) (λ s. rw s (updates u)) (λ s. rw s (rejects (updateStep n words .status) (updateStep n words .position) s))))
-        (λ k. rw k (rejects (badKey n) 0 k))))
+        (λ k. rw k (cases (eqb (updateStep n words .status) 0) (λ s. rw s (updates u)) (λ s. rw s (refuses (updateStep n words .status) (updateStep n words .position) s))))
+        (λ k. rw k (refuses (badKey n) 0 k))))
         (λ u. rw u
         (cases (isDue words 0 queryKind)
         (λ q. rw q
         (cases (eqb (badKey n) 0)
-        (λ k. rw k (cases (eqb (queryStep n words .status) 0) (λ s. rw s (queries u q)) (λ s. rw s (rejects (queryStep n words .status) (queryStep n words .position) s))))
-        (λ k. rw k (rejects (badKey n) 0 k))))
+        (λ k. rw k (cases (eqb (queryStep n words .status) 0) (λ s. rw s (queries u q)) (λ s. rw s (refuses (queryStep n words .status) (queryStep n words .position) s))))
+        (λ k. rw k (refuses (badKey n) 0 k))))
         (λ q. rw q
         (cases (isDue words 0 endKind)
-        (λ e. rw e (cases (eqb n (before % 2 ^ 28)) (λ b. rw b (ends u q)) (λ b. rw b (rejects 9 0 refl))))
-        (λ e. rw e (rejects 8 0 refl))))))
+        (λ e. rw e (cases (eqb n (before % 2 ^ 28)) (λ b. rw b (ends u q)) (λ b. rw b (refuses 9 0 refl))))
+        (λ e. rw e (refuses 8 0 refl))))))
 
     after : (s : ℕ) → P (carriedAfter s d w memory before words)
     unfolding carriedAfter
     after zero = sound
-    after (suc s) = rejects (suc s) 0 (eqb·suc-zero s)
+    after (suc s) = refuses (suc s) 0 (eqb·suc-zero s)
 
     pub record-cases : P (recorded d w memory before words)
     unfolding recorded

@@ -1,7 +1,7 @@
 -- A list of calls that fills a counter, with what the next calls give. Cited by theorems.
 use Prim.Native.Nat.{ℕ, zero, suc, _-_, _^_}
 use mathlib.Core.Path.{_≡_}
-use Rattle.group.specs.Status.{accepted}
+use Rattle.answer.specs.Answers.{accepted}
 use Rattle.traffic.specs.Traffic.{lower}
 use Rattle.traffic.specs.Calls.{Call, Calls, none, update, estimate, unite, feed, from, traffic, Faithful}
 use Rattle.traffic.specs.Claim.{answerTo}

@@ -2,7 +2,7 @@ use mathlib.Core.Path.{_≡_, sym, ap, _∙_}
 use mathlib.Core.Bool.{true, false}
 use borrow.Author.Tests.{not-true, not-false}
 use Rattle.group.specs.Group.{validMerge}
-use Rattle.group.specs.Status.{accepted}
+use Rattle.answer.specs.Answers.{accepted}
 use Rattle.group_codes.specs.Pack.{groupCode}
 use borrow.Author.Needs.{needs}
 use Rattle.group_codes.proofs.code.Statement.{statement}
@@ -11,13 +11,13 @@ use Rattle.group_codes.proofs.code.Tie as tie
 is-valid-requires : tie.Need-is-valid-requires
 is-valid-requires c κs = search needs
 
-rejected-requires : tie.Need-rejected-requires
-rejected-requires c κs = search needs
+refused-requires : tie.Need-refused-requires
+refused-requires c κs = search needs
 
 returns : tie.Need-returns
 unfolding groupCode
 returns c = let v : validMerge (c .before .before .before .args .merge) ≡ false = sym (c .before .before .is-valid .ensures) ∙ not-true _ (c .before .if1 .taken) in
-    rw v (c .rejected .ensures)
+    rw v (c .refused .ensures)
 
 code-requires : tie.Need-code-requires
 code-requires c κs = search needs
@@ -38,7 +38,7 @@ code-spec =
     tie.close
     (tie.spec
     is-valid-requires
-    rejected-requires
+    refused-requires
     returns
     code-requires
     cast-accepted

@@ -3,7 +3,7 @@ use mathlib.Core.Path.{_≡_, refl, ap, _∙_}
 use native.Mathlib.Omega.{arith}
 use borrow.Author.Tests.{not-true, not-false}
 use lib.ListN.{length}
-use Rattle.geometry.specs.Order.{badShape}
+use Rattle.geometry.specs.Checks.{badShape}
 use Rattle.run_feed.proofs.Runs.{ran-from, meter-stopped, meter-ended}
 use Rattle.run_feed.proofs.run_meter.Statement.{statement}
 use Rattle.run_feed.proofs.run_meter.Tie as tie

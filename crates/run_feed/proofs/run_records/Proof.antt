@@ -5,7 +5,7 @@ use native.Mathlib.Omega.{arith}
 use lib.ListN.{length}
 use borrow.Author.Tests.{not-true, not-false}
 use borrow.Author.Needs.{needs}
-use Rattle.geometry.specs.Order.{badShape}
+use Rattle.geometry.specs.Checks.{badShape}
 use Rattle.run_feed.specs.Buffers.{Within}
 use Rattle.run_feed.specs.Run.{Ran}
 use Rattle.run_feed.proofs.Runs.{ran-none, ran-then}
