@@ -13,23 +13,23 @@ pub fn write(d: usize, w: usize, memory: &[u8], words: &mut [u32]) -> Answer
 {
     let status = geometry::bad_shape(d, w, memory.len());
     if status != 0 {
-        return refused(status, 0);
+        return answer::refused(status);
     }
     if !image_writer::rows_valid(memory, d, w) {
-        return refused(answer::INVALID_MERGE, 0);
+        return answer::refused(answer::INVALID_MERGE);
     }
     let n = image_writer::table_size(memory, w);
     let sizes = image_format::size_table(n);
     let count = image_writer::rows_size(memory, d, w, &sizes[0..n]) + 2;
     if words.len() < count {
-        return refused(answer::TOO_FEW_WORDS, 0);
+        return answer::refused(answer::TOO_FEW_WORDS);
     }
     let codes = image_format::code_table(n);
     // all layout codes or none, as with the merge bytes
     let m = n * 26 / 128;
     let fields = image_format::field_table(m);
     image_writer::put_image(words, memory, d, w, &codes[0..n], &fields[0..17 * m]);
-    accepted(count)
+    answer::accepted(count as u64)
 }
 
 // Restores a meter from the words of its image.
@@ -40,35 +40,15 @@ pub fn read(d: usize, w: usize, memory: &mut [u8], words: &[u32]) -> Answer
 {
     let status = geometry::bad_shape(d, w, memory.len());
     if status != 0 {
-        return refused(status, 0);
+        return answer::refused(status);
     }
     let n = image_checker::table_size(words.len(), d, w);
     let layouts = image_checker::layout_table(n);
     let fields = image_format::field_table(n);
     let s = image_checker::check(words, d, w, &layouts[0..n], &fields[0..17 * n]);
     if s.status != 0 {
-        return refused(s.status, s.position);
+        return answer::refused_at(s.status, s.position as u64);
     }
     image_reader::read_rows(memory, d, w, words, &layouts[0..n], &fields[0..17 * n]);
-    accepted(s.position)
-}
-
-fn accepted(count: usize) -> Answer
-    ensures { λ r. ⌜ r ≡ record { status = 0; position = 0; value = count } ⌝ }
-{
-    Answer {
-        status: 0,
-        position: 0,
-        value: count as u64,
-    }
-}
-
-fn refused(status: u8, position: usize) -> Answer
-    ensures { λ r. ⌜ r ≡ record { status = status; position = position; value = 0 } ⌝ }
-{
-    Answer {
-        status,
-        position: position as u64,
-        value: 0,
-    }
+    answer::accepted(s.position as u64)
 }

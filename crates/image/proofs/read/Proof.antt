@@ -73,8 +73,8 @@ check-requires c κs = let f = c .before .before .before .before in
     let k = sound (f .before .before .before) in
     (omega arith, (omega arith, (layouts-are f, fields-are f)))
 
-refused-requires-2 : tie.Need-refused-requires-2
-refused-requires-2 c κs = search needs
+refused-at-requires : tie.Need-refused-at-requires
+refused-at-requires c κs = search needs
 
 returns-2 : tie.Need-returns-2
 returns-2 c = let a = c .before .before .before .before .before .before .before .before .before .before .before .before .before .before .before .args in
@@ -82,7 +82,7 @@ returns-2 c = let a = c .before .before .before .before .before .before .before 
     let z = c .before .before .before .before .before .before .before .before .before .before .before .if1 .left in
     let t = c .before .before .before .check in
     let e = read-faulty (a .d) (a .w) (a .memory .now) (a .words .now) (s .result) (s .ensures) z (t .result) (t .ensures) (c .before .if2 .taken) in
-    all-of (a .d) (a .w) (a .memory .now) (a .words .now) _ _ _ e (c .rejected2 .ensures) refl
+    all-of (a .d) (a .w) (a .memory .now) (a .words .now) _ _ _ e (c .refused-at .ensures) refl
 
 sub-read-rows : tie.Need-sub-read-rows
 sub-read-rows c = search needs
@@ -142,7 +142,7 @@ read-spec =
     part-check-start-2
     part-check-end-2
     check-requires
-    refused-requires-2
+    refused-at-requires
     returns-2
     sub-read-rows
     part-read-rows-start

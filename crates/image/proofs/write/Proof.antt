@@ -45,7 +45,7 @@ returns-2 c = let a = c .before .before .before .before .before .before .before 
     let z = c .before .before .before .if1 .left in
     let v = sym (c .before .before .rows-valid .ensures) ∙ not-true _ (c .before .if2 .taken) in
     let e = write-invalid (a .d) (a .w) (a .memory .now) (a .words .now) (s .result) (s .ensures) z v in
-    (c .rejected2 .ensures ∙ ap (λ (x : Written). x .answer) (sym e), ap (λ (x : Written). x .words) (sym e))
+    (c .refused2 .ensures ∙ ap (λ (x : Written). x .answer) (sym e), ap (λ (x : Written). x .words) (sym e))
 
 table-size-requires : tie.Need-table-size-requires
 table-size-requires c κs = let a = c .before .before .before .before .before .before .args in
@@ -80,7 +80,7 @@ returns-3 c = let a = c .before .before .before .before .before .before .before 
     let z = c .before .before .before .before .before .before .before .before .before .if1 .left in
     let v = sym (c .before .before .before .before .before .before .before .before .rows-valid .ensures) ∙ not-false _ (c .before .before .before .before .before .before .before .if2 .left) in
     let e = write-short (a .d) (a .w) (a .memory .now) (a .words .now) (s .result) (s .ensures) z v (omega (arith, image-length (a .d) (a .w) (a .memory .now), c .before .before .rows-size .ensures .0)) in
-    (c .rejected3 .ensures ∙ ap (λ (x : Written). x .answer) (sym e), ap (λ (x : Written). x .words) (sym e))
+    (c .refused3 .ensures ∙ ap (λ (x : Written). x .answer) (sym e), ap (λ (x : Written). x .words) (sym e))
 
 code-table-requires : tie.Need-code-table-requires
 code-table-requires c κs = search needs
