@@ -1,6 +1,6 @@
 -- Laws of groups: encoding, and what the code's additions and unions come to.
 use mathlib.Core.Path.{_≡_, refl, sym, ap, _∙_}
-use mathlib.Core.Bool.{Bool, true, false, cond, _&&_, and-eq-true-iff}
+use mathlib.Core.Bool.{Bool, true, false, cond, _&&_, and-eq-true-iff, true≢false}
 use Prim.Native.Nat.{ℕ, _+_, _%_, _^_, _≤_, _<_}
 use mathlib.Core.List.{List}
 use native.Mathlib.Decide.{decLt}
@@ -13,6 +13,7 @@ use Rattle.laws.proofs.Lists.{Bytes}
 use Rattle.group_bytes.proofs.Bytes.{number-lt, number-bytes, bytes-number}
 use Rattle.group_layout.specs.Layout.{valid}
 use Rattle.group_layout.proofs.Laws.{valid-marks}
+use Rattle.group_block.specs.declared.Summed.{Summed}
 use Rattle.group_block.specs.Block.{Block, cap, Fits, shape, word, block, counterAt, total}
 use Rattle.group_block.specs.Sum.{Sum, fits, over, add, unite, sumTotal}
 use Rattle.group_block.specs.Passed.{summed}
@@ -56,7 +57,13 @@ pub encode-valid : (b : Block 3) → valid 3 (encode b .merge) ≡ true
 unfolding encode
 encode-valid b = valid-marks (shape b)
 
--- the code's answer, by the sum's total
+-- the code's answer, by what an addition or a union left
+settle-summed : (g : Group) (x : Sum 3) → summed x .over ≡ false → settle g x ≡ stored (summed x)
+unfolding settle stored summed encode
+settle-summed g (fits b) e = refl
+settle-summed g (over s) e = absurd (true≢false e)
+
+-- by the sum's total
 pub settle-fits : (g : Group) (x : Sum 3) → Sound x → sumTotal x < 2 ^ 64 → settle g x ≡ stored (summed x)
 unfolding settle stored summed Sound sumTotal encode cap
 settle-fits g (fits b) f h = refl
@@ -81,9 +88,9 @@ module _ (g : Group) (slot amount : ℕ) where
     unfolding added
     added-full k = rw v (settle-over g (add (decode g) (slot % 8) amount) add-is-sound (omega (arith, add-total (decode g) (slot % 8) amount)))
 
-    pub added-stored : total (decode g) + amount < 2 ^ 64 → added g slot amount ≡ stored (summed (add (decode g) (slot % 8) amount))
-    unfolding added
-    added-stored k = rw v (settle-fits g (add (decode g) (slot % 8) amount) add-is-sound (omega (arith, add-total (decode g) (slot % 8) amount)))
+  pub added-summed : (s : Summed) → valid 3 (g .merge) ≡ true → s .over ≡ false → s ≡ summed (add (decode g) (slot % 8) amount) → stored s ≡ added g slot amount
+  unfolding added
+  added-summed s v o e = rw (v, e) (sym (settle-summed g (add (decode g) (slot % 8) amount) (sym (ap (λ (x : Summed). x .over) e) ∙ o)))
 
   -- whether the counter holds the sum, by the group's validity
   pub holds-invalid : valid 3 (g .merge) ≡ false → holds g slot amount ≡ false

@@ -1,6 +1,4 @@
 pub mod Laws
-pub mod Tables
 pub mod Places
-pub mod Widening
 pub mod Outcomes
 pub mod Changing

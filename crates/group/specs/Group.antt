@@ -17,6 +17,10 @@ use Rattle.group.specs.declared.Reading.{Reading}
 use Rattle.group.specs.declared.Outcome.{Outcome}
 use Rattle.group.specs.Status.{invalidMerge, counterFull, accepted, rejected}
 
+-- whether a merge byte is one of the 26 valid ones
+abbrev pub validMerge : ℕ → Bool
+validMerge m = valid 3 m
+
 -- the block of level 3 that a group stands for, and the group of such a block
 unfoldable pub decode : Group → Block 3
 decode g = block 3 (number (g .counts)) (g .merge)

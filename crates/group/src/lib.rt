@@ -1,16 +1,12 @@
 // A group of eight slots: its counters, its merge byte and its layout code.
 use group_block::Summed;
+use group_levels::level_at;
+use group_levels::widest_level;
+use group_sums::sum_fits;
+use group_sums::with_value;
 ghost use mathlib.Core.Path.{_≡_};
-ghost use mathlib.Core.Bool.{true, false, cond};
-ghost use Prim.Native.Nat.{ℕ, _+_, _-_, _*_, _/_, _%_, _^_, _<_, _≤_};
-ghost use lib.Dec.{ltb};
-ghost use Rattle.group_layout.specs.Layout.{layout, valid};
-ghost use Rattle.group_layout.specs.Layout as layout_spec;
-ghost use Rattle.group_block.specs.Block.{cap, block, counterAt};
-ghost use Rattle.group_block.specs.Block as block_spec;
-ghost use Rattle.group_block.specs.Change as change_spec;
-ghost use Rattle.group_block.specs.Passed.{summed};
-ghost use Rattle.group_block.specs.Sum as sum_spec;
+ghost use mathlib.Core.Bool.{false, cond};
+ghost use Rattle.group_layout.specs.Layout.{valid};
 ghost use Rattle.group.specs.Group.{read, stored, holds, added, united, widestOf, changed};
 ghost use Rattle.group.specs.Group as spec;
 ghost use Rattle.group.specs.Status as status_spec;
@@ -68,55 +64,11 @@ pub fn rejected(status: u8) -> Answer
     }
 }
 
-// Whether a merge byte is one of the 26 valid ones: its bits 0 to 4 and its bits 3 to 7 are each such as a valid one has. The masks
-// have a bit for each value of those bits.
+// Whether a merge byte is one of the 26 valid ones.
 pub fn is_valid(merge: u8) -> bool
     ensures { λ r. ⌜ r ≡ valid 3 merge ⌝ }
 {
-    let bits = merge as u32;
-    if (0x80b3_00b3u32 >> (bits & 31)) & 1 == 0 {
-        return false;
-    }
-    (0xc505u32 >> (bits >> 3)) & 1 == 1
-}
-
-// The level of the counter that a slot is in: in a valid layout one for each merged block around the slot, its pair, its half and
-// the group.
-fn level_at(merge: u8, slot: usize) -> u32
-    requires { ⌜ valid 3 merge ≡ true ⌝ ∗ ⌜ slot < 8 ⌝ }
-    ensures { λ r. ⌜ ((w : ℕ) → counterAt (block 3 w merge) slot .level ≡ r) ⌝ }
-    ensures { λ r. ⌜ r ≤ 3 ⌝ }
-{
-    let bits = merge as u32;
-    let pair = (bits >> (slot / 2 * 2)) & 1;
-    let half = (bits >> (slot / 4 * 4 + 1)) & 1;
-    let group = (bits >> 3) & 1;
-    pair + half + group
-}
-
-// The largest value that a counter of a level holds.
-fn most(level: u32) -> u64
-    requires { ⌜ level ≤ 3 ⌝ }
-    ensures { λ r. ⌜ r ≡ cap level - 1 ⌝ }
-{
-    18446744073709551615 >> (64 - (8u32 << level))
-}
-
-// The lowest bit of the counter of a level that a slot is in, in the count bytes taken as one number.
-fn place(level: u32, slot: usize) -> usize
-    requires { ⌜ level ≤ 3 ⌝ ∗ ⌜ slot < 8 ⌝ }
-    ensures { λ r. ⌜ r ≡ 8 * (slot / 2 ^ level * 2 ^ level) ⌝ }
-    ensures { λ r. ⌜ r < 64 ⌝ }
-{
-    8 * ((slot >> level) << level)
-}
-
-// The counter of a level at a place of the count bytes taken as one number.
-fn value_at(word: u64, level: u32, place: usize) -> u64
-    requires { ⌜ level ≤ 3 ⌝ ∗ ⌜ place < 64 ⌝ }
-    ensures { λ r. ⌜ r ≡ word / 2 ^ place % cap level ⌝ }
-{
-    (word >> place) & most(level)
+    group_levels::is_valid(merge)
 }
 
 // The counter that a slot is in.
@@ -131,12 +83,11 @@ pub fn counter(g: Group, slot: usize) -> Reading
             level: 0,
         };
     }
-    let level = level_at(g.merge, slot % 8);
-    let at = place(level, slot % 8);
+    let c = group_sums::counter_at(group_bytes::number_of(counts), g.merge, slot % 8);
     Reading {
         status: 0,
-        value: value_at(group_bytes::number_of(counts), level, at),
-        level,
+        value: c.value,
+        level: c.level,
     }
 }
 
@@ -160,73 +111,6 @@ fn unchanged(status: u8, g: Group) -> Outcome
     Outcome { status, group: g }
 }
 
-// Whether from this slot on two counters of this level lie side by side.
-fn twins(merge: u8, level: u32, first: usize) -> bool
-    requires { ⌜ valid 3 merge ≡ true ⌝ ∗ ⌜ level ≤ 2 ⌝ ∗ ⌜ first + 2 ^ level < 8 ⌝ }
-    ensures { λ r. ⌜ (r ≡ true → (w : ℕ) → (counterAt (block 3 w merge) first .level ≡ level) × (counterAt (block 3 w merge) (first + 2 ^ level) .level ≡ level)) ⌝ }
-{
-    if level_at(merge, first) != level {
-        return false;
-    }
-    level_at(merge, first + (1 << level)) == level
-}
-
-// The sum of the two counters of this level side by side at a place.
-fn twin_sum(word: u64, level: u32, place: usize) -> u64
-    requires { ⌜ level ≤ 2 ⌝ ∗ ⌜ place < 64 ⌝ }
-    ensures { λ r. ⌜ r ≡ word / 2 ^ place % cap (level + 1) % cap level + word / 2 ^ place % cap (level + 1) / cap level ⌝ }
-    ensures { λ r. ⌜ r < 2 ^ 33 ⌝ }
-{
-    let both = value_at(word, level + 1, place);
-    group_block::low_word(level, both) + group_block::high_word(level, both)
-}
-
-// The count bytes, taken as one number, with another value of this level at a place.
-fn put(word: u64, level: u32, place: usize, value: u64) -> u64
-    requires { ⌜ level ≤ 3 ⌝ ∗ ⌜ place < 64 ⌝ ∗ ⌜ word + value * 2 ^ place < 2 ^ 64 + word / 2 ^ place % cap level * 2 ^ place ⌝ }
-    ensures { λ r. ⌜ r + word / 2 ^ place % cap level * 2 ^ place ≡ word + value * 2 ^ place ⌝ }
-{
-    let old = value_at(word, level, place);
-    word - (old << place) + (value << place)
-}
-
-// The merge byte with the own bit of the block set whose halves are two counters of this level from this slot on.
-fn formed(merge: u8, level: u32, first: usize) -> u8
-    requires { ⌜ valid 3 merge ≡ true ⌝ ∗ ⌜ level ≤ 2 ⌝ ∗ ⌜ first + 2 ^ level < 8 ⌝ ∗ ⌜ first % 2 ^ (level + 1) ≡ 0 ⌝ ∗ ⌜ (counterAt (block 3 0 merge) first .level ≡ level) × (counterAt (block 3 0 merge) (first + 2 ^ level) .level ≡ level) ⌝ }
-    ensures { λ r. ⌜ r ≡ merge + 2 ^ (2 ^ level - 1) * 2 ^ first ⌝ }
-{
-    merge | (1 << (first + (1 << level) - 1))
-}
-
-// An amount added to a counter that cannot hold the sum, where the counter beside it has the same level and one counter of the next
-// level holds the sum of both; over elsewhere.
-fn widened(word: u64, merge: u8, level: u32, slot: usize, amount: u32) -> Summed
-    requires { ⌜ valid 3 merge ≡ true ⌝ ∗ ⌜ level ≤ 2 ⌝ ∗ ⌜ slot < 8 ⌝ ∗ ⌜ cap level ≤ counterAt (block 3 word merge) slot .value + amount ⌝ }
-    ensures { λ r. ⌜ (r .over ≡ false → r ≡ summed (sum_spec.add (block 3 word merge) slot amount)) ⌝ }
-{
-    let at = place(level + 1, slot);
-    if !twins(merge, level, at / 8) {
-        return Summed {
-            over: true,
-            word: 0,
-            merge: 0,
-        };
-    }
-    let sum = twin_sum(word, level, at) + amount as u64;
-    if most(level + 1) < sum {
-        return Summed {
-            over: true,
-            word: 0,
-            merge: 0,
-        };
-    }
-    Summed {
-        over: false,
-        word: put(word, level + 1, at, sum),
-        merge: formed(merge, level, at / 8),
-    }
-}
-
 // The count bytes after an addition that its counter holds; if it does not, as they were.
 pub struct Kept {
     pub held: bool,
@@ -245,12 +129,8 @@ pub fn add_in_place(g: Group, slot: usize, amount: u32) -> Kept
             counts,
         };
     }
-    let word = group_bytes::number_of(counts);
-    let k = slot % 8;
-    let level = level_at(g.merge, k);
-    let at = place(level, k);
-    let room = most(level) - value_at(word, level, at);
-    if room < amount as u64 {
+    let sum = group_sums::add_in_place(group_bytes::number_of(counts), g.merge, slot % 8, amount);
+    if sum.over {
         return Kept {
             held: false,
             counts,
@@ -258,7 +138,7 @@ pub fn add_in_place(g: Group, slot: usize, amount: u32) -> Kept
     }
     Kept {
         held: true,
-        counts: group_bytes::bytes_of(word + ((amount as u64) << at)),
+        counts: group_bytes::bytes_of(sum.word),
     }
 }
 
@@ -277,11 +157,7 @@ pub fn add_widening(g: Group, slot: usize, amount: u32) -> Outcome
     if level == 3 {
         return unchanged(COUNTER_FULL, g);
     }
-    let wider = widened(word, g.merge, level, k, amount);
-    if !wider.over {
-        return settled(wider);
-    }
-    settled(group_block::add(3, word, g.merge, k, amount as u64))
+    settled(group_sums::add_widening(word, g.merge, level, k, amount))
 }
 
 // An amount added to the counter that a slot is in.
@@ -300,17 +176,6 @@ pub fn add(g: Group, slot: usize, amount: u32) -> Outcome
         };
     }
     add_widening(g, slot, amount)
-}
-
-// Whether the sum of all counters of two groups is below 2 ^ 64. It is where neither group is one counter.
-fn sum_fits(word: u64, merge: u8, other_word: u64, other_merge: u8) -> bool
-    ensures { λ r. ⌜ r ≡ ltb (block_spec.total (block 3 word merge) + block_spec.total (block 3 «other_word» «other_merge»)) (2 ^ 64) ⌝ }
-{
-    if ((merge | other_merge) >> 3) & 1 == 0 {
-        return true;
-    }
-    let room = 18446744073709551615 - group_block::total(3, word, merge);
-    group_block::total(3, other_word, other_merge) <= room
 }
 
 // Whether a target takes a source.
@@ -348,17 +213,6 @@ pub fn unite(target: Group, source: Group) -> Outcome
     settled(group_block::unite(3, word, target.merge, source_word, source.merge))
 }
 
-// The largest level of a valid group's counters: one if a pair is merged, one if a half is, one if the group is.
-fn widest_level(merge: u8) -> u32
-    requires { ⌜ valid 3 merge ≡ true ⌝ }
-    ensures { λ r. ⌜ r ≡ layout_spec.widest (layout 3 merge) ⌝ }
-{
-    let any_pair = (merge | (merge >> 2) | (merge >> 4) | (merge >> 6)) & 1;
-    let any_half = ((merge >> 1) | (merge >> 5)) & 1;
-    let group = (merge >> 3) & 1;
-    (any_pair + any_half + group) as u32
-}
-
 // The largest level of a group's counters.
 pub fn widest(merge: u8) -> Answer
     ensures { λ r. ⌜ r ≡ widestOf merge ⌝ }
@@ -367,16 +221,6 @@ pub fn widest(merge: u8) -> Answer
         return rejected(INVALID_MERGE);
     }
     accepted(widest_level(merge) as u64)
-}
-
-// The count bytes, taken as one number, with another value in the counter that a slot is in.
-fn with_value(word: u64, merge: u8, slot: usize, value: u64) -> u64
-    requires { ⌜ valid 3 merge ≡ true ⌝ ∗ ⌜ slot < 8 ⌝ }
-    ensures { λ r. ⌜ r ≡ block_spec.word (change_spec.change (block 3 word merge) slot value) ⌝ }
-{
-    let level = level_at(merge, slot);
-    let at = place(level, slot);
-    put(word, level, at, value & most(level))
 }
 
 // Another value in the counter that a slot is in: of the value the bits that the counter holds. The layout stays.

@@ -11,6 +11,7 @@ pub mod Changing
 pub mod Slots
 pub mod Places
 pub mod Carries
+pub mod Bits
 pub mod Starts
 pub mod Twins
 pub mod Pairs

@@ -68,7 +68,7 @@ first-in (split {n} l r) k = elim (decLt k (2 ^ n)) [
 ]
 
 -- bits above a field are not in it
-above : (a b i j x : ℕ) → (a * 2 ^ (x + j + i) + b) / 2 ^ i % 2 ^ j ≡ b / 2 ^ i % 2 ^ j
+pub above : (a b i j x : ℕ) → (a * 2 ^ (x + j + i) + b) / 2 ^ i % 2 ^ j ≡ b / 2 ^ i % 2 ^ j
 above a b i j x =
     rw (pow-add 2 (x + j) i, ← mul-assoc a (2 ^ (x + j)) (2 ^ i), mul-add-div-right (pow-pos i) (a * 2 ^ (x + j)) b, pow-add 2 x j, ← mul-assoc a (2 ^ x) (2 ^ j))
     (mul-add-mod-self-right (a * 2 ^ x) (2 ^ j) (b / 2 ^ i))

@@ -8,12 +8,13 @@ use native.Mathlib.Omega.{arith}
 use borrow.Author.Tests.{lt-ltb, le-ltb}
 use lib.Dec.{ltb}
 use lib.Pow.{pow-add, pow-pos}
-use Rattle.group_layout.specs.Layout.{Layout, merged, halves}
+use Rattle.group_layout.specs.Layout.{Layout, merged, halves, layout}
 use Rattle.group_layout.specs.Merged.{isMerged}
+unfoldable pub use Rattle.group_layout.specs.Layout.{levelOf}
 use Rattle.group_block.specs.declared.Counter.{Counter}
-use Rattle.group_block.specs.Block.{Block, counter, split, cap, Fits, shape, counterAt, total}
+use Rattle.group_block.specs.Block.{Block, counter, split, cap, Fits, shape, block, counterAt, total}
 use Rattle.group_block.specs.Change.{change}
-use Rattle.group_block.proofs.Laws.{total-lt}
+use Rattle.group_block.proofs.Laws.{shape-fill, total-lt}
 
 pub counter-halves : {n : ℕ} (l r : Block n) (k : ℕ) (P : Counter → Type 0)
     → (ltb k (2 ^ n) ≡ true → P (counterAt l k))
@@ -33,10 +34,6 @@ level-le (split {n} l r) k =
     counter-halves l r k (λ c. c .level ≤ suc n) (λ e. omega (arith, level-le l k)) (λ e. omega (arith, level-le r (k - 2 ^ n)))
 
 -- the level of the counter of a slot, by the layout
-unfoldable pub levelOf : {n : ℕ} → Layout n → ℕ → ℕ
-levelOf {n} merged k = n
-levelOf (halves {n} l r) k = cond (ltb k (2 ^ n)) (levelOf l k) (levelOf r (k - 2 ^ n))
-
 pub level-is : {n : ℕ} (b : Block n) (k : ℕ) → counterAt b k .level ≡ levelOf (shape b) k
 unfolding counterAt levelOf shape
 level-is (counter v) k = refl
@@ -46,6 +43,10 @@ level-is (split {n} l r) k = go (ltb k (2 ^ n)) (level-is l k) (level-is r (k - 
         → cond t (counterAt l k) (counterAt r (k - 2 ^ n)) .level ≡ cond t (levelOf (shape l) k) (levelOf (shape r) (k - 2 ^ n))
     go true e f = e
     go false e f = f
+
+pub level-block : (n w m k : ℕ) → counterAt (block n w m) k .level ≡ levelOf (layout n m) k
+unfolding block
+level-block n w m k = level-is (block n w m) k ∙ ap (λ (L : Layout n). levelOf L k) (shape-fill (layout n m) w)
 
 pub value-lt : {n : ℕ} (b : Block n) (k : ℕ) → Fits b → counterAt b k .value < cap (counterAt b k .level)
 unfolding counterAt Fits

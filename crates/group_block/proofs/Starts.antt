@@ -1,40 +1,146 @@
--- Where counters start, computed from merge bits: bit k, turned over, at bit 8 * (k + 1). Past the block, where no merge bit is set,
--- every slot counts as a start.
-use mathlib.Core.Path.{_≡_, refl, sym, _∙_}
+-- Where counters start, by merge bits: bit k is clear where slot k + 1 starts a counter or is past the block. By induction on the
+-- level; only the spreading of a byte's bits over eight bytes is computed.
+use mathlib.Core.Path.{_≡_, refl, sym, ap, ap₂, _∙_}
 use mathlib.Core.Bool.{Bool, true, false, cond, true≢false}
-use Prim.Native.Nat.{ℕ, suc, _+_, _*_, _%_, _^_, _≤_, _<_}
+use Prim.Native.Nat.{ℕ, zero, suc, _+_, _-_, _*_, _/_, _%_, _^_, _≤_, _<_}
+use native.Mathlib.Nat.{zero-add, add-zero, add-mul, mul-assoc, one-mul, div-one, div-eq-of-lt}
+use native.Mathlib.Decide.{decLt}
 use native.Mathlib.Omega.{arith}
-use borrow.Author.Tests.{eqb-true, eq-eqb}
-use lib.Bits.{bitAnd, bitXor, and-le-r}
-use lib.Dec.{eqb}
-use Rattle.group_layout.specs.Layout.{bit, layout, valid, ones}
+use borrow.Author.Tests.{eqb-true, eq-eqb, lt-ltb, le-ltb}
+use lib.Arith.{digits-mod}
+use lib.Bits.{bitAnd, bitXor, and-le-r, block-half, block-odd}
+use lib.Dec.{eqb, ltb}
+use lib.Pow.{pow-pos, pow-mono, pow-add, shr-shr, high, ones-lt}
+use Rattle.group_layout.specs.Layout.{Layout, merged, halves, bit, ones, marks, layout, valid}
+use Rattle.group_layout.proofs.Laws.{marks-lt, marks-in, bit-halves, marks-layout}
 use Rattle.group_block.specs.Block.{cap, block}
 use Rattle.group_block.specs.Sum.{unite}
-use Rattle.group_block.proofs.Laws.{cap-mono}
+use Rattle.group_block.specs.Least.{together}
+use Rattle.group_block.proofs.Bits.{ones-bit, low-bit, high-bit}
+use Rattle.group_block.proofs.Laws.{cap-mono, cap-square}
 use Rattle.group_block.proofs.Carries.{bounds, carries, carries-lt, mask-mod, end-no-carry, no-carry-end, keeps, keeps-no-carry, no-carry-keeps}
 use Rattle.laws.proofs.Tests.{both-ways, every, every-at}
 
+-- Merge bit k is set where slots k and k + 1 are in one counter.
+pub bit-together : {n : ℕ} (L : Layout n) (k : ℕ) → suc k < 2 ^ n → bit (marks L) k ≡ together L k (suc k)
+unfolding bit marks ones together
+bit-together {n} merged k h = eq-eqb ((2 ^ (2 ^ n - 1) - 1) / 2 ^ k % 2) 1 (ones-bit (2 ^ n - 1) k (omega arith))
+bit-together (halves {n} l r) k h = elim (decLt (suc k) (2 ^ n)) [
+  | yes m ↦
+      rw (lt-ltb k (2 ^ n) (omega arith), lt-ltb (suc k) (2 ^ n) m)
+      (ap (λ (x : ℕ). eqb x 1) (low-bit (marks r) (marks l) (2 ^ n) k (omega arith)) ∙ bit-together l k m)
+  | no m ↦ elim (decLt k (2 ^ n)) [
+    | yes j ↦
+        let e : k ≡ 2 ^ n - 1 = omega arith in
+        rw (lt-ltb k (2 ^ n) j, le-ltb (suc k) (2 ^ n) (omega arith), e) (bit-halves l r)
+    | no j ↦
+        let e : k ≡ 2 ^ n + (k - 2 ^ n) = omega arith in
+        let f : suc k - 2 ^ n ≡ suc (k - 2 ^ n) = omega arith in
+        rw (le-ltb k (2 ^ n) (omega arith), le-ltb (suc k) (2 ^ n) (omega arith), f)
+        (ap (λ (x : ℕ). eqb x 1) (ap (λ (x : ℕ). (marks r * 2 ^ (2 ^ n) + marks l) / 2 ^ x % 2) e ∙ high-bit (marks r) (marks l) (2 ^ n) (k - 2 ^ n) (marks-in l))
+        ∙ bit-together r (k - 2 ^ n) (omega arith))
+  ]
+]
+
+-- the last bit, past which the block ends, is clear
+pub bit-end : {n : ℕ} (L : Layout n) → bit (marks L) (2 ^ n - 1) ≡ false
+unfolding bit
+bit-end {n} L = rw (div-eq-of-lt {n = marks L} {m = 2 ^ (2 ^ n - 1)} (marks-lt L))
+
+-- the lowest bits of bytes 1 to c, each where the merge bit before it, of the c lowest, is clear
+unfoldable pub gaps : ℕ → ℕ → ℕ
+gaps zero m = 0
+gaps (suc c) m = (1 - m % 2 + gaps c (m / 2)) * 256
+
+-- by parts: the a lowest merge bits and b more
+gaps-add : (a b m : ℕ) → gaps (a + b) m ≡ gaps b (m / 2 ^ a) * 2 ^ (8 * a) + gaps a m
+unfolding gaps
+gaps-add zero b m = rw (zero-add b, div-one m) (omega arith)
+gaps-add (suc a) b m =
+    let e : suc a + b ≡ suc (a + b) = omega arith in
+    let f : m / 2 / 2 ^ a ≡ m / 2 ^ suc a = shr-shr m 1 a ∙ ap (λ (x : ℕ). m / 2 ^ x) (omega arith) in
+    let g : gaps b (m / 2 ^ suc a) * 2 ^ (8 * suc a) ≡ gaps b (m / 2 ^ suc a) * 2 ^ (8 * a) * 256 =
+    ap (λ (x : ℕ). gaps b (m / 2 ^ suc a) * x) (ap (λ (x : ℕ). 2 ^ x) (omega arith) ∙ pow-add 2 (8 * a) 8) ∙ sym (mul-assoc (gaps b (m / 2 ^ suc a)) (2 ^ (8 * a)) 256) in
+    rw (e, gaps-add a b (m / 2), f) (omega (arith, g))
+
+-- higher bits do not matter
+gaps-low : (c x y : ℕ) → gaps c (x * 2 ^ c + y) ≡ gaps c y
+unfolding gaps
+gaps-low zero x y = refl
+gaps-low (suc c) x y = rw (block-odd x c y, block-half x c y, gaps-low c x (y / 2))
+
+gaps-even : (c m : ℕ) → gaps c m % 2 ≡ 0
+unfolding gaps
+gaps-even zero m = refl
+gaps-even (suc c) m = omega arith
+
+gaps-lt : (c m : ℕ) → 1 + gaps c m < 2 * 2 ^ (8 * c)
+unfolding gaps
+gaps-lt zero m = omega arith
+gaps-lt (suc c) m =
+    let e : 2 ^ (8 * suc c) ≡ 2 ^ (8 * c) * 256 = ap (λ (x : ℕ). 2 ^ x) (omega arith) ∙ pow-add 2 (8 * c) 8 in
+    omega (arith, e, gaps-lt c (m / 2), pow-pos (8 * c))
+
+-- all bits set
+gaps-ones : (c : ℕ) → gaps c (2 ^ c - 1) ≡ 0
+unfolding gaps
+gaps-ones zero = refl
+gaps-ones (suc c) =
+    let o : (2 ^ suc c - 1) % 2 ≡ 1 = omega (arith, pow-pos c) in
+    let h : (2 ^ suc c - 1) / 2 ≡ 2 ^ c - 1 = omega (arith, pow-pos c) in
+    rw (o, h, gaps-ones c)
+
+-- The law of levels: where the block's merge bits are clear its counters start, but for the first, and the block ends.
+pub gaps-bounds : {n : ℕ} (L : Layout n) → gaps (2 ^ n) (marks L) ≡ cap n + bounds L
+unfolding marks ones bounds cap gaps
+gaps-bounds {n} merged = whole ∙ rw (add-zero (2 ^ (8 * 2 ^ n)))
+  where
+    whole : gaps (2 ^ n) (2 ^ (2 ^ n - 1) - 1) ≡ 2 ^ (8 * 2 ^ n)
+    whole =
+        let e : 2 ^ n ≡ 2 ^ n - 1 + 1 = omega (arith, pow-pos n) in
+        let f : 2 ^ (8 * 2 ^ n) ≡ 256 * 2 ^ (8 * (2 ^ n - 1)) = ap (λ (x : ℕ). 2 ^ x) (omega (arith, pow-pos n)) ∙ pow-add 2 8 (8 * (2 ^ n - 1)) in
+        ap (λ (c : ℕ). gaps c (2 ^ (2 ^ n - 1) - 1)) e
+        ∙ gaps-add (2 ^ n - 1) 1 (2 ^ (2 ^ n - 1) - 1)
+        ∙ rw (div-eq-of-lt {n = 2 ^ (2 ^ n - 1) - 1} {m = 2 ^ (2 ^ n - 1)} (ones-lt (2 ^ n - 1)), gaps-ones (2 ^ n - 1)) (omega (arith, f))
+gaps-bounds (halves {n} l r) =
+    let m = marks r * 2 ^ (2 ^ n) + marks l in
+    let e : 2 ^ suc n ≡ 2 ^ n + 2 ^ n = omega arith in
+    let top : m / 2 ^ (2 ^ n) ≡ marks r = high (marks r) (2 ^ n) (marks-in l) in
+    ap (λ (c : ℕ). gaps c m) e
+    ∙ gaps-add (2 ^ n) (2 ^ n) m
+    ∙ rw (top, gaps-low (2 ^ n) (marks r) (marks l), gaps-bounds l, gaps-bounds r)
+    (omega (arith, cap-square n, add-mul (2 ^ (8 * 2 ^ n)) (bounds r) (2 ^ (8 * 2 ^ n)), add-mul 1 (bounds r) (2 ^ (8 * 2 ^ n)), one-mul (2 ^ (8 * 2 ^ n))))
+
+-- the mask that the code computes; byte 8 is past its 64 bits
 abbrev starts : ℕ → ℕ
 starts m = bitAnd (bitXor 127 m * 4432676798593) 282578800148737 * 256
 
--- At every level the starts of valid merge bits are the block's bounds and, above them, the block's end. That of level 3 is past the
--- 64 bits.
-abbrev starts-at : ℕ → ℕ → Bool
-starts-at n m = cond (valid n m) (eqb ((2 ^ 64 + starts m) % (2 * cap n)) (cap n + bounds (layout n m))) true
+all-spread : every (λ m. eqb (2 ^ 64 + starts m) (gaps 8 m)) 128 ≡ true
+unfolding every gaps
+all-spread = refl
 
-all-starts : every (λ n. every (starts-at n) 256) 4 ≡ true
-unfolding every valid ones layout bit bounds cap
-all-starts = refl
+spread : (m : ℕ) → m < 128 → 2 ^ 64 + starts m ≡ gaps 8 m
+spread m h = eqb-true (2 ^ 64 + starts m) (gaps 8 m) (every-at (λ m. eqb (2 ^ 64 + starts m) (gaps 8 m)) 128 m all-spread h)
 
-starts-mod : (n m : ℕ) → n ≤ 3 → m < 256 → valid n m ≡ true → (2 ^ 64 + starts m) % (2 * cap n) ≡ cap n + bounds (layout n m)
-starts-mod n m h k v =
-    eqb-true ((2 ^ 64 + starts m) % (2 * cap n)) (cap n + bounds (layout n m))
-    (rw v at (every-at (starts-at n) 256 m (every-at (λ n. every (starts-at n) 256) 4 n all-starts (omega arith)) k))
+-- at every level the starts of valid merge bits are the block's bounds and, above them, the block's end
+starts-mod : (n m : ℕ) → n ≤ 3 → valid n m ≡ true → (2 ^ 64 + starts m) % (2 * cap n) ≡ cap n + bounds (layout n m)
+unfolding cap
+starts-mod n m h v =
+    let is : marks (layout n m) ≡ m = marks-layout n m v in
+    let size : 2 ^ n ≤ 8 = pow-mono {i = n} {j = 3} h in
+    let small : m < 128 = omega (arith, is, marks-lt (layout n m), pow-mono {i = 2 ^ n - 1} {j = 7} (omega arith)) in
+    let more = gaps (8 - 2 ^ n) (m / 2 ^ (2 ^ n)) in
+    let e : 8 ≡ 2 ^ n + (8 - 2 ^ n) = omega arith in
+    let even : more * 2 ^ (8 * 2 ^ n) ≡ more / 2 * (2 * 2 ^ (8 * 2 ^ n)) =
+    ap (λ (x : ℕ). x * 2 ^ (8 * 2 ^ n)) (omega (arith, gaps-even (8 - 2 ^ n) (m / 2 ^ (2 ^ n)))) ∙ mul-assoc (more / 2) 2 (2 ^ (8 * 2 ^ n)) in
+    let all : 2 ^ 64 + starts m ≡ more / 2 * (2 * 2 ^ (8 * 2 ^ n)) + gaps (2 ^ n) m =
+    spread m small ∙ ap (λ (c : ℕ). gaps c m) e ∙ gaps-add (2 ^ n) (8 - 2 ^ n) m ∙ ap (λ (x : ℕ). x + gaps (2 ^ n) m) even in
+    ap (λ (x : ℕ). x % (2 * 2 ^ (8 * 2 ^ n))) all ∙ digits-mod (more / 2) (omega (arith, gaps-lt (2 ^ n) m)) ∙ rw is at (gaps-bounds (layout n m))
 
 starts-lt : (m : ℕ) → starts m < 2 ^ 64
 starts-lt m = omega (arith, and-le-r (bitXor 127 m * 4432676798593) 282578800148737)
 
-module _ (n a b m : ℕ) (level : n ≤ 3) (byte : m < 256) (v : valid n m ≡ true) (h : a < cap n) (k : b < cap n) where
+module _ (n a b m : ℕ) (level : n ≤ 3) (v : valid n m ≡ true) (h : a < cap n) (k : b < cap n) where
   starts-mask : a + b < 2 ^ 64 → bitAnd (carries a b) (starts m) ≡ bitAnd (carries a b) (cap n + bounds (layout n m))
   unfolding cap
   starts-mask s =
@@ -42,7 +148,7 @@ module _ (n a b m : ℕ) (level : n ≤ 3) (byte : m < 256) (v : valid n m ≡ t
       let two : 2 * 2 ^ (8 * 2 ^ n) ≡ 2 ^ d = omega arith in
       let low : (2 ^ 64 + starts m) % 2 ^ 64 ≡ starts m = omega (arith, starts-lt m) in
       rw low at (mask-mod 64 (carries a b) (2 ^ 64 + starts m) (carries-lt 64 a b s))
-      ∙ sym (rw (← two, starts-mod n m level byte v) at (mask-mod d (carries a b) (2 ^ 64 + starts m) (carries-lt d a b (omega arith))))
+      ∙ sym (rw (← two, starts-mod n m level v) at (mask-mod d (carries a b) (2 ^ 64 + starts m) (carries-lt d a b (omega arith))))
 
   -- the test that the code makes
   pub starts-keep : a + b < 2 ^ 64 → eqb (bitAnd (carries a b) (starts m)) 0 ≡ keeps m (unite (block n a m) (block n b m))

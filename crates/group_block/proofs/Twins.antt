@@ -123,7 +123,7 @@ module _ {n : ℕ} (l r : Block n) (k a L p u v : ℕ) where
       (split l (w .0), add-right l r k a m ∙ ap (λ (x : Sum n). join (fits l) x) (w .1), word-right (w .0) (w .2), marks-right (w .0) (w .3))
 
 -- multiples of the size of the block that is formed, in the left half and in the right one
-multiple : (n L : ℕ) → L < n → 2 ^ n ≡ 2 ^ (n - suc L) * 2 ^ suc L
+pub multiple : (n L : ℕ) → L < n → 2 ^ n ≡ 2 ^ (n - suc L) * 2 ^ suc L
 multiple n L g = ap (λ (x : ℕ). 2 ^ x) (omega arith) ∙ pow-add 2 (n - suc L) (suc L)
 
 pub whole-left : (n L i k : ℕ) → L < n → i * 2 ^ suc L ≤ k → k < 2 ^ n → i * 2 ^ suc L + 2 ^ suc L ≤ 2 ^ n

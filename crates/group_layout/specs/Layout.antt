@@ -1,7 +1,7 @@
 -- The layout of a block: which of its blocks are merged. Document 01, 'Rows, groups and blocks'. Cited by contracts and theorems.
 use Prim.Native.Nat.{ℕ, zero, suc, _+_, _-_, _*_, _/_, _%_, _^_, max}
 use mathlib.Core.Bool.{Bool, cond, _&&_, _||_}
-use lib.Dec.{eqb}
+use lib.Dec.{eqb, ltb}
 
 -- A block of level n has 2 ^ n slots. It is merged, one counter, or two blocks of the level below side by side.
 -- A block of level 0, a single slot, counts as merged.
@@ -38,3 +38,8 @@ valid (suc n) m = eqb m (ones (suc n)) || (valid n (m % 2 ^ (2 ^ n)) && valid n 
 unfoldable pub widest : {n : ℕ} → Layout n → ℕ
 widest {n} merged = n
 widest (halves l r) = max (widest l) (widest r)
+
+-- the level of the counter that slot k, counted from the block's first, is in
+unfoldable pub levelOf : {n : ℕ} → Layout n → ℕ → ℕ
+levelOf {n} merged k = n
+levelOf (halves {n} l r) k = cond (ltb k (2 ^ n)) (levelOf l k) (levelOf r (k - 2 ^ n))

@@ -1,17 +1,15 @@
 use mathlib.Core.Path.{_≡_, sym, ap, _∙_}
-use mathlib.Core.Bool.{true}
+use mathlib.Core.Bool.{true, false}
 use Prim.Native.Nat.{ℕ, _+_, _%_, _^_, _≤_, _<_}
 use native.Mathlib.Omega.{arith}
 use borrow.Author.Tests.{not-true, not-false}
 use Rattle.group_bytes.specs.Bytes.{number}
 use Rattle.group_layout.specs.Layout.{valid}
-use Rattle.group_block.specs.Block.{cap, total, block, counterAt}
-use Rattle.group_block.specs.Sum.{add}
-use Rattle.group_block.specs.Passed.{summed}
-use Rattle.group_block.proofs.Laws.{block-fits}
-use Rattle.group_block.proofs.Slots.{whole-total, halves-total}
-use Rattle.group.specs.Group.{decode, stored, added}
-use Rattle.group.proofs.Laws.{cap-three, not-held, added-invalid, added-full, added-stored}
+use Rattle.group_block.specs.Block.{cap, total, counterAt}
+use Rattle.group_block.proofs.Slots.{level-block, whole-total}
+use Rattle.group_sums.specs.Sums.{holdsAt}
+use Rattle.group.specs.Group.{decode}
+use Rattle.group.proofs.Laws.{cap-three, holds-valid, not-held, added-invalid, added-full, added-summed}
 use borrow.Author.Needs.{needs}
 use Rattle.group.proofs.add_widening.Statement.{statement}
 use Rattle.group.proofs.add_widening.Tie as tie
@@ -26,38 +24,26 @@ module _ (l : tie.After-level-at) where
   abbrev s : tie.Start
   s = n .before .before .before .before
 
-  word-in : n .number-of .result < cap 3
-  unfolding cap
-  word-in = omega arith
-
   number-in : number (s .args .g .counts) < cap 3
-  number-in = rw (← n .number-of .ensures) word-in
+  unfolding cap
+  number-in = rw (← n .number-of .ensures) (omega arith)
 
   -- the counter does not hold the sum
-  past : cap (l .level-at .result) ≤ counterAt (block 3 (n .number-of .result) (s .args .g .merge)) (s .args .slot % 8) .value + s .args .amount
+  not-holds : holdsAt (n .number-of .result) (s .args .g .merge) (s .args .slot % 8) (s .args .amount) ≡ false
   unfolding decode
-  past =
-      rw (← n .number-of .ensures, l .level-at .ensures .0 (n .number-of .result))
-      at (not-held (s .args .g) (s .args .slot) (s .args .amount) (is-sane (n .before)) (s .pre))
+  not-holds =
+      ap (λ (x : ℕ). holdsAt x (s .args .g .merge) (s .args .slot % 8) (s .args .amount)) (n .number-of .ensures)
+      ∙ sym (holds-valid (s .args .g) (s .args .slot) (s .args .amount) (is-sane (n .before)))
+      ∙ s .pre
 
-  -- the group's total, with the amount
-  whole-full : l .level-at .result ≡ 3 → 2 ^ 64 ≤ total (block 3 (n .number-of .result) (s .args .g .merge)) + s .args .amount
-  whole-full e = let w = n .number-of .result in
-      omega (arith, past, ap cap e, cap-three, whole-total (block 3 w (s .args .g .merge)) (s .args .slot % 8) (l .level-at .ensures .0 w ∙ e))
-
-  module _ (e : l .level-at .result ≡ 3 → ⊥) where
-    halves-lt : total (block 3 (n .number-of .result) (s .args .g .merge)) + s .args .amount < 2 ^ 64
-    unfolding cap
-    halves-lt = let w = n .number-of .result in
-        let b = block 3 w (s .args .g .merge) in
-        omega (arith, halves-total b (s .args .slot % 8) (block-fits 3 w (s .args .g .merge) word-in) (λ f. e (sym (l .level-at .ensures .0 w) ∙ f)))
-
-    stored-is : stored (summed (add (block 3 (n .number-of .result) (s .args .g .merge)) (s .args .slot % 8) (s .args .amount)))
-        ≡ added (s .args .g) (s .args .slot) (s .args .amount)
-    unfolding decode
-    stored-is =
-        ap (λ (x : ℕ). stored (summed (add (block 3 x (s .args .g .merge)) (s .args .slot % 8) (s .args .amount)))) (n .number-of .ensures)
-        ∙ sym (added-stored (s .args .g) (s .args .slot) (s .args .amount) number-in (is-sane (n .before)) (rw (← n .number-of .ensures) halves-lt))
+  -- where it is the whole group, it is full
+  whole-full : l .level-at .result ≡ 3 → 2 ^ 64 ≤ total (decode (s .args .g)) + s .args .amount
+  unfolding decode
+  whole-full e =
+      let b = decode (s .args .g) in
+      let k = s .args .slot % 8 in
+      let level : counterAt b k .level ≡ 3 = level-block 3 (number (s .args .g .counts)) (s .args .g .merge) k ∙ sym (l .level-at .ensures .0) ∙ e in
+      omega (arith, not-held (s .args .g) (s .args .slot) (s .args .amount) (is-sane (n .before)) (s .pre), ap cap level, cap-three, whole-total b k level)
 
 is-valid-requires : tie.Need-is-valid-requires
 is-valid-requires c κs = search needs
@@ -79,36 +65,25 @@ unchanged-requires-2 : tie.Need-unchanged-requires-2
 unchanged-requires-2 c κs = search needs
 
 returns-2 : tie.Need-returns-2
-unfolding decode
 returns-2 c = let l = c .before .before in
     let a = s l .args in
-    c .unchanged2 .ensures
-    ∙ sym
-    (added-full (a .g) (a .slot) (a .amount) (number-in l) (is-sane (n l .before)) (rw (← n l .number-of .ensures) (whole-full l (c .before .if2 .taken))))
+    c .unchanged2 .ensures ∙ sym (added-full (a .g) (a .slot) (a .amount) (number-in l) (is-sane (n l .before)) (whole-full l (c .before .if2 .taken)))
 
-widened-requires : tie.Need-widened-requires
-widened-requires c κs = let l = c .before in
-    (is-sane (n l .before), (omega (arith, l .level-at .ensures .1, c .if2 .left), (omega arith, past l)))
+add-widening-requires : tie.Need-add-widening-requires
+add-widening-requires c κs = let l = c .before in
+    (is-sane (n l .before), (omega arith, (l .level-at .ensures .0, (omega (arith, l .level-at .ensures .1, c .if2 .left), not-holds l))))
 
 settled-requires : tie.Need-settled-requires
 settled-requires c κs = search needs
 
 returns-3 : tie.Need-returns-3
-returns-3 c = let w = c .before .before .before in
-    c .settled .ensures ∙ ap stored (w .widened .ensures (not-true _ (c .before .if3 .taken))) ∙ stored-is (w .before .before) (w .before .if2 .left)
-
-add-requires : tie.Need-add-requires
-unfolding cap
-add-requires c κs = let e = c .before .before .before in
-    let l = e .before in
-    (omega arith, ((omega (arith, word-in l), is-sane (n l .before)), halves-lt l (e .if2 .left)))
-
-settled-requires-2 : tie.Need-settled-requires-2
-settled-requires-2 c κs = search needs
-
-returns-4 : tie.Need-returns-4
-returns-4 c = let e = c .before .before .before .before .before in
-    c .settled2 .ensures ∙ ap stored (c .before .add .ensures) ∙ stored-is (e .before) (e .if2 .left)
+unfolding decode
+returns-3 c = let w = c .before in
+    let l = w .before .before in
+    let a = s l .args in
+    c .settled .ensures
+    ∙ added-summed (a .g) (a .slot) (a .amount) (w .add-widening .result) (is-sane (n l .before)) (w .add-widening .ensures .1)
+    (rw (← n l .number-of .ensures) (w .add-widening .ensures .0))
 
 pub add-widening-spec : {M : Type 1} → statement M
 add-widening-spec =
@@ -121,9 +96,6 @@ add-widening-spec =
     level-at-requires
     unchanged-requires-2
     returns-2
-    widened-requires
+    add-widening-requires
     settled-requires
-    returns-3
-    add-requires
-    settled-requires-2
-    returns-4)
+    returns-3)

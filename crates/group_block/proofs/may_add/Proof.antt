@@ -21,7 +21,7 @@ returns-2 : tie.Need-returns-2
 returns-2 c = λ n h s k.
     let a = c .before .before .args in
     rw (← c .before .if1 .left, eq-eqb (a .merge) (a .merge) refl)
-    (sym (past-not-kept n (a .word) (a .other-word) (a .merge) h (omega arith) (s .1) (s .0) k (omega arith)))
+    (sym (past-not-kept n (a .word) (a .other-word) (a .merge) h (s .1) (s .0) k (omega arith)))
 
 cast-starts : tie.Need-cast-starts
 cast-starts c = omega (arith, turned-lt (c .before .before .args .merge) (omega arith))
@@ -39,7 +39,7 @@ returns-3 : tie.Need-returns-3
 returns-3 c = λ n h s k.
     let a = c .before .before .args in
     rw (← c .before .if1 .left, eq-eqb (a .merge) (a .merge) refl)
-    (starts-keep n (a .word) (a .other-word) (a .merge) h (omega arith) (s .1) (s .0) k (omega arith))
+    (starts-keep n (a .word) (a .other-word) (a .merge) h (s .1) (s .0) k (omega arith))
 
 pub may-add-spec : {M : Type 1} → statement M
 may-add-spec =

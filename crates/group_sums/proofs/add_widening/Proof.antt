@@ -1,0 +1,71 @@
+use mathlib.Core.Path.{_≡_, refl, sym, ap, _∙_}
+use mathlib.Core.Bool.{false}
+use Prim.Native.Nat.{ℕ, _+_, _^_, _≤_, _<_}
+use native.Mathlib.Omega.{arith}
+use borrow.Author.Tests.{not-true, not-false, ltb-false}
+use Rattle.group_block.specs.declared.Summed.{Summed}
+use Rattle.group_block.specs.Block.{cap, total, block, counterAt}
+use Rattle.group_block.specs.Sum.{Sum, fits, over, add, sumTotal}
+use Rattle.group_block.specs.Passed.{summed}
+use Rattle.group_block.proofs.Adding.{Sound}
+use Rattle.group_block.proofs.Laws.{block-fits}
+use Rattle.group_block.proofs.Adding.{add-total, add-sound}
+use Rattle.group_block.proofs.Slots.{halves-total}
+use Rattle.group_sums.proofs.Places.{has-level}
+use borrow.Author.Needs.{needs}
+use Rattle.group_sums.proofs.add_widening.Statement.{statement}
+use Rattle.group_sums.proofs.add_widening.Tie as tie
+
+-- a sum that its level can hold is not over
+not-over : (x : Sum 3) → Sound x → sumTotal x < 2 ^ 64 → summed x .over ≡ false
+unfolding Sound sumTotal summed cap
+not-over (fits b) f h = refl
+not-over (over s) f h = absurd (omega arith)
+
+module _ (s : tie.Start) where
+  abbrev w : ℕ
+  w = s .args .word
+
+  abbrev m : ℕ
+  m = s .args .merge
+
+  word-in : w < cap 3
+  unfolding cap
+  word-in = omega arith
+
+  level-is : counterAt (block 3 w m) (s .args .slot) .level ≡ s .args .level
+  level-is = has-level w m (s .args .slot) (s .pre .1 .1 .0)
+
+  past : cap (s .args .level) ≤ counterAt (block 3 w m) (s .args .slot) .value + s .args .amount
+  past =
+      let c = counterAt (block 3 w m) (s .args .slot) in
+      rw level-is at (ltb-false (c .value + s .args .amount) (cap (c .level)) (s .pre .1 .1 .1 .1))
+
+  halves-lt : total (block 3 w m) + s .args .amount < 2 ^ 64
+  unfolding cap
+  halves-lt =
+      omega (arith, halves-total (block 3 w m) (s .args .slot) (block-fits 3 w m word-in) (λ f. omega (arith, sym level-is ∙ f, s .pre .1 .1 .1 .0)))
+
+  fits-is : summed (add (block 3 w m) (s .args .slot) (s .args .amount)) .over ≡ false
+  fits-is =
+      not-over (add (block 3 w m) (s .args .slot) (s .args .amount)) (add-sound (block 3 w m) (s .args .slot) (s .args .amount) (block-fits 3 w m word-in))
+      (omega (arith, halves-lt, add-total (block 3 w m) (s .args .slot) (s .args .amount)))
+
+widened-requires : tie.Need-widened-requires
+widened-requires c κs = (c .pre .0, (c .pre .1 .1 .1 .0, (c .pre .1 .0, past c)))
+
+returns : tie.Need-returns
+returns c = let v = c .before .before in
+    (v .widened .ensures (not-true _ (c .if1 .taken)), not-true _ (c .if1 .taken))
+
+add-requires : tie.Need-add-requires
+unfolding cap
+add-requires c κs = let s = c .before .before .before in
+    (omega arith, ((omega (arith, word-in s), s .pre .0), halves-lt s))
+
+returns-2 : tie.Need-returns-2
+returns-2 c = let s = c .before .before .before .before in
+    (c .add .ensures, ap (λ (x : Summed). x .over) (c .add .ensures) ∙ fits-is s)
+
+pub add-widening-spec : {M : Type 1} → statement M
+add-widening-spec = tie.close (tie.spec widened-requires returns add-requires returns-2)
