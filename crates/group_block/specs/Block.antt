@@ -46,14 +46,10 @@ Clean K (halves {n} l r) w = Clean K l (w % cap n) × Clean K r (w / cap n)
 unfoldable pub block : (n : ℕ) → ℕ → ℕ → Block n
 block n w m = fill (layout n m) w
 
--- the counter that slot k, counted from the block's first, is in, for any kind of meter: its value and its level
+-- the value of the counter that slot k, counted from the block's first, is in; its level is the layout's, `levelOf (shape b) k`
 unfoldable pub counterValue : {K : Kind} {n : ℕ} → BlockOf K n → ℕ → K .Value
 counterValue (counter v) k = v
 counterValue (split {n} l r) k = cond (ltb k (2 ^ n)) (counterValue l k) (counterValue r (k - 2 ^ n))
-
-unfoldable pub counterLevel : {K : Kind} {n : ℕ} → BlockOf K n → ℕ → ℕ
-counterLevel {K} {n} (counter v) k = n
-counterLevel (split {n} l r) k = cond (ltb k (2 ^ n)) (counterLevel l k) (counterLevel r (k - 2 ^ n))
 
 -- both of an ordinary meter, as they are read
 unfoldable pub counterAt : {n : ℕ} → Block n → ℕ → Counter

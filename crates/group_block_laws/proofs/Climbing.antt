@@ -8,8 +8,10 @@ use native.Mathlib.Omega.{arith}
 use borrow.Author.Tests.{lt-ltb, le-ltb}
 use lib.Dec.{ltb}
 use lib.Pow.{pow-pos, pow-add, shr-lt}
+use Rattle.group_layout.specs.Layout.{levelOf}
+use Rattle.group_layout.proofs.Laws.{level-le}
 use Rattle.group_block.specs.Kind.{Kind}
-use Rattle.group_block.specs.Block.{BlockOf, Block, counter, split, counterValue, counterLevel, total}
+use Rattle.group_block.specs.Block.{BlockOf, Block, counter, split, shape, counterValue, total}
 use Rattle.group_block.specs.Sum.{SumOf, fits, over, held, join, add, sumTotal}
 use Rattle.group_block.proofs.Sums.{Sums, ordinary-sums}
 use Rattle.group_block_laws.specs.Climb.{sibling, totalAt, formAt, climb, climbFrom}
@@ -120,16 +122,6 @@ module _ {K : Kind} {m : ℕ} (d : ℕ) (joined : SumOf K m → SumOf K (suc m))
       (ap (λ (z : K .Value). climb b (suc f) (suc n) (j / 2) (K .plus s z)) side
       ∙ climb-in f (suc n) (i / 2) (j / 2) (K .plus s (totalAt x n (sibling i))) (omega (arith, e)) (parent-lt f i k) up)
 
--- the level of a slot's counter is at most the block's
-level-le : {K : Kind} {m : ℕ} (b : BlockOf K m) (k : ℕ) → counterLevel b k ≤ m
-unfolding counterLevel
-level-le (counter v) k = omega arith
-level-le (split {n = m} l r) k = go (ltb k (2 ^ m)) (level-le l k) (level-le r (k - 2 ^ m))
-  where
-    go : (t : Bool) → counterLevel l k ≤ m → counterLevel r (k - 2 ^ m) ≤ m → cond t (counterLevel l k) (counterLevel r (k - 2 ^ m)) ≤ suc m
-    go true p q = omega arith
-    go false p q = omega arith
-
 -- the block of level n that slot k of a half is in
 slot-in : (d m n k : ℕ) → n ≤ m → (d * 2 ^ m + k) / 2 ^ n ≡ d * 2 ^ (m - n) + k / 2 ^ n
 slot-in d m n k h =
@@ -139,11 +131,11 @@ slot-in d m n k h =
 
 -- the climb from a slot of a half
 from-in : {K : Kind} {m d : ℕ} {joined : SumOf K m → SumOf K (suc m)} {b : BlockOf K (suc m)} {x y : BlockOf K m} → Half d joined b x y
-    → (k j : ℕ) (a : K .Value) → k < 2 ^ m → j ≡ d * 2 ^ m + k → counterLevel b j ≡ counterLevel x k → counterValue b j ≡ counterValue x k → climbFrom b j a ≡ joined (climbFrom x k a)
+    → (k j : ℕ) (a : K .Value) → k < 2 ^ m → j ≡ d * 2 ^ m + k → levelOf (shape b) j ≡ levelOf (shape x) k → counterValue b j ≡ counterValue x k → climbFrom b j a ≡ joined (climbFrom x k a)
 unfolding climbFrom
 from-in {K} {m} {d} {joined} {b} {x} {y} h k j a p q el ev =
-    let n = counterLevel x k in
-    let le : n ≤ m = level-le x k in
+    let n = levelOf (shape x) k in
+    let le : n ≤ m = level-le (shape x) k in
     let e : n + (m - n) ≡ m = omega arith in
     let f : suc m - n ≡ suc (m - n) = omega arith in
     let g : m ≡ m - n + n = omega arith in
@@ -152,12 +144,12 @@ from-in {K} {m} {d} {joined} {b} {x} {y} h k j a p q el ev =
     (shr-lt (m - n) n (rw (← g) p)) (ap (λ (z : ℕ). z / 2 ^ n) q ∙ slot-in d m n k le))
 
 counter-climbs : (K : Kind) (m : ℕ) (v : K .Value) (k : ℕ) (a : K .Value) → climbFrom {K = K} {m = m} (counter v) k a ≡ held m (K .plus v a)
-unfolding climbFrom counterLevel counterValue
+unfolding climbFrom levelOf shape counterValue
 counter-climbs K m v k a = rw (sub-self m) (climb-whole (counter v) (k / 2 ^ m) (K .plus v a))
 
 -- An addition to slot k is the climb from it.
 pub add-climbs : {K : Kind} (S : Sums K) {m : ℕ} (b : BlockOf K m) (k : ℕ) (a : K .Value) → k < 2 ^ m → add b k a ≡ climbFrom b k a
-unfolding add counterLevel counterValue
+unfolding add levelOf shape counterValue
 add-climbs {K} S {m} (counter v) k a h = sym (counter-climbs K m v k a)
 add-climbs {K} S (split {n = m} l r) k a h = elim (decLt k (2 ^ m)) [
   | yes p ↦

@@ -4,9 +4,9 @@
 use Prim.Native.Nat.{ℕ, zero, suc, _+_, _-_, _*_, _/_, _%_, _^_}
 use mathlib.Core.Bool.{cond}
 use lib.Dec.{ltb}
-use Rattle.group_layout.specs.Layout.{ones}
+use Rattle.group_layout.specs.Layout.{ones, levelOf}
 use Rattle.group_block.specs.Kind.{Kind}
-use Rattle.group_block.specs.Block.{BlockOf, counter, split, counterValue, counterLevel, total}
+use Rattle.group_block.specs.Block.{BlockOf, counter, split, shape, counterValue, total}
 use Rattle.group_block.specs.Sum.{SumOf, fits, over}
 
 -- the sibling of block i
@@ -38,4 +38,4 @@ climb {K} b (suc above) n i s =
 
 -- the climb from the counter of slot k, with amount a added to its value
 unfoldable pub climbFrom : {K : Kind} {m : ℕ} → BlockOf K m → ℕ → K .Value → SumOf K m
-climbFrom {K} {m} b k a = climb b (m - counterLevel b k) (counterLevel b k) (k / 2 ^ counterLevel b k) (K .plus (counterValue b k) a)
+climbFrom {K} {m} b k a = climb b (m - levelOf (shape b) k) (levelOf (shape b) k) (k / 2 ^ levelOf (shape b) k) (K .plus (counterValue b k) a)

@@ -8,10 +8,10 @@ use native.Mathlib.Numerals.{sub-one}
 use native.Mathlib.Omega.{arith}
 use borrow.Author.Tests.{eq-eqb, ne-eqb, eqb-true}
 use lib.Arith.{digits-lt}
-use lib.Dec.{eqb}
+use lib.Dec.{eqb, ltb}
 use lib.Pow.{pow-pos, pow-add, ones-lt, ones-split, high, low, split}
 use Rattle.laws.proofs.Tests.{or-cases}
-use Rattle.group_layout.specs.Layout.{Layout, merged, halves, bit, ones, marks, layout, valid, widest}
+use Rattle.group_layout.specs.Layout.{Layout, merged, halves, bit, ones, marks, layout, valid, widest, levelOf}
 use Rattle.group_layout.specs.Merged.{isMerged}
 
 -- the bits of two halves and the bit between them
@@ -106,6 +106,16 @@ pub widest-le : {n : ℕ} (L : Layout n) → widest L ≤ n
 unfolding widest
 widest-le merged = omega arith
 widest-le (halves l r) = omega (arith, widest-le l, widest-le r)
+
+-- the level of a slot's counter is at most the block's
+pub level-le : {m : ℕ} (L : Layout m) (k : ℕ) → levelOf L k ≤ m
+unfolding levelOf
+level-le merged k = omega arith
+level-le (halves {n = m} l r) k = go (ltb k (2 ^ m)) (level-le l k) (level-le r (k - 2 ^ m))
+  where
+    go : (t : Bool) → levelOf l k ≤ m → levelOf r (k - 2 ^ m) ≤ m → cond t (levelOf l k) (levelOf r (k - 2 ^ m)) ≤ suc m
+    go true p q = omega arith
+    go false p q = omega arith
 
 -- What the recursions on the level meet: a merged block or two halves. A function of the layout is taken where the halves' level is
 -- n - 1, since n is its successor only by a proof.
