@@ -15,7 +15,9 @@ use Rattle.group_layout.specs.Layout.{valid}
 use Rattle.group_layout.proofs.Laws.{valid-marks}
 use Rattle.group_block.specs.declared.Summed.{Summed}
 use Rattle.group_block.specs.Block.{Block, cap, Fits, shape, word, block, counterAt, total}
-use Rattle.group_block.specs.Sum.{Sum, fits, over, add, unite, summed, sumTotal, Sound}
+use Rattle.group_block.specs.Sum.{Sum, fits, over, add, unite, sumTotal}
+use Rattle.group_block.specs.Passed.{summed}
+use Rattle.group_block.proofs.Adding.{Sound}
 use Rattle.group_block.proofs.Laws.{word-lt, word-block, marks-block, block-is, block-fits, total-lt}
 use Rattle.group_block.proofs.Adding.{add-total, add-sound, unite-total, unite-sound}
 use Rattle.group_block.proofs.Places.{add-in-place}

@@ -9,9 +9,14 @@ use Rattle.group_layout.specs.Layout.{Layout, merged, halves}
 use Rattle.group_block.specs.declared.Counter.{Counter}
 use Rattle.group_block.specs.Kind.{Kind}
 use Rattle.group_block.specs.Block.{BlockOf, Block, counter, split, cap, Fits, shape, counterAt, total}
-use Rattle.group_block.specs.Sum.{SumOf, Sum, fits, over, held, join, add, unite, sumTotal, Sound}
+use Rattle.group_block.specs.Sum.{SumOf, Sum, fits, over, held, join, add, unite, sumTotal}
 use Rattle.group_block.specs.Least.{together}
 use Rattle.group_block.proofs.Sums.{Sums, ordinary-sums, swap, cross}
+
+-- a block whose counters hold their values, or a sum that does not fit
+unfoldable pub Sound : {K : Kind} {n : ℕ} → SumOf K n → Type 0
+Sound (fits b) = Fits b
+Sound {K} {n} (over s) = K .bound n ≤ K .size s
 
 -- the two cases of a sum that is tried
 pub held-cases : {K : Kind} (n : ℕ) (s : K .Value) (P : SumOf K n → Type 0)

@@ -15,7 +15,8 @@ use Rattle.group_layout.specs.Layout.{Layout, merged, halves, marks, layout, va
 use Rattle.group_layout.proofs.Laws.{layout-marks, marks-layout}
 use Rattle.group_block.specs.Kind.{ordinary}
 use Rattle.group_block.specs.Block.{cap, shape, fill, block, total}
-use Rattle.group_block.specs.Sum.{Sum, fits, over, held, join, unite, summed, Sane}
+use Rattle.group_block.specs.Sum.{Sum, fits, over, held, join, unite}
+use Rattle.group_block.specs.Passed.{summed, Sane}
 use Rattle.group_block.specs.Least.{Suits, Least}
 use Rattle.group_block.proofs.Laws.{cap-square, high-lt, shape-fill}
 use Rattle.group_block.proofs.Least.{unite-least}

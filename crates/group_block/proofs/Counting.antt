@@ -1,16 +1,19 @@
 -- Counters hold the totals of their blocks, and layouts only grow: adding and uniting keep this, for any kind of meter and any level.
-use mathlib.Core.Path.{_≡_, sym, ap, ap₂, _∙_}
+use mathlib.Core.Path.{_≡_, refl, sym, ap, ap₂, _∙_}
+use mathlib.Core.Bool.{Bool, true, false, cond}
+use lib.Dec.{ltb}
 use mathlib.Core.Logic.{⊎-elim}
 use Prim.Native.Nat.{ℕ, suc, _+_, _-_, _*_, _/_, _%_, _^_}
 use native.Mathlib.Nat.{zero-mod, zero-div}
 use native.Mathlib.Decide.{ℕ-discrete}
 use native.Mathlib.Omega.{arith}
-use Rattle.group_layout.specs.Layout.{Layout, merged, halves}
+use Rattle.group_layout.specs.Layout.{Layout, merged, halves, levelOf}
+use Rattle.group_block.specs.declared.Counter.{Counter}
 use Rattle.group_block.specs.Kind.{Kind}
-use Rattle.group_block.specs.Block.{BlockOf, counter, split, cap, shape, fill, total}
+use Rattle.group_block.specs.Block.{BlockOf, Block, counter, split, cap, shape, fill, counterValue, counterAt, total}
 use Rattle.group_block.specs.Sum.{SumOf, fits, over, held, join, add, unite, sumTotal}
 use Rattle.group_block.specs.Least.{Inside}
-use Rattle.group_block.specs.Counts.{Totals, Adds, Counts, SumCounts, Grows, valueAt, levelAt}
+use Rattle.group_block.specs.Counts.{Totals, Adds, Counts, SumCounts, Grows}
 use Rattle.group_block.proofs.Sums.{Sums, swap, cross}
 use Rattle.group_block.proofs.Sides.{half, by-half}
 use Rattle.group_block.proofs.Adding.{held-cases, add-halves}
@@ -103,13 +106,31 @@ module _ (K : Kind) (t u v : Totals K) (sum : (n i : ℕ) → v n i ≡ K .plus 
 
 -- a slot's counter holds the total of the block of its level that the slot is in
 pub value-counts : (K : Kind) (t : Totals K) {n : ℕ} (i s : ℕ) (b : BlockOf K n) → s / 2 ^ n ≡ i → Counts t i b
-    → valueAt b (s % 2 ^ n) ≡ t (levelAt b (s % 2 ^ n)) (s / 2 ^ levelAt b (s % 2 ^ n))
-unfolding Counts valueAt levelAt
+    → counterValue b (s % 2 ^ n) ≡ t (levelOf (shape b) (s % 2 ^ n)) (s / 2 ^ levelOf (shape b) (s % 2 ^ n))
+unfolding Counts counterValue levelOf shape
 value-counts K t {n} i s (counter v) e c = c ∙ ap (t n) (sym e)
 value-counts K t i s (split {n} l r) e c = ⊎-elim
     (λ x. rw (x .test, x .place) (value-counts K t (2 * i) s l (x .is) (c .0)))
     (λ x. rw (x .test, x .place) (value-counts K t (2 * i + 1) s r (x .is) (c .1)))
     (by-half s n i e)
+
+-- what is read of a slot is the value and the level of its counter
+pub counter-at : {n : ℕ} (b : Block n) (k : ℕ) → counterAt b k ≡ record { value = counterValue b k; level = levelOf (shape b) k }
+unfolding counterAt counterValue levelOf shape
+counter-at (counter v) k = refl
+counter-at (split {n} l r) k = go (ltb k (2 ^ n)) (counter-at l k) (counter-at r (k - 2 ^ n))
+  where
+    read : Bool → Counter
+    read t = record {
+      value = cond t (counterValue l k) (counterValue r (k - 2 ^ n));
+      level = cond t (levelOf (shape l) k) (levelOf (shape r) (k - 2 ^ n));
+    }
+
+    go : (t : Bool) → counterAt l k ≡ record { value = counterValue l k; level = levelOf (shape l) k }
+        → counterAt r (k - 2 ^ n) ≡ record { value = counterValue r (k - 2 ^ n); level = levelOf (shape r) (k - 2 ^ n) }
+        → cond t (counterAt l k) (counterAt r (k - 2 ^ n)) ≡ read t
+    go true p q = p
+    go false p q = q
 
 -- layouts only grow
 held-grows : (K : Kind) (n : ℕ) (L : Layout n) (s : K .Value) → Grows L (held {K = K} n s)

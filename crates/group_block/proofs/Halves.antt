@@ -5,11 +5,14 @@ use Prim.Native.Nat.{ℕ, zero, suc, _+_, _-_, _*_, _/_, _%_, _^_, _≤_, _<_}
 use native.Mathlib.Nat.{mod-lt}
 use native.Mathlib.Numerals.{add-one, sub-one}
 use native.Mathlib.Omega.{arith}
-use Rattle.group_layout.specs.Layout.{isMerged, marks, layout, valid}
+use Rattle.group_layout.specs.Layout.{marks, layout, valid}
+use Rattle.group_layout.specs.Merged.{isMerged}
 use Rattle.group_layout.proofs.Laws.{above-slot, valid-marks, valid-apart}
 use Rattle.group_block.specs.declared.Summed.{Summed}
 use Rattle.group_block.specs.Block.{Block, split, cap, Fits, shape, word, block, total}
-use Rattle.group_block.specs.Sum.{Sum, fits, over, held, join, summed, sumOf, sumTotal, Sound, leftHalf, rightHalf, Sane, Apt}
+use Rattle.group_block.specs.Sum.{Sum, fits, over, held, join, sumTotal}
+use Rattle.group_block.specs.Passed.{summed, sumOf, leftHalf, rightHalf, Sane, Apt}
+use Rattle.group_block.proofs.Adding.{Sound}
 use Rattle.group_block.proofs.Laws.{cap-pos, high-lt, cap-below, word-lt, block-is, word-block, marks-block, block-suc, block-fits, total-lt}
 
 -- what the code passes stands for the Sum that it was made of

@@ -9,7 +9,8 @@ use borrow.Author.Tests.{ne-eqb, lt-ltb, le-ltb}
 use lib.Dec.{eqb, ltb}
 use lib.Arith.{digits-lt, digits-div, digits-mod}
 use lib.Pow.{pow-pos, pow-mono, pow-add}
-use Rattle.group_layout.specs.Layout.{Layout, merged, halves, isMerged, marks, layout, valid}
+use Rattle.group_layout.specs.Layout.{Layout, merged, halves, marks, layout, valid}
+use Rattle.group_layout.specs.Merged.{isMerged}
 use Rattle.group_layout.proofs.Laws.{layout-marks, marks-layout, is-merged, layout-suc}
 use Rattle.group_block.specs.Kind.{Kind, ordinary}
 use Rattle.group_block.proofs.Codes.{Codes, ordinary-codes}

@@ -8,7 +8,8 @@ use native.Mathlib.Omega.{arith}
 use borrow.Author.Tests.{lt-ltb, le-ltb}
 use lib.Dec.{ltb}
 use lib.Pow.{pow-add, pow-pos}
-use Rattle.group_layout.specs.Layout.{Layout, merged, halves, isMerged, layout}
+use Rattle.group_layout.specs.Layout.{Layout, merged, halves, layout}
+use Rattle.group_layout.specs.Merged.{isMerged}
 unfoldable pub use Rattle.group_layout.specs.Layout.{levelOf}
 use Rattle.group_block.specs.declared.Counter.{Counter}
 use Rattle.group_block.specs.Block.{Block, counter, split, cap, Fits, shape, block, counterAt, total}

@@ -6,7 +6,9 @@ use native.Mathlib.Omega.{arith}
 use lib.Dec.{ltb}
 use Rattle.group_block.specs.declared.Summed.{Summed}
 use Rattle.group_block.specs.Block.{Block, counter, split, block, total}
-use Rattle.group_block.specs.Sum.{fits, held, join, add, unite, summed, sumOf, sumTotal, Sound, Sane, Apt}
+use Rattle.group_block.specs.Sum.{fits, held, join, add, unite, sumTotal}
+use Rattle.group_block.specs.Passed.{summed, sumOf, Sane, Apt}
+use Rattle.group_block.proofs.Adding.{Sound}
 use Rattle.group_block.proofs.Adding.{add-total, add-sound, unite-total, unite-sound}
 use Rattle.group_block.proofs.Halves.{Apart, both-apart, join-asks, join-gives, apart-is, left-sane, right-sane, left-is, right-is, left-fits, right-fits, total-apart}
 

@@ -1,4 +1,4 @@
--- A block and its counters. Document 01, 'Rows, groups and blocks'.
+-- A block and its counters. Document 01, 'Rows, groups and blocks'. Cited by contracts and theorems.
 use Prim.Native.Nat.{ℕ, suc, _+_, _-_, _*_, _/_, _%_, _^_, _<_}
 unfoldable pub use Rattle.group_block.specs.Kind.{cap}
 use Rattle.group_block.specs.Kind.{Kind, ordinary}
@@ -46,7 +46,12 @@ Clean K (halves {n} l r) w = Clean K l (w % cap n) × Clean K r (w / cap n)
 unfoldable pub block : (n : ℕ) → ℕ → ℕ → Block n
 block n w m = fill (layout n m) w
 
--- the counter that slot k, counted from the block's first, is in: its value and its level
+-- the value of the counter that slot k, counted from the block's first, is in; its level is the layout's, `levelOf (shape b) k`
+unfoldable pub counterValue : {K : Kind} {n : ℕ} → BlockOf K n → ℕ → K .Value
+counterValue (counter v) k = v
+counterValue (split {n} l r) k = cond (ltb k (2 ^ n)) (counterValue l k) (counterValue r (k - 2 ^ n))
+
+-- both of an ordinary meter, as they are read
 unfoldable pub counterAt : {n : ℕ} → Block n → ℕ → Counter
 counterAt {n} (counter v) k = record { value = v; level = n }
 counterAt (split {n} l r) k = cond (ltb k (2 ^ n)) (counterAt l k) (counterAt r (k - 2 ^ n))

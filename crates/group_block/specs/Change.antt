@@ -1,4 +1,4 @@
--- Another value in one counter of a block.
+-- Another value in one counter of a block. Cited by contracts.
 use Prim.Native.Nat.{ℕ, _-_, _%_, _^_}
 use mathlib.Core.Bool.{cond}
 use lib.Dec.{ltb}

@@ -1,8 +1,6 @@
--- What a block's counters hold: the totals of their blocks.
-use Prim.Native.Nat.{ℕ, suc, _+_, _-_, _*_, _^_}
+-- What a block's counters hold: the totals of their blocks. Cited by theorems.
+use Prim.Native.Nat.{ℕ, suc, _+_, _*_}
 use mathlib.Core.Path.{_≡_}
-use mathlib.Core.Bool.{cond}
-use lib.Dec.{ltb}
 use Rattle.group_layout.specs.Layout.{Layout}
 use Rattle.group_block.specs.Kind.{Kind}
 use Rattle.group_block.specs.Block.{BlockOf, counter, split, shape}
@@ -30,12 +28,3 @@ SumCounts {K} {n} t i (over s) = s ≡ t n i
 unfoldable pub Grows : {K : Kind} {n : ℕ} → Layout n → SumOf K n → Type 0
 Grows L (fits b) = Inside L (shape b)
 Grows L (over s) = Unit
-
--- the counter that slot k, counted from the block's first, is in: its value and its level
-unfoldable pub valueAt : {K : Kind} {n : ℕ} → BlockOf K n → ℕ → K .Value
-valueAt (counter v) k = v
-valueAt (split {n} l r) k = cond (ltb k (2 ^ n)) (valueAt l k) (valueAt r (k - 2 ^ n))
-
-unfoldable pub levelAt : {K : Kind} {n : ℕ} → BlockOf K n → ℕ → ℕ
-levelAt {K} {n} (counter v) k = n
-levelAt (split {n} l r) k = cond (ltb k (2 ^ n)) (levelAt l k) (levelAt r (k - 2 ^ n))

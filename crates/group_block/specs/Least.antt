@@ -1,4 +1,4 @@
--- What a union's layout is: the least that suits both blocks. Document 01, 'Updating, asking, uniting'.
+-- What a union's layout is: the least that suits both blocks. Document 01, 'Updating, asking, uniting'. Cited by theorems.
 use Prim.Native.Nat.{ℕ, _-_, _^_, _<_}
 use mathlib.Core.Bool.{Bool, true, false, cond}
 use lib.Dec.{ltb}

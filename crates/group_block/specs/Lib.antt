@@ -4,3 +4,4 @@ pub mod Sum
 pub mod Least
 pub mod Counts
 pub mod Change
+pub mod Passed

@@ -1,12 +1,9 @@
--- Adding to a block and uniting two. Document 01, 'Updating, asking, uniting'.
-use Prim.Native.Nat.{ℕ, suc, _-_, _/_, _%_, _^_, _≤_, _<_}
-use mathlib.Core.Path.{_≡_}
-use mathlib.Core.Bool.{true, false, cond}
+-- Adding to a block and uniting two. Document 01, 'Updating, asking, uniting'. Cited by contracts and theorems.
+use Prim.Native.Nat.{ℕ, suc, _-_, _^_}
+use mathlib.Core.Bool.{cond}
 use lib.Dec.{ltb}
-use Rattle.group_layout.specs.Layout.{marks, valid}
 use Rattle.group_block.specs.Kind.{Kind, ordinary}
-use Rattle.group_block.specs.Block.{BlockOf, counter, split, cap, Fits, shape, word, block, total}
-use Rattle.group_block.specs.declared.Summed.{Summed}
+use Rattle.group_block.specs.Block.{BlockOf, counter, split, total}
 
 -- What an addition or a union leaves of a block of level n: a block, or a sum that no counter of level n holds.
 pub data SumOf (K : Kind) (n : ℕ) : Type 0 where
@@ -42,31 +39,3 @@ unfoldable pub unite : {K : Kind} {n : ℕ} → BlockOf K n → BlockOf K n → 
 unite {K} {n} (counter u) y = held n (K .plus u (total y))
 unite {K} (split {n} l r) (counter v) = held (suc n) (K .plus (K .plus (total l) (total r)) v)
 unite (split l r) (split l′ r′) = join (unite l l′) (unite r r′)
-
--- a Sum as the code passes it: a block's count bytes as one number and its merge bits, or the sum
-unfoldable pub summed : {n : ℕ} → Sum n → Summed
-summed (fits b) = record { over = false; word = word b; merge = marks (shape b) }
-summed (over s) = record { over = true; word = s; merge = 0 }
-
-unfoldable pub sumOf : (n : ℕ) → Summed → Sum n
-sumOf n s = cond (s .over) (over (s .word)) (fits (block n (s .word) (s .merge)))
-
--- a block whose counters hold their values, or a sum that does not fit
-unfoldable pub Sound : {K : Kind} {n : ℕ} → SumOf K n → Type 0
-Sound (fits b) = Fits b
-Sound {K} {n} (over s) = K .bound n ≤ K .size s
-
--- the halves of a block that is not merged, as the code passes them
-unfoldable pub leftHalf : ℕ → ℕ → ℕ → Summed
-leftHalf n w m = record { over = false; word = w % cap n; merge = m % 2 ^ (2 ^ n) }
-
-unfoldable pub rightHalf : ℕ → ℕ → ℕ → Summed
-rightHalf n w m = record { over = false; word = w / cap n; merge = m / 2 ^ (2 ^ n) }
-
--- count bytes, taken as one number, and merge bits of a block of level n
-abbrev pub Sane : ℕ → ℕ → ℕ → Type 0
-Sane n w m = (w < cap n) × (valid n m ≡ true)
-
--- what the code passes is a block's count bytes and valid merge bits, unless it is over
-abbrev pub Apt : ℕ → Summed → Type 0
-Apt n s = s .over ≡ false → Sane n (s .word) (s .merge)

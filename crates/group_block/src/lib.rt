@@ -7,14 +7,14 @@ use group_layout::low;
 use group_layout::ones;
 use group_layout::slots;
 ghost use mathlib.Core.Path.{_≡_};
-ghost use mathlib.Core.Bool.{not, _&&_};
 ghost use Prim.Native.Nat.{ℕ, _+_, _-_, _*_, _/_, _%_, _^_, _<_, _≤_};
-ghost use lib.Dec.{ltb, eqb};
+ghost use lib.Dec.{ltb};
 ghost use Rattle.group_layout.specs.Layout.{merged, halves, marks};
 ghost use Rattle.group_block.specs.Block.{cap, block};
 ghost use Rattle.group_block.specs.Block as spec;
 ghost use Rattle.group_block.specs.Sum as sum_spec;
-ghost use Rattle.group_block.specs.Sum.{summed, sumOf, sumTotal, leftHalf, rightHalf, Sane, Apt};
+ghost use Rattle.group_block.specs.Sum.{sumTotal};
+ghost use Rattle.group_block.specs.Passed.{summed, sumOf, leftHalf, rightHalf, Sane, Apt, bothTotal, addsInPlace};
 
 // A counter that was read.
 pub struct Counter {
@@ -185,7 +185,7 @@ pub fn add(level: u32, word: u64, merge: u8, slot: usize, amount: u64) -> Summed
 // holds its sum. Then nothing is carried to where a counter starts or the block ends. Merge bit k is clear where slot k + 1 starts a
 // counter or is past the block, at any level.
 fn may_add(word: u64, merge: u8, other_word: u64, other_merge: u8) -> bool
-    ensures { λ r. ⌜ ((n : ℕ) → n ≤ 3 → Sane n word merge → «other_word» < cap n → let u = summed (sum_spec.unite (block n word merge) (block n «other_word» «other_merge»)) in r ≡ (eqb merge «other_merge» && (not (u .over) && eqb (u .merge) merge))) ⌝ }
+    ensures { λ r. ⌜ ((n : ℕ) → n ≤ 3 → Sane n word merge → «other_word» < cap n → r ≡ addsInPlace n word merge «other_word» «other_merge») ⌝ }
 {
     if merge != other_merge {
         return false;
@@ -217,7 +217,7 @@ fn pair_sum(half: u32, word: u64) -> u64
 // Two blocks united. Where both have the same layout and each counter holds its sum, the layout stays. Where both are two counters
 // and one does not hold its sum, they become one counter.
 pub fn unite(level: u32, word: u64, merge: u8, other_word: u64, other_merge: u8) -> Summed
-    requires { ⌜ level ≤ 3 ⌝ ∗ ⌜ Sane level word merge ⌝ ∗ ⌜ Sane level «other_word» «other_merge» ⌝ ∗ ⌜ spec.total (block level word merge) + spec.total (block level «other_word» «other_merge») < 2 ^ 64 ⌝ }
+    requires { ⌜ level ≤ 3 ⌝ ∗ ⌜ Sane level word merge ⌝ ∗ ⌜ Sane level «other_word» «other_merge» ⌝ ∗ ⌜ bothTotal level word merge «other_word» «other_merge» < 2 ^ 64 ⌝ }
     ensures { λ r. ⌜ r ≡ summed (sum_spec.unite (block level word merge) (block level «other_word» «other_merge»)) ⌝ }
 {
     if may_add(word, merge, other_word, other_merge) {

@@ -1,17 +1,18 @@
 -- Laws of merge bits, for any level.
 use mathlib.Core.Path.{_≡_, refl, sym, ap, _∙_}
-use mathlib.Core.Bool.{Bool, true, false, cond, _&&_, _||_, or-true, and-eq-true-iff, true≢false}
-use mathlib.Core.Logic.{_⊎_, inl, inr, ⊎-elim}
+use mathlib.Core.Bool.{Bool, true, false, cond, _&&_, or-true, and-eq-true-iff, true≢false}
+use mathlib.Core.Logic.{⊎-elim}
 use Prim.Native.Nat.{ℕ, zero, suc, _+_, _-_, _*_, _/_, _%_, _^_, _≤_, _<_}
-use native.Mathlib.Nat.{mul-assoc, mul-comm, pow-suc, mul-mod-left, one-mul, mod-eq-of-lt}
+use native.Mathlib.Nat.{mul-assoc, mul-comm, pow-suc, mul-mod-left}
 use native.Mathlib.Numerals.{sub-one}
 use native.Mathlib.Omega.{arith}
 use borrow.Author.Tests.{eq-eqb, ne-eqb, eqb-true}
 use lib.Arith.{digits-lt}
-use lib.Dec.{eqb}
-use lib.Pow.{pow-pos, pow-lt, pow-add, ones-lt, ones-split, high, low, split}
+use lib.Dec.{eqb, ltb}
+use lib.Pow.{pow-pos, pow-add, ones-lt, ones-split, high, low, split}
 use Rattle.laws.proofs.Tests.{or-cases}
-use Rattle.group_layout.specs.Layout.{Layout, merged, halves, isMerged, bit, ones, marks, layout, valid, widest}
+use Rattle.group_layout.specs.Layout.{Layout, merged, halves, bit, ones, marks, layout, valid, widest, levelOf}
+use Rattle.group_layout.specs.Merged.{isMerged}
 
 -- the bits of two halves and the bit between them
 pub twice : (n : ℕ) → 2 ^ n - 1 + 2 ^ n ≡ 2 ^ suc n - 1
@@ -105,6 +106,16 @@ pub widest-le : {n : ℕ} (L : Layout n) → widest L ≤ n
 unfolding widest
 widest-le merged = omega arith
 widest-le (halves l r) = omega (arith, widest-le l, widest-le r)
+
+-- the level of a slot's counter is at most the block's
+pub level-le : {m : ℕ} (L : Layout m) (k : ℕ) → levelOf L k ≤ m
+unfolding levelOf
+level-le merged k = omega arith
+level-le (halves {n = m} l r) k = go (ltb k (2 ^ m)) (level-le l k) (level-le r (k - 2 ^ m))
+  where
+    go : (t : Bool) → levelOf l k ≤ m → levelOf r (k - 2 ^ m) ≤ m → cond t (levelOf l k) (levelOf r (k - 2 ^ m)) ≤ suc m
+    go true p q = omega arith
+    go false p q = omega arith
 
 -- What the recursions on the level meet: a merged block or two halves. A function of the layout is taken where the halves' level is
 -- n - 1, since n is its successor only by a proof.

@@ -1,4 +1,4 @@
--- Layout codes. Document 01, 'Layout codes'.
+-- Layout codes. Document 01, 'Layout codes'. Cited by contracts and theorems.
 use Prim.Native.Nat.{ℕ, zero, suc, _+_, _*_, _/_, _%_}
 use mathlib.Core.Bool.{cond}
 use lib.Dec.{eqb}

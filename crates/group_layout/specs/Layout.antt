@@ -1,6 +1,6 @@
--- The layout of a block: which of its blocks are merged. Document 01, 'Rows, groups and blocks'.
+-- The layout of a block: which of its blocks are merged. Document 01, 'Rows, groups and blocks'. Cited by contracts and theorems.
 use Prim.Native.Nat.{ℕ, zero, suc, _+_, _-_, _*_, _/_, _%_, _^_, max}
-use mathlib.Core.Bool.{Bool, true, false, cond, _&&_, _||_}
+use mathlib.Core.Bool.{Bool, cond, _&&_, _||_}
 use lib.Dec.{eqb, ltb}
 
 -- A block of level n has 2 ^ n slots. It is merged, one counter, or two blocks of the level below side by side.
@@ -8,10 +8,6 @@ use lib.Dec.{eqb, ltb}
 pub data Layout : ℕ → Type 0 where
   merged : {n : ℕ} → Layout n
   halves : {n : ℕ} → Layout n → Layout n → Layout (suc n)
-
-unfoldable pub isMerged : {n : ℕ} → Layout n → Bool
-isMerged merged = true
-isMerged (halves l r) = false
 
 -- bit k of a number, bit 0 being worth 1
 unfoldable pub bit : ℕ → ℕ → Bool

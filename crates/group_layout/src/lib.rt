@@ -4,6 +4,7 @@ ghost use mathlib.Core.Path.{_≡_};
 ghost use Prim.Native.Nat.{_+_, _-_, _*_, _/_, _%_, _^_, _<_, _≤_};
 ghost use Rattle.group_layout.specs.Layout as spec;
 ghost use Rattle.group_layout.specs.Layout.{bit, layout, marks};
+ghost use Rattle.group_layout.specs.Merged.{isMerged};
 ghost use Rattle.group_layout.specs.Code as code_spec;
 
 // The number of slots of a block of level 0 to 2, half of a larger one.
@@ -27,7 +28,7 @@ fn own_bit(half: u32, merge: u8) -> bool
 // Whether a block is merged. A single slot counts as merged.
 pub fn is_merged(level: u32, merge: u8) -> bool
     requires { ⌜ level ≤ 3 ⌝ }
-    ensures { λ r. ⌜ r ≡ spec.isMerged (layout level merge) ⌝ }
+    ensures { λ r. ⌜ r ≡ isMerged (layout level merge) ⌝ }
 {
     if level == 0 {
         return true;

@@ -10,7 +10,7 @@ use borrow.Author.Tests.{lt-ltb, le-ltb, eqb-false}
 use lib.Dec.{ltb}
 use lib.Pow.{pow-pos}
 use Rattle.group_layout.specs.Layout.{Layout, merged, halves, bit, ones, marks, layout, valid, widest, levelOf}
-use Rattle.group_layout.proofs.Laws.{marks-in, bit-halves, marks-layout, widest-le}
+use Rattle.group_layout.proofs.Laws.{marks-in, bit-halves, marks-layout, widest-le, level-le}
 use Rattle.group_block.specs.Block.{block, counterAt}
 use Rattle.group_block.proofs.Bits.{ones-bit, low-bit, high-bit}
 use Rattle.group_block.proofs.Slots.{level-block}
@@ -85,14 +85,6 @@ level-left {n} l r k h = rw (lt-ltb k (2 ^ n) h)
 level-right : {n : ℕ} (l r : Layout n) (k : ℕ) → 2 ^ n ≤ k → levelOf (halves l r) k ≡ levelOf r (k - 2 ^ n)
 unfolding levelOf
 level-right {n} l r k h = rw (le-ltb k (2 ^ n) h)
-
-pub level-le : {n : ℕ} (L : Layout n) (k : ℕ) → levelOf L k ≤ n
-unfolding levelOf
-level-le merged k = omega arith
-level-le (halves {n} l r) k = elim (decLt k (2 ^ n)) [
-  | yes h ↦ rw (level-left l r k h) (omega (arith, level-le l k))
-  | no h ↦ rw (level-right l r k (omega arith)) (omega (arith, level-le r (k - 2 ^ n)))
-]
 
 below-split : {n : ℕ} (l r : Layout n) (k : ℕ) → levelOf (halves l r) k ≤ n
 below-split {n} l r k = elim (decLt k (2 ^ n)) [

@@ -7,11 +7,14 @@ use native.Mathlib.Decide.{decLt}
 use borrow.Author.Tests.{ne-eqb, lt-ltb, le-ltb, le-leb, lt-leb}
 use lib.Dec.{leb, ltb}
 use lib.Bits.{bitAnd, bitOr, and-mask, or-shr, or-step}
-use Rattle.group_layout.specs.Layout.{bit, isMerged, layout, valid, levelOf}
+use Rattle.group_layout.specs.Layout.{bit, layout, valid, levelOf}
+use Rattle.group_layout.specs.Merged.{isMerged}
 use Rattle.group_layout.proofs.Laws.{own-bit}
 use Rattle.group_block.specs.Block.{cap, word, block, counterAt, total}
 use Rattle.group_block.specs.Change.{change}
-use Rattle.group_block.specs.Sum.{add, summed, Sound}
+use Rattle.group_block.specs.Sum.{add}
+use Rattle.group_block.specs.Passed.{summed}
+use Rattle.group_block.proofs.Adding.{Sound}
 use Rattle.group_block.proofs.Laws.{word-lt, shape-fill, word-block, marks-block, block-fits}
 use Rattle.group_block.proofs.Adding.{add-sound}
 use Rattle.group_block.proofs.Changing.{change-fits}

@@ -8,7 +8,9 @@ use native.Mathlib.Omega.{arith}
 use lib.Pow.{pow-pos, field, shr-shr, mod-mod-pow}
 use Rattle.group_layout.specs.Layout.{valid, marks}
 use Rattle.group_block.specs.Block.{Block, cap, shape, word, block, counterAt}
-use Rattle.group_block.specs.Sum.{add, summed, Sound}
+use Rattle.group_block.specs.Sum.{add}
+use Rattle.group_block.specs.Passed.{summed}
+use Rattle.group_block.proofs.Adding.{Sound}
 use Rattle.group_block.proofs.Laws.{word-lt, word-block, marks-block, block-fits}
 use Rattle.group_block.proofs.Adding.{add-sound}
 use Rattle.group_block.proofs.Twins.{Twins, Widened, whole-left, widens}

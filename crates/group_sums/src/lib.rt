@@ -17,7 +17,7 @@ ghost use Rattle.group_layout.specs.Layout.{layout, valid, levelOf};
 ghost use Rattle.group_block.specs.Block.{cap, block, counterAt};
 ghost use Rattle.group_block.specs.Block as block_spec;
 ghost use Rattle.group_block.specs.Change as change_spec;
-ghost use Rattle.group_block.specs.Sum.{summed};
+ghost use Rattle.group_block.specs.Passed.{summed};
 ghost use Rattle.group_block.specs.Sum as sum_spec;
 ghost use Rattle.group_sums.specs.Sums as spec;
 

@@ -2,12 +2,14 @@ use Rattle.group_block.proofs.Halves.{Apart}
 use borrow.Author.Tests.{lt-ltb, le-ltb}
 use Rattle.group_block.proofs.Steps.{left-asked, right-asked, left-join, left-sum, right-join, right-sum}
 use Rattle.group_block.specs.Block.{total, block}
-use Rattle.group_block.specs.Sum.{add as add-of, summed}
+use Rattle.group_block.specs.Sum.{add as add-of}
+use Rattle.group_block.specs.Passed.{summed}
 use Rattle.group_block.proofs.Laws.{block-merged}
 use mathlib.Core.Path.{_≡_, sym, _∙_}
 use Prim.Native.Nat.{_-_, _^_, ℕ, _<_}
 use mathlib.Core.Bool.{false}
-use Rattle.group_layout.specs.Layout.{isMerged, layout}
+use Rattle.group_layout.specs.Layout.{layout}
+use Rattle.group_layout.specs.Merged.{isMerged}
 use Rattle.group_layout.proofs.Laws.{above-slot}
 use native.Mathlib.Omega.{arith}
 use borrow.Fn.Kinds.{In, Out}

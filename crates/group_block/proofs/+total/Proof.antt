@@ -4,7 +4,8 @@ use Rattle.group_block.proofs.Halves.{Apart, words-in, total-apart, tot
 use mathlib.Core.Path.{_≡_, sym, ap₂, _∙_}
 use Prim.Native.Nat.{_+_, ℕ, _<_}
 use mathlib.Core.Bool.{false}
-use Rattle.group_layout.specs.Layout.{isMerged, layout}
+use Rattle.group_layout.specs.Layout.{layout}
+use Rattle.group_layout.specs.Merged.{isMerged}
 use Rattle.group_layout.proofs.Laws.{above-slot}
 use native.Mathlib.Omega.{arith}
 use borrow.Fn.Kinds.{In, Out}

@@ -2,10 +2,12 @@ use mathlib.Core.Path.{_≡_, refl, sym, ap, ap₂, _∙_}
 use Prim.Native.Nat.{_+_, _-_, ℕ, _<_}
 use mathlib.Core.Bool.{false, _&&_}
 use lib.Dec.{eqb}
-use Rattle.group_layout.specs.Layout.{isMerged, layout}
+use Rattle.group_layout.specs.Layout.{layout}
+use Rattle.group_layout.specs.Merged.{isMerged}
 use Rattle.group_layout.proofs.Laws.{above-slot}
 use Rattle.group_block.specs.Block.{cap, block, total as total-of}
-use Rattle.group_block.specs.Sum.{fits, unite as unite-of, held as held-of, summed}
+use Rattle.group_block.specs.Sum.{fits, unite as unite-of, held as held-of}
+use Rattle.group_block.specs.Passed.{summed}
 use Rattle.group_block.proofs.Laws.{cap-mono, block-merged}
 use Rattle.group_block.proofs.Carries.{keeps, kept}
 use Rattle.group_block.proofs.Halves.{block-summed, Apart}

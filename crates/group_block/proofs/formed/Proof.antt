@@ -1,6 +1,7 @@
 use mathlib.Core.Path.{ap₂, _∙_}
 use Prim.Native.Nat.{ℕ, _+_}
-use Rattle.group_block.specs.Sum.{summed, held}
+use Rattle.group_block.specs.Sum.{held}
+use Rattle.group_block.specs.Passed.{summed}
 use borrow.Author.Needs.{needs}
 use Rattle.group_block.proofs.formed.Statement.{statement}
 use Rattle.group_block.proofs.formed.Tie as tie

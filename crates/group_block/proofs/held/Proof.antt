@@ -3,7 +3,8 @@ use Prim.Native.Nat.{ℕ}
 use Rattle.group_block.specs.Block.{cap, shape, word}
 use mathlib.Core.Bool.{true, false}
 use lib.Dec.{ltb}
-use Rattle.group_block.specs.Sum.{held, summed}
+use Rattle.group_block.specs.Sum.{held}
+use Rattle.group_block.specs.Passed.{summed}
 use Rattle.group_layout.specs.Layout.{marks, ones}
 use borrow.Author.Needs.{needs}
 use Rattle.group_block.proofs.held.Statement.{statement}

@@ -1,5 +1,6 @@
 use native.Mathlib.Omega.{arith}
-use Rattle.group_block.specs.Sum.{sumOf, sumTotal}
+use Rattle.group_block.specs.Sum.{sumTotal}
+use Rattle.group_block.specs.Passed.{sumOf}
 use Rattle.group_block.proofs.sum_total.Statement.{statement}
 use Rattle.group_block.proofs.sum_total.Tie as tie
 

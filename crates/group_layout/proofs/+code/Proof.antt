@@ -2,7 +2,8 @@ use mathlib.Core.Path.{_≡_, sym, ap, _∙_}
 use Prim.Native.Nat.{_*_, _≤_, ℕ, _<_}
 use mathlib.Core.Bool.{false}
 use native.Mathlib.Nat.{mul-le-mul}
-use Rattle.group_layout.specs.Layout.{isMerged, layout}
+use Rattle.group_layout.specs.Layout.{layout}
+use Rattle.group_layout.specs.Merged.{isMerged}
 use Rattle.group_layout.specs.Code.{code as code-of}
 use Rattle.group_layout.proofs.Laws.{is-merged, above-slot, layout-apart}
 use Rattle.group_layout.proofs.Codes.{merged-last, code-zero, with-bound}

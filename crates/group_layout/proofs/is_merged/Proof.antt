@@ -1,7 +1,8 @@
 use Prim.Native.Nat.{ℕ}
 use mathlib.Core.Path.{sym, ap, _∙_}
 use native.Mathlib.Omega.{arith}
-use Rattle.group_layout.specs.Layout.{isMerged, layout}
+use Rattle.group_layout.specs.Layout.{layout}
+use Rattle.group_layout.specs.Merged.{isMerged}
 use Rattle.group_layout.proofs.Laws.{own-bit}
 use borrow.Author.Needs.{needs}
 use Rattle.group_layout.proofs.is_merged.Statement.{statement}

@@ -5,7 +5,8 @@ use native.Mathlib.Omega.{arith}
 use borrow.Author.Tests.{not-true, not-false, ltb-false}
 use Rattle.group_block.specs.declared.Summed.{Summed}
 use Rattle.group_block.specs.Block.{cap, total, block, counterAt}
-use Rattle.group_block.specs.Sum.{Sum, summed, add}
+use Rattle.group_block.specs.Sum.{Sum, add}
+use Rattle.group_block.specs.Passed.{summed}
 use Rattle.group_block.proofs.Laws.{block-fits}
 use Rattle.group_block.proofs.Adding.{add-total, add-sound, no-over}
 use Rattle.group_block.proofs.Slots.{halves-total}
