@@ -1,7 +1,7 @@
 -- Where counters start, by merge bits: bit k is clear where slot k + 1 starts a counter or is past the block. By induction on the
--- level; only the spreading of a byte's bits over eight bytes is computed.
-use mathlib.Core.Path.{_≡_, refl, sym, ap, ap₂, _∙_}
-use mathlib.Core.Bool.{Bool, true, false, cond, true≢false}
+-- level, and the mask of the code by induction on the bits that it spreads.
+use mathlib.Core.Path.{_≡_, refl, sym, ap, _∙_}
+use mathlib.Core.Bool.{true, false, true≢false}
 use Prim.Native.Nat.{ℕ, zero, suc, _+_, _-_, _*_, _/_, _%_, _^_, _≤_, _<_}
 use native.Mathlib.Nat.{zero-add, add-zero, add-comm, mul-zero, mul-comm, mul-add, mul-suc, suc-mul, add-mul, mul-assoc, one-mul, div-one, div-eq-of-lt}
 use native.Mathlib.Decide.{decLt}
@@ -41,6 +41,9 @@ bit-together (halves {n} l r) k h = elim (decLt (suc k) (2 ^ n)) [
         ∙ bit-together r (k - 2 ^ n) (omega arith))
   ]
 ]
+
+pub valid-together : (n m k : ℕ) → valid n m ≡ true → suc k < 2 ^ n → bit m k ≡ together (layout n m) k (suc k)
+valid-together n m k v h = rw (marks-layout n m v) at (bit-together (layout n m) k h)
 
 -- the last bit, past which the block ends, is clear
 pub bit-end : {n : ℕ} (L : Layout n) → bit (marks L) (2 ^ n - 1) ≡ false

@@ -9,5 +9,6 @@ use Rattle.group_block.specs.Block.{cap, block, counterAt}
 abbrev pub holdsAt : ℕ → ℕ → ℕ → ℕ → Bool
 holdsAt w m k a = ltb (counterAt (block 3 w m) k .value + a) (cap (counterAt (block 3 w m) k .level))
 
+-- it does not
 abbrev pub NotHeld : ℕ → ℕ → ℕ → ℕ → Type 0
 NotHeld w m k a = holdsAt w m k a ≡ false
