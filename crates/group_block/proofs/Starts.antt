@@ -1,14 +1,14 @@
 -- Where counters start, by merge bits: bit k is clear where slot k + 1 starts a counter or is past the block. By induction on the
--- level; only the spreading of a byte's bits over eight bytes is computed.
-use mathlib.Core.Path.{_≡_, refl, sym, ap, ap₂, _∙_}
-use mathlib.Core.Bool.{Bool, true, false, cond, true≢false}
+-- level, and the mask of the code by induction on the bits that it spreads.
+use mathlib.Core.Path.{_≡_, refl, sym, ap, _∙_}
+use mathlib.Core.Bool.{true, false, true≢false}
 use Prim.Native.Nat.{ℕ, zero, suc, _+_, _-_, _*_, _/_, _%_, _^_, _≤_, _<_}
-use native.Mathlib.Nat.{zero-add, add-zero, add-mul, mul-assoc, one-mul, div-one, div-eq-of-lt}
+use native.Mathlib.Nat.{zero-add, add-zero, add-comm, mul-zero, mul-comm, mul-add, mul-suc, suc-mul, add-mul, mul-assoc, one-mul, div-one, div-eq-of-lt}
 use native.Mathlib.Decide.{decLt}
 use native.Mathlib.Omega.{arith}
 use borrow.Author.Tests.{eqb-true, eq-eqb, lt-ltb, le-ltb}
-use lib.Arith.{digits-mod}
-use lib.Bits.{bitAnd, bitXor, and-le-r, block-half, block-odd}
+use lib.Arith.{digits-lt, digits-mod}
+use lib.Bits.{bitAnd, bitXor, and-zero-r, and-le-r, and-block, and-high, xor-add-and, xor-shr, xor-lt, block-half, block-odd}
 use lib.Dec.{eqb, ltb}
 use lib.Pow.{pow-pos, pow-mono, pow-add, shr-shr, high, ones-lt}
 use Rattle.group_layout.specs.Layout.{Layout, merged, halves, bit, ones, marks, layout, valid}
@@ -19,7 +19,7 @@ use Rattle.group_block.specs.Least.{together}
 use Rattle.group_block.proofs.Bits.{ones-bit, low-bit, high-bit}
 use Rattle.group_block.proofs.Laws.{cap-mono, cap-square}
 use Rattle.group_block.proofs.Carries.{bounds, carries, carries-lt, mask-mod, end-no-carry, no-carry-end, keeps, keeps-no-carry, no-carry-keeps}
-use Rattle.laws.proofs.Tests.{both-ways, every, every-at}
+use Rattle.laws.proofs.Tests.{both-ways}
 
 -- Merge bit k is set where slots k and k + 1 are in one counter.
 pub bit-together : {n : ℕ} (L : Layout n) (k : ℕ) → suc k < 2 ^ n → bit (marks L) k ≡ together L k (suc k)
@@ -41,6 +41,9 @@ bit-together (halves {n} l r) k h = elim (decLt (suc k) (2 ^ n)) [
         ∙ bit-together r (k - 2 ^ n) (omega arith))
   ]
 ]
+
+pub valid-together : (n m k : ℕ) → valid n m ≡ true → suc k < 2 ^ n → bit m k ≡ together (layout n m) k (suc k)
+valid-together n m k v h = rw (marks-layout n m v) at (bit-together (layout n m) k h)
 
 -- the last bit, past which the block ends, is clear
 pub bit-end : {n : ℕ} (L : Layout n) → bit (marks L) (2 ^ n - 1) ≡ false
@@ -90,6 +93,56 @@ gaps-ones (suc c) =
     let h : (2 ^ suc c - 1) / 2 ≡ 2 ^ c - 1 = omega (arith, pow-pos c) in
     rw (o, h, gaps-ones c)
 
+-- Bits spread over places of so many bits: bit i of a number at bit s * i, for the c lowest bits.
+spread : ℕ → ℕ → ℕ → ℕ
+spread s zero x = 0
+spread s (suc c) x = x / 2 ^ c % 2 * 2 ^ (s * c) + spread s c x
+
+-- turned over and one place up, they are the gaps
+gaps-spread : (w c m : ℕ) → c ≤ w → gaps c m ≡ spread 8 c (bitXor (2 ^ w - 1) m) * 256
+unfolding gaps spread
+gaps-spread w zero m h = refl
+gaps-spread w (suc c) m h =
+    let e : suc c ≡ c + 1 = omega arith in
+    let t = bitXor (2 ^ w - 1) m in
+    let turned : t / 2 ^ c % 2 ≡ 1 - m / 2 ^ c % 2 =
+    ap (λ (x : ℕ). x % 2) (xor-shr (2 ^ w - 1) m c) ∙ omega (arith, xor-add-and ((2 ^ w - 1) / 2 ^ c) (m / 2 ^ c), ones-bit w c h) in
+    ap (λ (x : ℕ). gaps x m) e
+    ∙ gaps-add c 1 m
+    ∙ rw (turned, gaps-spread w c m (omega arith))
+    (omega (arith, mul-assoc (1 - m / 2 ^ c % 2) (2 ^ (8 * c)) 256, mul-assoc (1 - m / 2 ^ c % 2) 256 (2 ^ (8 * c)), mul-comm (2 ^ (8 * c)) 256))
+
+-- c ones, each w places above the last
+copies : ℕ → ℕ → ℕ
+copies w zero = 0
+copies w (suc c) = 2 ^ (w * c) + copies w c
+
+place-up : (w c : ℕ) → 2 ^ (w * suc c) ≡ 2 ^ w * 2 ^ (w * c)
+place-up w c = ap (λ (x : ℕ). 2 ^ x) (mul-suc w c ∙ add-comm (w * c) w) ∙ pow-add 2 w (w * c)
+
+copies-lt : (w c x : ℕ) → x < 2 ^ w → x * copies w c < 2 ^ (w * c)
+unfolding copies
+copies-lt w zero x h = rw (mul-zero x) (pow-pos (w * 0))
+copies-lt w (suc c) x h = rw (place-up w c, mul-add x (2 ^ (w * c)) (copies w c)) (digits-lt h (copies-lt w c x h))
+
+comb-lt : (w c : ℕ) → c ≤ w → copies (suc w) c < 2 ^ (w * c)
+unfolding copies
+comb-lt w zero h = pow-pos (w * 0)
+comb-lt w (suc c) h =
+    let up : suc (suc w * c) ≤ w * suc c = omega (arith, suc-mul w c, mul-suc w c) in
+    let low : w * c ≤ suc w * c = omega (arith, suc-mul w c) in
+    omega (arith, comb-lt w c (omega arith), pow-mono {i = w * c} {j = suc w * c} low, pow-mono {i = suc (suc w * c)} {j = w * suc c} up)
+
+-- copies of w bits side by side, each (w + 1)-th bit taken
+spread-is : (w c x : ℕ) → x < 2 ^ w → c ≤ w → bitAnd (x * copies w c) (copies (suc w) c) ≡ spread (suc w) c x
+unfolding copies spread
+spread-is w zero x h k = and-zero-r (x * 0)
+spread-is w (suc c) x h k =
+    let high : 2 ^ (suc w * c) ≡ 2 ^ c * 2 ^ (w * c) = ap (λ (y : ℕ). 2 ^ y) (suc-mul w c ∙ add-comm (w * c) c) ∙ pow-add 2 c (w * c) in
+    let one : 2 ^ (1 + c) - 2 ^ c ≡ 2 ^ c = omega (arith, pow-add 2 1 c) in
+    let bit-is : bitAnd x (2 ^ c) ≡ x / 2 ^ c % 2 * 2 ^ c = rw one at (and-high x 1 c) in
+    rw (high, mul-add x (2 ^ (w * c)) (copies w c), and-block (w * c) x (2 ^ c) (x * copies w c) (copies (suc w) c) (copies-lt w c x h) (comb-lt w c (omega arith)), bit-is, spread-is w c x h (omega arith), mul-assoc (x / 2 ^ c % 2) (2 ^ c) (2 ^ (w * c)))
+
 -- The law of levels: where the block's merge bits are clear its counters start, but for the first, and the block ends.
 pub gaps-bounds : {n : ℕ} (L : Layout n) → gaps (2 ^ n) (marks L) ≡ cap n + bounds L
 unfolding marks ones bounds cap gaps
@@ -111,16 +164,18 @@ gaps-bounds (halves {n} l r) =
     ∙ rw (top, gaps-low (2 ^ n) (marks r) (marks l), gaps-bounds l, gaps-bounds r)
     (omega (arith, cap-square n, add-mul (2 ^ (8 * 2 ^ n)) (bounds r) (2 ^ (8 * 2 ^ n)), add-mul 1 (bounds r) (2 ^ (8 * 2 ^ n)), one-mul (2 ^ (8 * 2 ^ n))))
 
--- the mask that the code computes; byte 8 is past its 64 bits
+-- The mask that the code computes; byte 8 is past its 64 bits. The multiplication lays seven copies of the seven turned bits side by
+-- side, so that every eighth bit is the next bit of them.
 abbrev starts : ℕ → ℕ
 starts m = bitAnd (bitXor 127 m * 4432676798593) 282578800148737 * 256
 
-all-spread : every (λ m. eqb (2 ^ 64 + starts m) (gaps 8 m)) 128 ≡ true
-unfolding every gaps
-all-spread = refl
-
-spread : (m : ℕ) → m < 128 → 2 ^ 64 + starts m ≡ gaps 8 m
-spread m h = eqb-true (2 ^ 64 + starts m) (gaps 8 m) (every-at (λ m. eqb (2 ^ 64 + starts m) (gaps 8 m)) 128 m all-spread h)
+spread-byte : (m : ℕ) → m < 128 → 2 ^ 64 + starts m ≡ gaps 8 m
+unfolding gaps copies
+spread-byte m h =
+    let bits : bitAnd (bitXor 127 m * copies 7 7) (copies 8 7) ≡ spread 8 7 (bitXor 127 m) = spread-is 7 7 (bitXor 127 m) (xor-lt 7 127 m (omega arith) h) (omega arith) in
+    let seven : gaps 7 m ≡ starts m = gaps-spread 7 7 m (omega arith) ∙ ap (λ (x : ℕ). x * 256) (sym bits) in
+    let none : m / 2 ^ 7 ≡ 0 = div-eq-of-lt {n = m} {m = 2 ^ 7} h in
+    sym (gaps-add 7 1 m ∙ rw none (omega (arith, seven)))
 
 -- at every level the starts of valid merge bits are the block's bounds and, above them, the block's end
 starts-mod : (n m : ℕ) → n ≤ 3 → valid n m ≡ true → (2 ^ 64 + starts m) % (2 * cap n) ≡ cap n + bounds (layout n m)
@@ -134,7 +189,7 @@ starts-mod n m h v =
     let even : more * 2 ^ (8 * 2 ^ n) ≡ more / 2 * (2 * 2 ^ (8 * 2 ^ n)) =
     ap (λ (x : ℕ). x * 2 ^ (8 * 2 ^ n)) (omega (arith, gaps-even (8 - 2 ^ n) (m / 2 ^ (2 ^ n)))) ∙ mul-assoc (more / 2) 2 (2 ^ (8 * 2 ^ n)) in
     let all : 2 ^ 64 + starts m ≡ more / 2 * (2 * 2 ^ (8 * 2 ^ n)) + gaps (2 ^ n) m =
-    spread m small ∙ ap (λ (c : ℕ). gaps c m) e ∙ gaps-add (2 ^ n) (8 - 2 ^ n) m ∙ ap (λ (x : ℕ). x + gaps (2 ^ n) m) even in
+    spread-byte m small ∙ ap (λ (c : ℕ). gaps c m) e ∙ gaps-add (2 ^ n) (8 - 2 ^ n) m ∙ ap (λ (x : ℕ). x + gaps (2 ^ n) m) even in
     ap (λ (x : ℕ). x % (2 * 2 ^ (8 * 2 ^ n))) all ∙ digits-mod (more / 2) (omega (arith, gaps-lt (2 ^ n) m)) ∙ rw is at (gaps-bounds (layout n m))
 
 starts-lt : (m : ℕ) → starts m < 2 ^ 64

@@ -40,7 +40,8 @@ is-whole (split {n} l r) k v e = absurd (omega (arith, below, ap (λ c. c .level
       | no m ↦ rw (in-right l r k (omega arith)) (level-le r (k - 2 ^ n))
     ]
 
-ones-twice : (n : ℕ) → ones (suc n) ≡ ones n * 2 ^ (2 ^ n) + ones n + 2 ^ (2 ^ n - 1)
+-- two counters side by side become one: to their merge bits comes the own bit of the block
+pub ones-twice : (n : ℕ) → ones (suc n) ≡ ones n * 2 ^ (2 ^ n) + ones n + 2 ^ (2 ^ n - 1)
 unfolding ones
 ones-twice n =
     let e : 2 ^ (2 ^ suc n - 1) ≡ 2 ^ (2 ^ n - 1) * 2 ^ (2 ^ n) = ap (λ (k : ℕ). 2 ^ k) (sym (twice n)) ∙ pow-add 2 (2 ^ n - 1) (2 ^ n) in

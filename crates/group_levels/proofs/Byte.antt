@@ -12,7 +12,7 @@ use Rattle.laws.proofs.Tests.{every, every-at}
 use Rattle.group_layout.specs.Layout.{layout, valid, ones, widest, levelOf}
 use Rattle.group_layout.proofs.Laws.{marks-layout}
 use Rattle.group_levels.specs.Levels.{ownBit, mergedAround, someOwn, mergedLevels}
-use Rattle.group_levels.proofs.Levels.{level-around, widest-levels, own-clear}
+use Rattle.group_levels.proofs.Levels.{level-valid, widest-valid, own-clear}
 
 -- Which bytes are valid.
 same : Bool → Bool → Bool
@@ -59,7 +59,7 @@ unfolding mergedAround
 pair-half-group m k h = ap₂ (λ (x y : ℕ). x + y) (pair-half m k) (own-at 2 m (k / 8) 3 (omega arith))
 
 pub bits-level : (m k : ℕ) → valid 3 m ≡ true → k < 8 → pairHalf m k + bitAnd (m / 8) 1 ≡ levelOf (layout 3 m) k
-bits-level m k v h = pair-half-group m k h ∙ rw (marks-layout 3 m v) at (level-around (layout 3 m) k h)
+bits-level m k v h = pair-half-group m k h ∙ sym (level-valid 3 m k v h)
 
 -- The widest level: one block more of a level.
 some-more : (j m c x : ℕ) → x % 2 ≡ someOwn j m c → bitOr x (m / 2 ^ (c * 2 ^ suc j + (2 ^ j - 1))) % 2 ≡ someOwn j m (suc c)
@@ -87,7 +87,7 @@ unfolding mergedLevels
 any-level m = ap₂ (λ (x y : ℕ). x + y) (any-pair-half m) (and-mask (m / 8) 1 ∙ some-first 2 m)
 
 pub bits-widest : (m : ℕ) → valid 3 m ≡ true → anyPairHalf m + bitAnd (m / 8) 1 ≡ widest (layout 3 m)
-bits-widest m v = any-level m ∙ rw (marks-layout 3 m v) at (widest-levels (layout 3 m))
+bits-widest m v = any-level m ∙ sym (widest-valid 3 m v)
 
 -- The own bit of a block whose left half is a counter is clear, so that setting it adds it. For a block of any level.
 and-power : (m x : ℕ) → m / 2 ^ x % 2 ≡ 0 → bitAnd m (2 ^ x) ≡ 0

@@ -1,7 +1,7 @@
 -- Levels by merge bits, by induction on the level: the own bit of a block is set where the block is merged or inside a merged one. So
 -- the merged blocks around a slot are as many as the level of its counter, and the levels with a merged block as many as the widest.
 use mathlib.Core.Path.{_≡_, refl, sym, ap, ap₂, _∙_}
-use mathlib.Core.Bool.{cond}
+use mathlib.Core.Bool.{true, cond}
 use Prim.Native.Nat.{ℕ, zero, suc, _+_, _-_, _*_, _/_, _%_, _^_, _≤_, _<_, min, max}
 use native.Mathlib.Nat.{add-zero, add-suc, add-mul, suc-mul, mul-div-cancel, mul-le-mul-right, div-eq-of-lt, mul-add-div-right, div-mul-le-self}
 use native.Mathlib.Decide.{decLt}
@@ -9,9 +9,11 @@ use native.Mathlib.Omega.{arith}
 use borrow.Author.Tests.{lt-ltb, le-ltb, eqb-false}
 use lib.Dec.{ltb}
 use lib.Pow.{pow-pos}
-use Rattle.group_layout.specs.Layout.{Layout, merged, halves, bit, ones, marks, widest, levelOf}
-use Rattle.group_layout.proofs.Laws.{marks-in, bit-halves, widest-le, level-le}
+use Rattle.group_layout.specs.Layout.{Layout, merged, halves, bit, ones, marks, layout, valid, widest, levelOf}
+use Rattle.group_layout.proofs.Laws.{marks-in, bit-halves, marks-layout, widest-le, level-le}
+use Rattle.group_block.specs.Block.{block, counterAt}
 use Rattle.group_block.proofs.Bits.{ones-bit, low-bit, high-bit}
+use Rattle.group_block.proofs.Slots.{level-block}
 use Rattle.group_block.proofs.Twins.{multiple, whole-left}
 use Rattle.group_levels.specs.Levels.{ownBit, mergedAround, someOwn, mergedLevels}
 
@@ -124,6 +126,13 @@ around-up L k (suc i) h g = omega (arith, around-up L k i h (omega arith), own-a
 pub level-around : {n : ℕ} (L : Layout n) (k : ℕ) → k < 2 ^ n → mergedAround n (marks L) k ≡ levelOf L k
 level-around {n} L k h = omega (arith, around-up L k n h (omega arith), level-le L k)
 
+-- the same of valid merge bits, and of the block that they stand for with count bytes
+pub level-valid : (n m k : ℕ) → valid n m ≡ true → k < 2 ^ n → levelOf (layout n m) k ≡ mergedAround n m k
+level-valid n m k v h = sym (rw (marks-layout n m v) at (level-around (layout n m) k h))
+
+pub counter-level : (n w m k : ℕ) → valid n m ≡ true → k < 2 ^ n → counterAt (block n w m) k .level ≡ mergedAround n m k
+counter-level n w m k v h = level-block n w m k ∙ level-valid n m k v h
+
 pub around-le : (n m k : ℕ) → mergedAround n m k ≤ n
 unfolding mergedAround
 around-le zero m k = omega arith
@@ -188,6 +197,9 @@ levels-up L (suc i) g = omega (arith, levels-up L i (omega arith), some-widest L
 
 pub widest-levels : {n : ℕ} (L : Layout n) → mergedLevels n (marks L) n ≡ widest L
 widest-levels {n} L = omega (arith, levels-up L n (omega arith), widest-le L)
+
+pub widest-valid : (n m : ℕ) → valid n m ≡ true → widest (layout n m) ≡ mergedLevels n m n
+widest-valid n m v = sym (rw (marks-layout n m v) at (widest-levels (layout n m)))
 
 pub levels-le : (n m i : ℕ) → mergedLevels n m i ≤ i
 unfolding mergedLevels

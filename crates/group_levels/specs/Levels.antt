@@ -1,6 +1,7 @@
 -- Levels by merge bits, for a block of any level. The code's own terms: laws of Levels in proofs/ say that these sums are the level of
 -- a slot's counter and the widest level.
 use Prim.Native.Nat.{ℕ, zero, suc, _+_, _-_, _*_, _/_, _%_, _^_, max}
+use mathlib.Core.Path.{_≡_}
 use mathlib.Core.Bool.{Bool, _&&_}
 use lib.Dec.{eqb}
 use Rattle.group_layout.specs.Layout.{Layout, levelOf}
@@ -23,6 +24,10 @@ someOwn j m (suc c) = max (someOwn j m c) (ownBit j m c)
 unfoldable pub mergedLevels : ℕ → ℕ → ℕ → ℕ
 mergedLevels n m zero = 0
 mergedLevels n m (suc i) = mergedLevels n m i + someOwn i m (2 ^ (n - suc i))
+
+-- the counter of slot p has level j and is the left half of a block of the next level
+abbrev pub IsLeft : {n : ℕ} → Layout n → ℕ → ℕ → Type 0
+IsLeft L j p = (p % 2 ^ (j + 1) ≡ 0) × (levelOf L p ≡ j)
 
 -- whether from slot p on two counters of level j lie side by side
 abbrev pub twins : {n : ℕ} → Layout n → ℕ → ℕ → Bool

@@ -57,7 +57,7 @@ pub fn twins(merge: u8, level: u32, first: usize) -> bool
 
 // The merge byte with the own bit of the block set whose halves are two counters of this level from this slot on.
 pub fn formed(merge: u8, level: u32, first: usize) -> u8
-    requires { ⌜ valid 3 merge ≡ true ⌝ ∗ ⌜ level ≤ 2 ⌝ ∗ ⌜ first + 2 ^ level < 8 ⌝ ∗ ⌜ first % 2 ^ (level + 1) ≡ 0 ⌝ ∗ ⌜ levelOf (layout 3 merge) first ≡ level ⌝ }
+    requires { ⌜ valid 3 merge ≡ true ⌝ ∗ ⌜ level ≤ 2 ⌝ ∗ ⌜ first + 2 ^ level < 8 ⌝ ∗ ⌜ spec.IsLeft (layout 3 merge) level first ⌝ }
     ensures { λ r. ⌜ r ≡ merge + 2 ^ (2 ^ level - 1) * 2 ^ first ⌝ }
 {
     merge | (1 << (first + (1 << level) - 1))

@@ -99,7 +99,7 @@ fn widened(word: u64, merge: u8, level: u32, slot: usize, amount: u32) -> Summed
 
 // An amount added to a counter, of this level, that does not hold the sum. The group is not one counter, so it has space left.
 pub fn add_widening(word: u64, merge: u8, level: u32, slot: usize, amount: u32) -> Summed
-    requires { ⌜ valid 3 merge ≡ true ⌝ ∗ ⌜ slot < 8 ⌝ ∗ ⌜ level ≡ levelOf (layout 3 merge) slot ⌝ ∗ ⌜ level ≤ 2 ⌝ ∗ ⌜ spec.holdsAt word merge slot amount ≡ false ⌝ }
+    requires { ⌜ valid 3 merge ≡ true ⌝ ∗ ⌜ slot < 8 ⌝ ∗ ⌜ level ≡ levelOf (layout 3 merge) slot ⌝ ∗ ⌜ level ≤ 2 ⌝ ∗ ⌜ spec.NotHeld word merge slot amount ⌝ }
     ensures { λ r. ⌜ r ≡ summed (sum_spec.add (block 3 word merge) slot amount) ⌝ }
     ensures { λ r. ⌜ r .over ≡ false ⌝ }
 {

@@ -1,7 +1,8 @@
-use mathlib.Core.Path.{_≡_}
+use mathlib.Core.Path.{_≡_, ap, _∙_}
 use Prim.Native.Nat.{_+_, _-_, _*_, _%_, _^_}
 use native.Mathlib.Numerals.{add-one}
 use native.Mathlib.Omega.{arith}
+use lib.Bits.{bitOr}
 use lib.Pow.{pow-pos}
 use Rattle.laws.proofs.Shifts.{one-shl}
 use Rattle.group_levels.proofs.Byte.{bits-formed}
@@ -29,8 +30,10 @@ shl-result-2 c = search needs
 
 returns : tie.Need-returns
 returns c = let a = c .args in
-    rw (size-is c, one-shl 8 (a .first + 2 ^ a .level - 1) (omega (arith, c .pre .1 .1 .0)))
-    (bits-formed 3 (a .merge) (a .first) (a .level) (c .pre .0) (omega arith) (omega (arith, c .pre .1 .1 .0)) (rw (add-one (a .level)) at (c .pre .1 .1 .1 .0)) (c .pre .1 .1 .1 .1))
+    let own : 1 * 2 ^ (a .first + 1 * 2 ^ a .level % 2 ^ 64 - 1) % 2 ^ 8 ≡ 2 ^ (a .first + 2 ^ a .level - 1) =
+    rw (size-is c) (one-shl 8 (a .first + 2 ^ a .level - 1) (omega (arith, c .pre .1 .1 .0))) in
+    ap (bitOr (a .merge)) own
+    ∙ bits-formed 3 (a .merge) (a .first) (a .level) (c .pre .0) (omega arith) (omega (arith, c .pre .1 .1 .0)) (rw (add-one (a .level)) at (c .pre .1 .1 .1 .0)) (c .pre .1 .1 .1 .1)
 
 pub formed-spec : {M : Type 1} → statement M
 formed-spec =

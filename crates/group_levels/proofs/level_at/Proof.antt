@@ -30,7 +30,8 @@ add-result : tie.Need-add-result
 add-result c = let a = c .args in omega (arith, pair-half (a .merge) (a .slot), around-le 2 (a .merge) (a .slot))
 
 add-result-2 : tie.Need-add-result-2
-add-result-2 c = let a = c .args in omega (arith, pair-half-group (a .merge) (a .slot) (c .pre .1), around-le 3 (a .merge) (a .slot))
+add-result-2 c = let a = c .args in
+    omega (arith, pair-half (a .merge) (a .slot), around-le 2 (a .merge) (a .slot), pair-half-group (a .merge) (a .slot) (c .pre .1), around-le 3 (a .merge) (a .slot))
 
 returns : tie.Need-returns
 returns c = let a = c .args in

@@ -1,26 +1,19 @@
-use mathlib.Core.Path.{_≡_, refl, sym, ap, _∙_}
+use mathlib.Core.Path.{_≡_, sym, ap, _∙_}
 use mathlib.Core.Bool.{false}
 use Prim.Native.Nat.{ℕ, _+_, _^_, _≤_, _<_}
 use native.Mathlib.Omega.{arith}
 use borrow.Author.Tests.{not-true, not-false, ltb-false}
 use Rattle.group_block.specs.declared.Summed.{Summed}
 use Rattle.group_block.specs.Block.{cap, total, block, counterAt}
-use Rattle.group_block.specs.Sum.{Sum, fits, over, add, sumTotal}
+use Rattle.group_block.specs.Sum.{Sum, add}
 use Rattle.group_block.specs.Passed.{summed}
-use Rattle.group_block.proofs.Adding.{Sound}
 use Rattle.group_block.proofs.Laws.{block-fits}
-use Rattle.group_block.proofs.Adding.{add-total, add-sound}
+use Rattle.group_block.proofs.Adding.{add-total, add-sound, no-over}
 use Rattle.group_block.proofs.Slots.{halves-total}
 use Rattle.group_sums.proofs.Places.{has-level}
 use borrow.Author.Needs.{needs}
 use Rattle.group_sums.proofs.add_widening.Statement.{statement}
 use Rattle.group_sums.proofs.add_widening.Tie as tie
-
--- a sum that its level can hold is not over
-not-over : (x : Sum 3) → Sound x → sumTotal x < 2 ^ 64 → summed x .over ≡ false
-unfolding Sound sumTotal summed cap
-not-over (fits b) f h = refl
-not-over (over s) f h = absurd (omega arith)
 
 module _ (s : tie.Start) where
   abbrev w : ℕ
@@ -47,9 +40,11 @@ module _ (s : tie.Start) where
       omega (arith, halves-total (block 3 w m) (s .args .slot) (block-fits 3 w m word-in) (λ f. omega (arith, sym level-is ∙ f, s .pre .1 .1 .1 .0)))
 
   fits-is : summed (add (block 3 w m) (s .args .slot) (s .args .amount)) .over ≡ false
+  unfolding summed cap
   fits-is =
-      not-over (add (block 3 w m) (s .args .slot) (s .args .amount)) (add-sound (block 3 w m) (s .args .slot) (s .args .amount) (block-fits 3 w m word-in))
-      (omega (arith, halves-lt, add-total (block 3 w m) (s .args .slot) (s .args .amount)))
+      let x = add (block 3 w m) (s .args .slot) (s .args .amount) in
+      let sound = add-sound (block 3 w m) (s .args .slot) (s .args .amount) (block-fits 3 w m word-in) in
+      ap (λ (y : Sum 3). summed y .over) (no-over x sound (omega (arith, halves-lt, add-total (block 3 w m) (s .args .slot) (s .args .amount))) .1)
 
 widened-requires : tie.Need-widened-requires
 widened-requires c κs = (c .pre .0, (c .pre .1 .1 .1 .0, (c .pre .1 .0, past c)))
