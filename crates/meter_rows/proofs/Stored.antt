@@ -9,7 +9,6 @@ use lib.Seq.{drop-drop}
 use Rattle.group.specs.declared.Group.{Group}
 use Rattle.geometry.specs.Geometry.{stride}
 use Rattle.geometry.specs.Rows.{rowOf, mapRows, ofRows, withGroup}
-use Rattle.meter_row.specs.Row.{addedIn}
 use Rattle.meter_rows.specs.Slots.{slotAdded, addedRows, Added}
 
 -- two functions that agree on each of the rows read and write the same
