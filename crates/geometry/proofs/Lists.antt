@@ -8,9 +8,9 @@ use native.Mathlib.Decide.{decLt}
 use native.Mathlib.Omega.{arith}
 use borrow.Rule.Slice.PartMut.{putMid, post-is}
 use lib.Bits.{bitOr, or-add-and, and-le-l, and-le-r}
-use lib.ListN.{length, getD, take, drop, set, length-append, length-take, length-drop, take-append-drop, drop-of-length-le, List·getD-eq-default}
-use lib.Seq.{paste-suc, length-take-le, take-at, drop-at, drop-drop, getD-drop, getD-take, getD-set-same, getD-set-other}
-use Rattle.laws.proofs.Lists.{Bytes}
+use lib.ListN.{length, getD, take, drop, set, length-append, length-drop, take-append-drop, drop-of-length-le}
+use lib.Seq.{paste-suc, length-take-le, take-at, drop-at, drop-drop, getD-drop, getD-set-same, getD-set-other}
+pub use Rattle.laws.proofs.Lists.{bytes-drop, bytes-take}
 use Rattle.geometry.specs.Geometry.{size, RowIn, RowsIn}
 use Rattle.geometry.specs.Geometry as geometry
 use Rattle.geometry.specs.Rows.{mapRows, ofRows, ofGroups, largest}
@@ -37,16 +37,6 @@ pub range-more : (P : ℕ → Type 0) (a k : ℕ) → ((i : ℕ) → a ≤ i →
 range-more P a k h p i l m = elim (decLt i k) [
   | yes n ↦ h i l n
   | no n ↦ let z : i ≡ k = omega arith in rw z p
-]
-
--- bytes taken out of bytes
-pub bytes-drop : (n : ℕ) (xs : List ℕ) → Bytes xs → Bytes (drop n xs)
-bytes-drop n xs b i = rw (getD-drop n xs i 0) (b (n + i))
-
-pub bytes-take : (n : ℕ) (xs : List ℕ) → Bytes xs → Bytes (take n xs)
-bytes-take n xs b = λ i. elim (decLt i n) [
-  | yes l ↦ rw (getD-take n xs i 0 l) (b i)
-  | no l ↦ rw (List·getD-eq-default (take n xs) 0 {n = i} (omega (arith, length-take n xs))) (omega arith)
 ]
 
 -- bytes taken together that are 0

@@ -92,3 +92,17 @@ fit-end xs ys i carries h = rw (drop-of-length-le xs h) (and-true (eqb carries 0
 pub sums-end : (xs ys : List ℕ) (i : ℕ) → length xs ≤ i → take i xs ++ sums (drop i xs) (drop i ys) ≡ xs
 unfolding sums
 sums-end xs ys i h = rw (drop-of-length-le xs h, take-all i xs h) (append-nil xs)
+
+-- bytes tested in two parts
+fit-none : (xs : List ℕ) → fit xs [] ≡ true
+unfolding fit
+fit-none [] = refl
+fit-none (x ∷ xs) = refl
+
+pub fit-split : (k : ℕ) (xs ys : List ℕ) → fit xs ys ≡ (fit (take k xs) (take k ys) && fit (drop k xs) (drop k ys))
+unfolding fit
+fit-split zero xs ys = refl
+fit-split (suc k) [] ys = refl
+fit-split (suc k) (x ∷ xs) [] = sym (fit-none (drop k xs))
+fit-split (suc k) (x ∷ xs) (y ∷ ys) =
+    ap (λ (b : Bool). ltb (x + y) 256 && b) (fit-split k xs ys) ∙ sym (and-assoc (ltb (x + y) 256) (fit (take k xs) (take k ys)) (fit (drop k xs) (drop k ys)))

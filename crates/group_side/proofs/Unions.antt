@@ -1,6 +1,6 @@
 -- Unions of unmerged groups: accepted, and made byte by byte where no sum of two bytes passes 255.
 use mathlib.Core.Path.{_≡_, refl, sym, ap, ap₂, _∙_}
-use mathlib.Core.Bool.{true, _&&_, or-true, and-eq-true-iff}
+use mathlib.Core.Bool.{true, or-true, and-eq-true-iff}
 use mathlib.Core.List.{List, [], _∷_, _++_}
 use Prim.Native.Nat.{ℕ, zero, suc, _+_, _-_, _*_, _/_, _%_, _^_, _≤_, _<_}
 use native.Mathlib.Nat.{zero-mul, zero-div, zero-mod, mul-left-comm}
@@ -8,9 +8,9 @@ use native.Mathlib.Omega.{arith}
 use borrow.Author.Tests.{lt-ltb, ltb-true}
 use lib.Arith.{digits-div, digits-mod}
 use lib.Dec.{eqb, ltb}
-use lib.ListN.{length, take, drop, length-append, length-drop}
+use lib.ListN.{length, take, drop, length-drop}
 use lib.Pow.{pow-add}
-use lib.Seq.{length-take-le, take-nil, drop-nil}
+use lib.Seq.{length-take-le}
 use Rattle.laws.proofs.Lists.{Bytes}
 use Rattle.group_bytes.specs.Bytes.{number, bytes}
 use Rattle.group_bytes.proofs.Bytes.{number-lt, bytes-number}
@@ -22,10 +22,11 @@ use Rattle.group.specs.declared.Group.{Group}
 use Rattle.group.specs.declared.Outcome.{Outcome}
 use Rattle.group.specs.Group.{decode, stored, united, validMerge}
 use Rattle.group.proofs.Laws.{Eight, number-in, united-stored, united-fits}
+use Rattle.group_side.proofs.Bytes.{fit-split}
 use Rattle.group_side.specs.Side.{fit, sums, unmerged, unitedSide}
 
 -- the block of a layout and count bytes, taken as one number
-abbrev filled : {n : ℕ} → Layout n → ℕ → Block n
+abbrev pub filled : {n : ℕ} → Layout n → ℕ → Block n
 filled L w = fill L w
 
 -- a block that is not merged has the total of its halves
@@ -36,7 +37,7 @@ halves-total {n} l r w h =
     omega (arith, total-lt (filled l (w % cap n)) (f .0), total-lt (filled r (w / cap n)) (f .1))
 
 -- no bit set: two unmerged halves, and valid
-clear-halves : (n : ℕ) → layout (suc n) 0 ≡ halves (layout n 0) (layout n 0)
+pub clear-halves : (n : ℕ) → layout (suc n) 0 ≡ halves (layout n 0) (layout n 0)
 unfolding layout bit
 clear-halves n = rw (zero-div (2 ^ (2 ^ n - 1)), zero-mod (2 ^ (2 ^ n)), zero-div (2 ^ (2 ^ n)))
 
@@ -112,7 +113,7 @@ number-parts (suc k) (b ∷ bs) =
     let p : 2 ^ (8 * suc k) ≡ 256 * 2 ^ (8 * k) = ap (λ (n : ℕ). 2 ^ n) (omega arith) ∙ pow-add 2 8 (8 * k) in
     rw p (omega (arith, number-parts k bs, mul-left-comm (number (drop k bs)) 256 (2 ^ (8 * k))))
 
-halves-of : (n : ℕ) (xs : List ℕ) → number (take (2 ^ n) xs) < cap n
+pub halves-of : (n : ℕ) (xs : List ℕ) → number (take (2 ^ n) xs) < cap n
     → (number xs % cap n ≡ number (take (2 ^ n) xs)) × (number xs / cap n ≡ number (drop (2 ^ n) xs))
 unfolding cap
 halves-of n xs h = (
@@ -154,20 +155,8 @@ pub fit-united : (counts source : List ℕ) → length counts ≡ 8 → length s
 fit-united counts source l m e = sums-united counts source (sums counts source) l (fit-sums counts source (l ∙ sym m) e)
 
 -- and n of them side by side
-fit-none : (xs : List ℕ) → fit xs [] ≡ true
-unfolding fit
-fit-none [] = refl
-fit-none (x ∷ xs) = refl
-
-pub fit-apart : (k : ℕ) (xs ys : List ℕ) → fit xs ys ≡ true → (fit (take k xs) (take k ys) ≡ true) × (fit (drop k xs) (drop k ys) ≡ true)
-unfolding fit
-fit-apart zero xs ys e = (refl, e)
-fit-apart (suc k) [] ys e = (refl, refl)
-fit-apart (suc k) (x ∷ xs) [] e = (refl, fit-none (drop k xs))
-fit-apart (suc k) (x ∷ xs) (y ∷ ys) e =
-    let p = and-eq-true-iff (ltb (x + y) 256) (fit xs ys) .0 e in
-    let q = fit-apart k xs ys (p .1) in
-    (rw (p .0) (q .0), q .1)
+fit-apart : (k : ℕ) (xs ys : List ℕ) → fit xs ys ≡ true → (fit (take k xs) (take k ys) ≡ true) × (fit (drop k xs) (drop k ys) ≡ true)
+fit-apart k xs ys e = and-eq-true-iff (fit (take k xs) (take k ys)) (fit (drop k xs) (drop k ys)) .0 (sym (fit-split k xs ys) ∙ e)
 
 sums-apart : (k : ℕ) (xs ys : List ℕ) → length xs ≡ length ys → sums (take k xs) (take k ys) ++ sums (drop k xs) (drop k ys) ≡ sums xs ys
 unfolding sums

@@ -33,3 +33,9 @@ unfoldable pub unitedSide : ℕ → List ℕ → List ℕ → List ℕ
 unitedSide zero counts source = counts
 unitedSide (suc n) counts source =
     united (unmerged (take 8 counts)) (unmerged (take 8 source)) .group .counts ++ unitedSide n (drop 8 counts) (drop 8 source)
+
+-- whether each of those unions is unmerged again
+unfoldable pub stayUnmerged : ℕ → List ℕ → List ℕ → Bool
+stayUnmerged zero counts source = true
+stayUnmerged (suc n) counts source =
+    eqb (united (unmerged (take 8 counts)) (unmerged (take 8 source)) .group .merge) 0 && stayUnmerged n (drop 8 counts) (drop 8 source)

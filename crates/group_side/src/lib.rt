@@ -4,7 +4,7 @@ ghost use mathlib.Core.Path.{_≡_};
 ghost use mathlib.Core.Bool.{true, cond};
 ghost use Prim.Native.Nat.{_+_, _/_};
 ghost use lib.ListN.{length};
-ghost use Rattle.group_side.specs.Side.{anyMerged, sums, unitedSide};
+ghost use Rattle.group_side.specs.Side.{anyMerged, sums, unitedSide, stayUnmerged};
 ghost use Rattle.group_side.specs.Side as spec;
 
 // Whether some of these groups is merged, by their merge bytes.
@@ -47,10 +47,10 @@ fn add(counts: &mut [u8], source: &[u8])
     }
 }
 
-// Eight unmerged groups united with those of a source, if none of the unions is merged: no sum of two bytes passes 255.
+// Eight unmerged groups united with those of a source, if each union is unmerged again: no sum of two bytes passes 255.
 pub fn unite(counts: &mut [u8], source: &[u8]) -> bool
     requires { ⌜ length (now counts) ≡ 64 ⌝ ∗ ⌜ length (now source) ≡ 64 ⌝ }
-    ensures { λ r. ⌜ r ≡ spec.fit (now (counts .entry)) (now (source .entry)) ⌝ }
+    ensures { λ r. ⌜ r ≡ stayUnmerged 8 (now (counts .entry)) (now (source .entry)) ⌝ }
     ensures { λ r. ⌜ now (counts .exit) ≡ cond r (unitedSide 8 (now (counts .entry)) (now (source .entry))) (now (counts .entry)) ⌝ }
 {
     if fit(counts, source) {

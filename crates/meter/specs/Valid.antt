@@ -1,4 +1,4 @@
--- A memory that a meter's calls can have left.
+-- A memory that a meter's calls can have left. Cited by theorems.
 use Prim.Native.Nat.{ℕ, _/_, _≤_, _<_}
 use mathlib.Core.Path.{_≡_}
 use mathlib.Core.Bool.{true}

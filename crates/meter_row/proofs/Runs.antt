@@ -1,26 +1,27 @@
--- Runs of unmerged groups in two rows: their unions are accepted, and are made side by side where no sum of two bytes passes 255.
+-- Runs of unmerged groups in two rows: their unions are accepted, and where none is merged they are made side by side.
 use mathlib.Core.Path.{_≡_, refl, sym, ap, ap₂, _∙_}
-use mathlib.Core.Bool.{Bool, true, false, cond, not, _&&_, and-eq-true-iff}
+use mathlib.Core.Bool.{Bool, true, false, cond, not, and-eq-true-iff}
 use mathlib.Core.List.{List, [], _∷_, _++_, append-assoc, append-nil}
 use Prim.Native.Nat.{ℕ, zero, suc, _+_, _-_, _*_, _/_, _≤_, _<_}
 use native.Mathlib.Nat.{add-zero}
 use native.Mathlib.Omega.{arith}
-use borrow.Author.Tests.{not-true}
+use borrow.Author.Tests.{not-true, eqb-true}
 use borrow.Rule.Slice.PartMut.{putMid, post-is}
+use lib.Dec.{eqb}
 use lib.ListN.{length, getD, take, drop, length-append, length-drop, take-append-drop}
 use lib.Seq.{length-take-le, take-nil, take-at, drop-at, drop-drop, getD-take, getD-drop, take-take, take-add}
-use Rattle.laws.proofs.Lists.{Bytes}
+use Rattle.laws.proofs.Lists.{Bytes, bytes-drop, bytes-take}
 use Rattle.group.specs.declared.Group.{Group}
 use Rattle.group.specs.Group.{united}
 use Rattle.group.proofs.Laws.{Eight}
 use Rattle.group.proofs.Outcomes.{united-eight}
-use Rattle.group_side.specs.Side.{anyMerged, fit, sums, unmerged, unitedSide}
+use Rattle.group_side.specs.Side.{anyMerged, unmerged, unitedSide, stayUnmerged}
 use Rattle.group_side.proofs.Bytes.{none-merged}
-use Rattle.group_side.proofs.Unions.{unmerged-status, fit-apart, fit-united}
+use Rattle.group_side.proofs.Unions.{unmerged-status}
 use Rattle.geometry.specs.Geometry.{validWidth, stride}
 use Rattle.answer.specs.Order.{earlier, earliest}
 use Rattle.geometry.specs.Rows.{ofGroups, groupAt, withGroup}
-use Rattle.geometry.proofs.Lists.{bytes-drop, bytes-take, same-from}
+use Rattle.geometry.proofs.Lists.{same-from}
 use Rattle.geometry.proofs.Widths.{group-in, stride-is}
 use Rattle.geometry.proofs.Groups.{eight-at, with-counts}
 use Rattle.meter_row.specs.Row.{unitedAt, unitedStatus, uniteStatus, uniteGroups}
@@ -114,27 +115,27 @@ module _ (w : ℕ) (source : List ℕ) where
       rw (group-none w g row p, group-none w g source q, u) (with-counts w row g (unmerged zs) eight h l (sym p))
 
   pub unite-side : (n g : ℕ) (row : List ℕ) → 8 * (g + n) ≤ w → w + (g + n) ≤ length row → w + (g + n) ≤ length source
-      → Unmerged n g row → Unmerged n g source → fit (countsOf n g row) (countsOf n g source) ≡ true
+      → Unmerged n g row → Unmerged n g source → stayUnmerged n (countsOf n g row) (countsOf n g source) ≡ true
       → take (8 * g) row ++ unitedSide n (countsOf n g row) (countsOf n g source) ++ drop (8 * (g + n)) row ≡ uniteGroups w source n g row
-  unfolding uniteGroups unitedSide
+  unfolding uniteGroups unitedSide stayUnmerged
   unite-side zero g row h l m p q e =
       let f : g + 0 ≡ g = omega arith in
       rw (f, append-nil (take (8 * g) row)) (take-append-drop (8 * g) row)
   unite-side (suc n) g row h l m p q e =
       let xs = take 8 (drop (8 * g) row) in
       let ys = take 8 (drop (8 * g) source) in
-      let zs = sums xs ys in
+      let zs = united (unmerged xs) (unmerged ys) .group .counts in
       let a = 8 * g + 8 in
       let next = take (8 * g) row ++ zs ++ drop a row in
       let counts = countsOf n (g + 1) row in
       let others = countsOf n (g + 1) source in
       let row-eight : length xs ≡ 8 = length-take-le 8 (drop (8 * g) row) (rw (length-drop (8 * g) row) (omega arith)) in
-      let source-eight : length ys ≡ 8 = length-take-le 8 (drop (8 * g) source) (rw (length-drop (8 * g) source) (omega arith)) in
-      let e8 = fit-apart 8 (countsOf (suc n) g row) (countsOf (suc n) g source) e in
-      let first : fit xs ys ≡ true = rw (counts-first n g row, counts-first n g source) at (e8 .0) in
-      let rest : fit counts others ≡ true = rw (counts-rest n g row, counts-rest n g source) at (e8 .1) in
-      let u = fit-united xs ys row-eight source-eight first in
-      let eight : length zs ≡ 8 = ap (λ (x : Group). length (x .counts)) (sym u) ∙ united-eight (unmerged xs) (unmerged ys) row-eight in
+      let merge = united (unmerged (take 8 (countsOf (suc n) g row))) (unmerged (take 8 (countsOf (suc n) g source))) .group .merge in
+      let both = and-eq-true-iff (eqb merge 0) (stayUnmerged n (drop 8 (countsOf (suc n) g row)) (drop 8 (countsOf (suc n) g source))) .0 e in
+      let stays : united (unmerged xs) (unmerged ys) .group .merge ≡ 0 = rw (counts-first n g row, counts-first n g source) at (eqb-true merge 0 (both .0)) in
+      let rest : stayUnmerged n counts others ≡ true = rw (counts-rest n g row, counts-rest n g source) at (both .1) in
+      let u : united (unmerged xs) (unmerged ys) .group ≡ unmerged zs = ap (λ (m : ℕ). record { counts = zs; merge = m }) stays in
+      let eight = united-eight (unmerged xs) (unmerged ys) row-eight in
       let front : length (take (8 * g) row ++ zs) ≡ a = rw (length-append (take (8 * g) row) zs, length-take-le (8 * g) row (omega arith), eight) in
       let fit-in : a ≤ length row = omega arith in
       let same = joined-drop a (take (8 * g) row ++ zs) row front fit-in in
@@ -147,7 +148,7 @@ module _ (w : ℕ) (source : List ℕ) where
       (rw (same (8 * (g + 1)) (omega arith)) rest) in
       let whole : take (8 * g) row ++ zs ++ unitedSide n counts others ++ drop (8 * (g + suc n)) row ≡ uniteGroups w source n (g + 1) next =
       rw (same (8 * (g + 1)) (omega arith), same (8 * (g + 1 + n)) (omega arith), end, take-at (take (8 * g) row ++ zs) (drop a row) (8 * (g + 1)) (front ∙ sym at)) at ih in
-      rw (counts-first n g row, counts-first n g source, counts-rest n g row, counts-rest n g source, u, stored)
+      rw (counts-first n g row, counts-first n g source, counts-rest n g row, counts-rest n g source, stored)
       (ap (λ (l : List ℕ). l ++ drop (8 * (g + suc n)) row) (sym (append-assoc (take (8 * g) row) zs (unitedSide n counts others))) ∙ whole)
 
 -- a run of eight groups that was lent
@@ -162,7 +163,7 @@ module _ (w g : ℕ) (row source : List ℕ) (h : 8 * (g + 8) ≤ w) (l : w + (g
   after : 8 * g + 64 ≡ 8 * (g + 8)
   after = omega arith
 
-  pub side-back : (r : Bool) (last : List ℕ) → r ≡ fit (countsOf 8 g row) (countsOf 8 g source)
+  pub side-back : (r : Bool) (last : List ℕ) → r ≡ stayUnmerged 8 (countsOf 8 g row) (countsOf 8 g source)
       → last ≡ cond r (unitedSide 8 (countsOf 8 g row) (countsOf 8 g source)) (countsOf 8 g row)
       → (r ≡ sideBySide w 8 g row source) × (putMid (8 * g) (8 * g + 64 - 8 * g) row last ≡ cond r (uniteGroups w source 8 g row) row)
   unfolding sideBySide

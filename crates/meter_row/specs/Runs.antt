@@ -3,7 +3,7 @@ use Prim.Native.Nat.{ℕ, _+_, _*_}
 use mathlib.Core.Bool.{Bool, not, _&&_}
 use mathlib.Core.List.{List}
 use lib.ListN.{take, drop}
-use Rattle.group_side.specs.Side.{anyMerged, fit}
+use Rattle.group_side.specs.Side.{anyMerged, stayUnmerged}
 
 -- their merge bytes and their count bytes
 abbrev pub mergesOf : ℕ → ℕ → ℕ → List ℕ → List ℕ
@@ -16,6 +16,6 @@ countsOf n g row = take (8 * n) (drop (8 * g) row)
 unfoldable pub noneMerged : ℕ → ℕ → ℕ → List ℕ → List ℕ → Bool
 noneMerged w n g row source = not (anyMerged (mergesOf w n g row)) && not (anyMerged (mergesOf w n g source))
 
--- whether their unions are made side by side: none is merged, and no sum of two count bytes passes 255
+-- whether their unions are made side by side: none is merged in either row, and none of the unions is
 unfoldable pub sideBySide : ℕ → ℕ → ℕ → List ℕ → List ℕ → Bool
-sideBySide w n g row source = noneMerged w n g row source && fit (countsOf n g row) (countsOf n g source)
+sideBySide w n g row source = noneMerged w n g row source && stayUnmerged n (countsOf n g row) (countsOf n g source)
