@@ -27,13 +27,13 @@ use Rattle.feed_lines.proofs.Heads.{accepted-some, head-fits, head-geom
 use Rattle.feed_lines.proofs.Record.{by-test, record-keeps, record-lies, record-lent, taken-lent}
 
 -- lines after a line, where they are printed
-followed-same : (l : Line) (a b x y : List Line) → (continues l ≡ true → a ≡ b) → (isEnd l ≡ true → x ≡ y) → followed l a x ≡ followed l b y
+pub followed-same : (l : Line) (a b x y : List Line) → (continues l ≡ true → a ≡ b) → (isEnd l ≡ true → x ≡ y) → followed l a x ≡ followed l b y
 unfolding followed
 followed-same l a b x y f g =
     by-test (continues l) (λ t. rw (t, f t)) (λ t. rw t (by-test (isEnd l) (λ e. rw (e, g e)) (λ e. rw e)))
 
 -- a record that does not stop the feed took all its words
-taken-on : (l : Line) (words : List ℕ) → continues l ≡ true → takenBy l words ≡ wordsTaken words
+pub taken-on : (l : Line) (words : List ℕ) → continues l ≡ true → takenBy l words ≡ wordsTaken words
 unfolding takenBy
 taken-on l words t = rw t
 
@@ -83,7 +83,7 @@ module _ (d w : ℕ) (memory : List ℕ) (before records : ℕ) (lent rest : Lis
   cut : (k : ℕ) → k ≤ length words → drop (4 * k) (lent ++ rest) ≡ drop (4 * k) lent ++ rest
   cut k h = drop-append-le (4 * k) lent rest (omega (arith, length-take 25 (wholeWords lent), words-length lent))
 
-  fewer : (k : ℕ) → 1 ≤ k → k ≤ length words → length (wholeWords (drop (4 * k) lent ++ rest)) < length (wholeWords (lent ++ rest))
+  pub fewer : (k : ℕ) → 1 ≤ k → k ≤ length words → length (wholeWords (drop (4 * k) lent ++ rest)) < length (wholeWords (lent ++ rest))
   fewer k s h =
       rw (words-length (drop (4 * k) lent ++ rest), words-length (lent ++ rest), length-append (drop (4 * k) lent) rest, length-append lent rest, length-drop (4 * k) lent)
       (omega (arith, length-take 25 (wholeWords lent), words-length lent))

@@ -80,6 +80,14 @@ no-geometry a =
     (λ t. rw t (by-test (leb (headWidth (a .value)) 4096) (λ s. rw s (λ h. absurd (not-first 0 h refl))) (λ s. rw s (λ h. refl))))
     (λ t. rw t (λ h. refl))
 
+-- and one after which a record follows gives one
+pub goes-on : (a : Answer) → continues (headLine a) ≡ true → headLine a ≡ line.Geometry (headDepth (a .value)) (headWidth (a .value))
+unfolding headLine continues
+goes-on a =
+    by-test (eqb (a .status) 0)
+    (λ t. rw t (by-test (leb (headWidth (a .value)) 4096) (λ s. rw s (λ e. refl)) (λ s. rw s (λ e. absurd (true≢false (sym e))))))
+    (λ t. rw t (λ e. absurd (true≢false (sym e))))
+
 -- such a meter's memory
 pub fitting-shape : (d w n : ℕ) → Fitting d w → n ≡ size d w → badShape d w n ≡ 0
 unfolding firstOf

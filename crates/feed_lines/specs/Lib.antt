@@ -1,3 +1,4 @@
 pub mod Line
 pub mod Feed
 pub mod Step
+pub mod Pieces

@@ -119,10 +119,12 @@ pub fn step(
     let r = feed::record(d, w, memory, before, words);
     let line = line_of(r, before, records);
     let n = taken(line, words);
+    let next = before + n as u64;
+    let count = records + 1;
     Progress {
         line,
         taken: n,
-        words: before + n as u64,
-        records: records + 1,
+        words: next,
+        records: count,
     }
 }
