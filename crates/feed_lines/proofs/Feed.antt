@@ -1,17 +1,17 @@
 -- Steps one after another give the lines of the whole feed, however its bytes are read in pieces.
 use mathlib.Core.Logic.{_⊎_, ⊎-elim, inl, inr}
 use mathlib.Core.Path.{_≡_, refl, sym, ap, _∙_}
-use mathlib.Core.Bool.{Bool, true, false, cond, _||_, true≢false}
+use mathlib.Core.Bool.{true, false}
 use mathlib.Core.List.{List, [], _∷_, _++_, append-nil}
-use Prim.Native.Nat.{ℕ, zero, suc, _+_, _-_, _*_, _/_, _≤_, _<_}
+use Prim.Native.Nat.{ℕ, zero, suc, _+_, _*_, _≤_, _<_}
 use native.Mathlib.Omega.{arith}
 use lib.ListN.{length, take, drop, replicate, length-take, length-drop, length-append, length-replicate}
-use lib.Seq.{take-all, drop-append-le}
+use lib.Seq.{drop-append-le}
 use Rattle.geometry.specs.Geometry.{size}
 use Rattle.geometry.specs.Order.{badShape}
 use Rattle.feed_records.specs.Words.{wordsTaken}
 use Rattle.feed_records.proofs.Past.{some-taken}
-use Rattle.feed.specs.Head.{headDepth, headWidth, headed}
+use Rattle.feed.specs.Head.{headed}
 use Rattle.feed.specs.Record.{Carried, recorded}
 use Rattle.feed.proofs.Past.{head-alone}
 use Rattle.feed_text.specs.declared.Line.{Line}
@@ -22,7 +22,8 @@ use Rattle.feed_text.proofs.Laws.{words-length, words-front}
 use Rattle.feed_lines.specs.declared.Progress.{Progress}
 use Rattle.feed_lines.specs.Line.{headLine, lineOf}
 use Rattle.feed_lines.specs.Feed.{followed, recordLine, afterEnd, past, recordLines, afterHead, feedLines}
-use Rattle.feed_lines.specs.Step.{Fitting, takenBy, progress, linesFrom, Enough}
+use Rattle.feed_lines.specs.Step.{takenBy, progress, linesFrom, Enough}
+use Rattle.feed_lines.specs.Bounds.{Fitting}
 use Rattle.feed_lines.proofs.Heads.{accepted-some, head-fits, head-geometry, fitting-shape}
 use Rattle.feed_lines.proofs.Record.{by-test, record-keeps, record-lies, record-lent, taken-lent}
 

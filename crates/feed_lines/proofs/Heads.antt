@@ -1,9 +1,9 @@
 -- What an accepted head's line says: the depth and width of a meter that fits in the memory lent.
 use mathlib.Core.Logic.{⊎-elim}
 use mathlib.Core.Path.{_≡_, refl, sym, ap, _∙_}
-use mathlib.Core.Bool.{Bool, true, false, cond, _&&_, true≢false}
+use mathlib.Core.Bool.{true, false, true≢false}
 use mathlib.Core.List.{List, [], _∷_}
-use Prim.Native.Nat.{ℕ, _+_, _*_, _/_, _^_, _≤_, _<_}
+use Prim.Native.Nat.{ℕ, _*_, _/_, _^_, _≤_}
 use native.Mathlib.Nat.{mul-le-mul}
 use native.Mathlib.Omega.{arith}
 use borrow.Author.Tests.{eqb-true, eq-eqb, leb-true}
@@ -15,15 +15,14 @@ use Rattle.group.specs.declared.Answer.{Answer}
 use Rattle.geometry.specs.Geometry.{validDepth, validWidth, stride, size}
 use Rattle.geometry.specs.Order.{firstOf, badShape}
 use Rattle.geometry.proofs.Widths.{depth-in}
-use Rattle.word.specs.Word.{headKind, stop, next, payload, isDue, tested, below}
+use Rattle.word.specs.Word.{headKind, stop, payload, isDue, tested, below}
 use Rattle.word.proofs.Laws.{due-in}
 use Rattle.feed.specs.Head.{headDepth, headWidth, badGeometry, headStep, headed}
-use Rattle.feed_text.specs.declared.Line.{Line}
 use Rattle.feed_text.specs.declared.Line.the-variants as line
 use Rattle.feed_text.specs.Line.{continues}
 use Rattle.feed_text.proofs.Line as the-line
 use Rattle.feed_lines.specs.Line.{headLine}
-use Rattle.feed_lines.specs.Step.{Fitting, FittingLine}
+use Rattle.feed_lines.specs.Bounds.{Fitting, FittingLine}
 use Rattle.feed_lines.proofs.Record.{by-test, next-passed}
 
 good-geometry : (v : ℕ) → badGeometry v ≡ 0 → (validDepth (headDepth v) ≡ true) × (validWidth (headWidth v) ≡ true)

@@ -2,8 +2,8 @@
 use mathlib.Core.Logic.{⊎-elim, inl, inr}
 use mathlib.Core.Path.{_≡_, refl, sym, ap, _∙_}
 use mathlib.Core.Bool.{true, false}
-use mathlib.Core.List.{List, [], _∷_, _++_, append-nil, append-assoc}
-use Prim.Native.Nat.{ℕ, zero, suc, _+_, _*_, _≤_, _<_}
+use mathlib.Core.List.{List, [], _∷_, _++_, append-assoc}
+use Prim.Native.Nat.{ℕ, zero, suc, _*_, _≤_, _<_}
 use native.Mathlib.Omega.{arith}
 use borrow.Author.Tests.{leb-true}
 use lib.Dec.{leb}
@@ -19,8 +19,9 @@ use Rattle.feed_text.specs.Words.{wholeWords}
 use Rattle.feed_text.specs.Line.{continues, isEnd}
 use Rattle.feed_lines.specs.Line.{headLine}
 use Rattle.feed_lines.specs.Feed.{followed, afterEnd, feedLines}
-use Rattle.feed_lines.specs.Step.{Fitting, progress, linesFrom, Enough}
-use Rattle.feed_lines.specs.Pieces.{Held, joined, readOn, lent, done, next, stepLines, startLines, pieceLines}
+use Rattle.feed_lines.specs.Step.{progress, linesFrom, Enough}
+use Rattle.feed_lines.specs.Bounds.{Fitting}
+use Rattle.feed_lines.specs.Pieces.{Held, joined, readOn, lent, done, next, stepLines, pieceLines}
 use Rattle.feed_text.proofs.Laws.{words-length}
 use Rattle.feed_lines.proofs.Heads.{accepted-some, head-fits, head-geometry, goes-on, fitting-shape}
 use Rattle.feed_lines.proofs.Record.{by-test, record-keeps, record-lies}

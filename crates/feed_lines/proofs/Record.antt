@@ -1,7 +1,7 @@
 -- A record's call on a meter of the right length stops the feed, or all its words are lent; the longest record has 25 words.
 use mathlib.Core.Logic.{_⊎_, ⊎-elim, inl, inr}
 use mathlib.Core.Path.{_≡_, refl, sym, ap, _∙_}
-use mathlib.Core.Bool.{Bool, true, false, cond, _&&_, _||_, true≢false}
+use mathlib.Core.Bool.{Bool, true, false, _&&_, _||_, true≢false}
 use mathlib.Core.List.{List, [], _∷_}
 use Prim.Native.Nat.{ℕ, zero, suc, _+_, _-_, _^_, _%_, _≤_, _<_}
 use native.Mathlib.Decide.{decLt}
@@ -9,19 +9,17 @@ use native.Mathlib.Omega.{arith}
 use borrow.Author.Tests.{eqb-true, eq-eqb, leb-true, lt-ltb}
 use lib.Dec.{eqb, leb}
 use lib.ListN.{length, take}
-use Rattle.group.specs.declared.Answer.{Answer}
 use Rattle.group.specs.Status.{badPayload}
-use Rattle.geometry.specs.Order.{badShape, badKey, unless, finish}
+use Rattle.geometry.specs.Order.{badShape, badKey, finish}
 use Rattle.meter.specs.Meter.{updated, estimated}
 use Rattle.meter.proofs.Memory.{update-accepted, status-is}
 use Rattle.word.specs.declared.Step.{Step}
-use Rattle.word.specs.Word.{endKind, go, stop, badWord, next, payload, isDue, tested, below}
-use Rattle.word.proofs.Laws.{due-in, one-on, both}
-use Rattle.feed_records.specs.declared.Opening.{Opening}
+use Rattle.word.specs.Word.{endKind, stop, next, payload, isDue, tested, below}
+use Rattle.word.proofs.Laws.{due-in, one-on}
 use Rattle.feed_records.specs.declared.Opening.the-variants as opening
 use Rattle.feed_records.specs.Words.{updateKind, queryKind, keyKind, amountKind, opensKey, opened, keyOf, amountOf, keyWords, keyPayload, keyWord, checkKey, checkAmount, updateStep, queryStep, bodyOf, updateBody, queryBody, wordsTaken}
 use Rattle.feed_records.proofs.Places.{key-in, update-in}
-use Rattle.feed_records.proofs.Past.{opened-same, payload-same, some-taken}
+use Rattle.feed_records.proofs.Past.{opened-same}
 use Rattle.feed.specs.declared.Recorded.{Recorded}
 use Rattle.feed.specs.declared.Recorded.the-variants as case
 use Rattle.feed.specs.Record.{Carried, outcomeOf, carriedUpdate, queried, carried, carriedAfter, recorded}

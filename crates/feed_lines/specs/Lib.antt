@@ -2,3 +2,4 @@ pub mod Line
 pub mod Feed
 pub mod Step
 pub mod Pieces
+pub mod Bounds
