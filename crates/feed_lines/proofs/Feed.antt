@@ -1,17 +1,17 @@
 -- Steps one after another give the lines of the whole feed, however its bytes are read in pieces.
 use mathlib.Core.Logic.{_⊎_, ⊎-elim, inl, inr}
 use mathlib.Core.Path.{_≡_, refl, sym, ap, _∙_}
-use mathlib.Core.Bool.{Bool, true, false, cond, _||_, true≢false}
+use mathlib.Core.Bool.{true, false}
 use mathlib.Core.List.{List, [], _∷_, _++_, append-nil}
-use Prim.Native.Nat.{ℕ, zero, suc, _+_, _-_, _*_, _/_, _≤_, _<_}
+use Prim.Native.Nat.{ℕ, zero, suc, _+_, _*_, _≤_, _<_}
 use native.Mathlib.Omega.{arith}
 use lib.ListN.{length, take, drop, replicate, length-take, length-drop, length-append, length-replicate}
-use lib.Seq.{take-all, drop-append-le}
+use lib.Seq.{drop-append-le}
 use Rattle.geometry.specs.Geometry.{size}
 use Rattle.geometry.specs.Checks.{badShape}
 use Rattle.feed_records.specs.Words.{wordsTaken}
 use Rattle.feed_records.proofs.Past.{some-taken}
-use Rattle.feed.specs.Head.{headDepth, headWidth, headed}
+use Rattle.feed.specs.Head.{headed}
 use Rattle.feed.specs.Record.{Carried, recorded}
 use Rattle.feed_head.proofs.Laws.{head-alone}
 use Rattle.feed_text.specs.declared.Line.{Line}
@@ -22,18 +22,19 @@ use Rattle.feed_text.proofs.Laws.{words-length, words-front}
 use Rattle.feed_lines.specs.declared.Progress.{Progress}
 use Rattle.feed_lines.specs.Line.{headLine, lineOf}
 use Rattle.feed_lines.specs.Feed.{followed, recordLine, afterEnd, past, recordLines, afterHead, feedLines}
-use Rattle.feed_lines.specs.Step.{Fitting, takenBy, progress, linesFrom, Enough}
+use Rattle.feed_lines.specs.Step.{takenBy, progress, linesFrom, Enough}
+use Rattle.feed_lines.specs.Bounds.{Fitting}
 use Rattle.feed_lines.proofs.Heads.{accepted-some, head-fits, head-geometry, fitting-shape}
 use Rattle.feed_lines.proofs.Record.{by-test, record-keeps, record-lies, record-lent, taken-lent}
 
 -- lines after a line, where they are printed
-followed-same : (l : Line) (a b x y : List Line) → (continues l ≡ true → a ≡ b) → (isEnd l ≡ true → x ≡ y) → followed l a x ≡ followed l b y
+pub followed-same : (l : Line) (a b x y : List Line) → (continues l ≡ true → a ≡ b) → (isEnd l ≡ true → x ≡ y) → followed l a x ≡ followed l b y
 unfolding followed
 followed-same l a b x y f g =
     by-test (continues l) (λ t. rw (t, f t)) (λ t. rw t (by-test (isEnd l) (λ e. rw (e, g e)) (λ e. rw e)))
 
 -- a record that does not stop the feed took all its words
-taken-on : (l : Line) (words : List ℕ) → continues l ≡ true → takenBy l words ≡ wordsTaken words
+pub taken-on : (l : Line) (words : List ℕ) → continues l ≡ true → takenBy l words ≡ wordsTaken words
 unfolding takenBy
 taken-on l words t = rw t
 
@@ -83,7 +84,7 @@ module _ (d w : ℕ) (memory : List ℕ) (before records : ℕ) (lent rest : Lis
   cut : (k : ℕ) → k ≤ length words → drop (4 * k) (lent ++ rest) ≡ drop (4 * k) lent ++ rest
   cut k h = drop-append-le (4 * k) lent rest (omega (arith, length-take 25 (wholeWords lent), words-length lent))
 
-  fewer : (k : ℕ) → 1 ≤ k → k ≤ length words → length (wholeWords (drop (4 * k) lent ++ rest)) < length (wholeWords (lent ++ rest))
+  pub fewer : (k : ℕ) → 1 ≤ k → k ≤ length words → length (wholeWords (drop (4 * k) lent ++ rest)) < length (wholeWords (lent ++ rest))
   fewer k s h =
       rw (words-length (drop (4 * k) lent ++ rest), words-length (lent ++ rest), length-append (drop (4 * k) lent) rest, length-append lent rest, length-drop (4 * k) lent)
       (omega (arith, length-take 25 (wholeWords lent), words-length lent))

@@ -1,9 +1,9 @@
 -- What an accepted head's line says: the depth and width of a meter that fits in the memory lent.
 use mathlib.Core.Logic.{⊎-elim}
 use mathlib.Core.Path.{_≡_, refl, sym, ap, _∙_}
-use mathlib.Core.Bool.{Bool, true, false, cond, _&&_, true≢false}
+use mathlib.Core.Bool.{true, false, true≢false}
 use mathlib.Core.List.{List, [], _∷_}
-use Prim.Native.Nat.{ℕ, _+_, _*_, _/_, _^_, _≤_, _<_}
+use Prim.Native.Nat.{ℕ, _*_, _/_, _^_, _≤_}
 use native.Mathlib.Nat.{mul-le-mul}
 use native.Mathlib.Omega.{arith}
 use borrow.Author.Tests.{eqb-true, eq-eqb, leb-true}
@@ -16,15 +16,14 @@ use Rattle.geometry.specs.Geometry.{validDepth, validWidth, stride, size}
 use Rattle.answer.specs.Order.{firstOf}
 use Rattle.geometry.specs.Checks.{badShape}
 use Rattle.geometry.proofs.Widths.{depth-in}
-use Rattle.word.specs.Word.{headKind, stop, next, payload, isDue, tested, below}
+use Rattle.word.specs.Word.{headKind, stop, payload, isDue, tested, below}
 use Rattle.word.proofs.Laws.{due-in}
 use Rattle.feed.specs.Head.{headDepth, headWidth, badGeometry, headStep, headed}
-use Rattle.feed_text.specs.declared.Line.{Line}
 use Rattle.feed_text.specs.declared.Line.the-variants as line
 use Rattle.feed_text.specs.Line.{continues}
 use Rattle.feed_text.proofs.Line as the-line
 use Rattle.feed_lines.specs.Line.{headLine}
-use Rattle.feed_lines.specs.Step.{Fitting, FittingLine}
+use Rattle.feed_lines.specs.Bounds.{Fitting, FittingLine}
 use Rattle.feed_lines.proofs.Record.{by-test, next-passed}
 
 good-geometry : (v : ℕ) → badGeometry v ≡ 0 → (validDepth (headDepth v) ≡ true) × (validWidth (headWidth v) ≡ true)
@@ -80,6 +79,14 @@ no-geometry a =
     by-test (eqb (a .status) 0)
     (λ t. rw t (by-test (leb (headWidth (a .value)) 4096) (λ s. rw s (λ h. absurd (not-first 0 h refl))) (λ s. rw s (λ h. refl))))
     (λ t. rw t (λ h. refl))
+
+-- and one after which a record follows gives one
+pub goes-on : (a : Answer) → continues (headLine a) ≡ true → headLine a ≡ line.Geometry (headDepth (a .value)) (headWidth (a .value))
+unfolding headLine continues
+goes-on a =
+    by-test (eqb (a .status) 0)
+    (λ t. rw t (by-test (leb (headWidth (a .value)) 4096) (λ s. rw s (λ e. refl)) (λ s. rw s (λ e. absurd (true≢false (sym e))))))
+    (λ t. rw t (λ e. absurd (true≢false (sym e))))
 
 -- such a meter's memory
 pub fitting-shape : (d w n : ℕ) → Fitting d w → n ≡ size d w → badShape d w n ≡ 0

@@ -40,7 +40,8 @@ recordLines (suc n) d w memory before records bytes =
     (recordLines n d w (recorded d w memory before (wholeWords bytes) .memory) (before + wordsTaken (wholeWords bytes)) (records + 1) (past bytes))
     (afterEnd (before + wordsTaken (wholeWords bytes)) (past bytes))
 
--- The records of an accepted head with payload v start on a cleared meter. Each takes a word or more, so a feed of n words has at most n lines after the head's.
+-- The records of an accepted head with payload v start on a cleared meter.
+-- Each takes a word or more, so a feed of n words has at most n lines after the head's.
 unfoldable pub afterHead : ℕ → List ℕ → List Line
 afterHead v bytes =
     recordLines (length (wholeWords bytes)) (headDepth v) (headWidth v) (replicate (size (headDepth v) (headWidth v)) 0) 1 0 (drop 4 bytes)

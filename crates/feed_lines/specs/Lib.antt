@@ -1,3 +1,5 @@
 pub mod Line
 pub mod Feed
 pub mod Step
+pub mod Pieces
+pub mod Bounds

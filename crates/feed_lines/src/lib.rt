@@ -12,7 +12,8 @@ ghost use Rattle.feed.specs.Head.{headed};
 ghost use Rattle.feed.specs.Record.{recorded};
 ghost use Rattle.feed_lines.specs.Line.{headLine, lineOf};
 ghost use Rattle.feed_lines.specs.Step as spec;
-ghost use Rattle.feed_lines.specs.Step.{Fitting, FittingLine, takenBy};
+ghost use Rattle.feed_lines.specs.Step.{takenBy};
+ghost use Rattle.feed_lines.specs.Bounds.{Fitting, FittingLine};
 
 // The largest width that the program lends memory for.
 pub const MOST_SLOTS: usize = 4096;
@@ -119,10 +120,12 @@ pub fn step(
     let r = feed::record(d, w, memory, before, words);
     let line = line_of(r, before, records);
     let n = taken(line, words);
+    let next = before + n as u64;
+    let count = records + 1;
     Progress {
         line,
         taken: n,
-        words: before + n as u64,
-        records: records + 1,
+        words: next,
+        records: count,
     }
 }

@@ -1,13 +1,9 @@
--- Texts and digits as the code holds them: its own terms.
+-- A number's digits as the code holds them: its own terms.
 use Prim.Native.Nat.{ℕ}
 use mathlib.Core.List.{List}
-use lib.ListN.{take, drop}
-use Rattle.feed_text.specs.declared.text.Text.{Text}
+use lib.ListN.{drop}
 use Rattle.feed_text.specs.declared.text.Digits.{Digits}
 
--- the bytes of a text in use
-abbrev pub content : Text → List ℕ
-content t = take (t .length) (t .bytes)
-
+-- A number's digits stand at the end.
 abbrev pub digitsOf : Digits → List ℕ
 digitsOf d = drop (d .start) (d .bytes)

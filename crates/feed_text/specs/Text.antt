@@ -1,8 +1,14 @@
--- Decimal numbers in ASCII; contracts and theorems cite them. Document 01, 'The program's lines'.
+-- A line's text and decimal numbers, in ASCII; contracts and theorems cite them. Document 01, 'The program's lines'.
 use Prim.Native.Nat.{ℕ, zero, suc, _+_, _-_, _*_, _/_, _%_}
 use mathlib.Core.Bool.{cond}
 use mathlib.Core.List.{List, [], _∷_}
 use lib.Dec.{ltb}
+use lib.ListN.{take}
+use Rattle.feed_text.specs.declared.text.Text.{Text}
+
+-- the bytes of a text in use
+abbrev pub content : Text → List ℕ
+content t = take (t .length) (t .bytes)
 
 -- the decimal digits of a number, in ASCII, before a text; k is no less than the number of digits
 unfoldable pub digitsBefore : ℕ → ℕ → List ℕ → List ℕ

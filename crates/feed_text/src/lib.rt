@@ -9,7 +9,7 @@ use text::single;
 pub use words::assemble;
 ghost use mathlib.Core.Path.{_≡_};
 ghost use Prim.Native.Nat.{_≤_};
-ghost use Rattle.feed_text.specs.Buffers.{content};
+ghost use Rattle.feed_text.specs.Text.{content};
 ghost use Rattle.feed_text.specs.Line as spec;
 ghost use Rattle.feed_text.specs.Line.{isEnd};
 

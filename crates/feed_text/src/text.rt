@@ -4,8 +4,8 @@ ghost use mathlib.Core.List.{_++_};
 ghost use Prim.Native.Nat.{_+_, _≤_, _<_};
 ghost use lib.ListN.{length};
 ghost use Rattle.feed_text.specs.Text as spec;
-ghost use Rattle.feed_text.specs.Text.{newline};
-ghost use Rattle.feed_text.specs.Buffers.{content, digitsOf};
+ghost use Rattle.feed_text.specs.Text.{content, newline};
+ghost use Rattle.feed_text.specs.Buffers.{digitsOf};
 
 pub struct Text {
     pub bytes: [u8; 64],

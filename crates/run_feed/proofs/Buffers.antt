@@ -11,7 +11,7 @@ use borrow.Author.Tests.{lt-ltb, le-ltb}
 use lib.ListN.{length, take, drop, take-append-drop, length-take, length-drop, length-append, drop-of-length-le}
 use lib.Seq.{take-take, take-at, drop-at, drop-drop, take-nil, length-take-le, take-add}
 use Rattle.feed_text.specs.declared.text.Text.{Text}
-use Rattle.feed_text.specs.Buffers.{content}
+use Rattle.feed_text.specs.Text.{content}
 use Rattle.run_feed.specs.declared.input.Input.{Input}
 use Rattle.run_feed.specs.Buffers.{Within, unused, advanced, Filled, Refilled, place, written}
 

@@ -1,5 +1,6 @@
 -- What a part of a run prints, by the definition of a feed's lines: the code's own terms.
--- No contract says what a read brings or where a written byte goes. So `read` and `sent` are some bytes: those that the part's reads brought and its writes took.
+-- No contract can say what a read brings or where a written byte goes. So `read` and `sent` are some bytes: those that the part's reads
+-- brought and its writes took.
 use Prim.Native.Nat.{ℕ, _+_, _*_, _^_, _<_}
 use mathlib.Core.Path.{_≡_}
 use mathlib.Core.Bool.{Bool, false, cond}

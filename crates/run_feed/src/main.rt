@@ -17,7 +17,8 @@ ghost use Rattle.feed.specs.Record.{recorded};
 ghost use Rattle.feed_text.specs.Words.{wholeWords};
 ghost use Rattle.feed_lines.specs.Line.{headLine};
 ghost use Rattle.feed_lines.specs.Feed.{feedText};
-ghost use Rattle.feed_lines.specs.Step.{FittingLine, progress};
+ghost use Rattle.feed_lines.specs.Step.{progress};
+ghost use Rattle.feed_lines.specs.Bounds.{FittingLine};
 ghost use Rattle.run_feed.specs.Buffers.{Within, unused};
 ghost use Rattle.run_feed.specs.Run.{Ran, Printed, seen, dueAfterEnd, dueAfterHead};
 
@@ -76,12 +77,12 @@ fn step(
     let end = i.end;
     let p = next(memory, d, w, &input[start..end], s.words, s.records);
     let line = p.line;
-    let out = output::put(output, s.out, feed_text::text_of(line));
+    let hand = output::put(output, s.out, feed_text::text_of(line));
     State {
         input: input::after(i, 4 * p.taken),
         words: p.words,
         records: p.records,
-        out,
+        out: hand,
         runs: feed_text::continues(line),
         ended: feed_text::is_end(line),
     }

@@ -5,7 +5,7 @@ ghost use mathlib.Core.Path.{_≡_};
 ghost use mathlib.Core.List.{_++_};
 ghost use Prim.Native.Nat.{_+_, _≤_};
 ghost use lib.ListN.{length, take, drop};
-ghost use Rattle.feed_text.specs.Buffers.{content};
+ghost use Rattle.feed_text.specs.Text.{content};
 ghost use Rattle.run_feed.specs.Buffers.{place, written};
 
 // The text behind the first bytes of the buffer. Gives the number of bytes that are now to be written.

@@ -19,8 +19,8 @@ line-of-requires c κs = search needs
 taken-requires : tie.Need-taken-requires
 taken-requires c κs = search needs
 
-add-t13 : tie.Need-add-t13
-add-t13 c =
+add-next : tie.Need-add-next
+add-next c =
     let s = c .before .before .before .before .before .before .before .before in
     let a = s .args in
     record {
@@ -33,8 +33,8 @@ add-t13 c =
       );
     }
 
-add-t14 : tie.Need-add-t14
-add-t14 c = search needs
+add-count : tie.Need-add-count
+add-count c = search needs
 
 same-length : tie.Need-same-length
 same-length c = search needs
@@ -53,4 +53,4 @@ returns c =
 pub step-spec : {M : Type 1} → statement M
 step-spec =
     tie.close
-    (tie.spec record-requires line-of-requires taken-requires add-t13 add-t14 same-length returns)
+    (tie.spec record-requires line-of-requires taken-requires add-next add-count same-length returns)

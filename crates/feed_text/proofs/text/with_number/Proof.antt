@@ -4,8 +4,7 @@ use Prim.Native.Nat.{ℕ, _-_, _≤_}
 use native.Mathlib.Omega.{arith}
 use lib.ListN.{length, take, drop, length-drop}
 use lib.Seq.{take-all}
-use Rattle.feed_text.specs.Text.{decimal}
-use Rattle.feed_text.specs.Buffers.{content}
+use Rattle.feed_text.specs.Text.{content, decimal}
 use borrow.Author.Needs.{needs}
 use Rattle.feed_text.proofs.text.with_number.Statement.{statement}
 use Rattle.feed_text.proofs.text.with_number.Tie as tie

@@ -1,10 +1,9 @@
-use lib.Seq.{length-take-le, take-all}
+use lib.Seq.{length-take-le}
 use mathlib.Core.Path.{_≡_, refl, sym, ap, _∙_}
 use mathlib.Core.List.{_++_}
 use Prim.Native.Nat.{_-_, _/_, _≤_, min}
-use native.Mathlib.Nat.{zero-add}
 use native.Mathlib.Omega.{arith}
-use lib.ListN.{length, take, drop, length-set, getD}
+use lib.ListN.{length, take, drop, length-set}
 use borrow.Author.Needs.{needs}
 use Rattle.feed_text.specs.Words.{wholeWords}
 use Rattle.feed_text.proofs.Laws.{words-length, copy-more, lent-words}

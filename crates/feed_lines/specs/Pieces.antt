@@ -1,0 +1,58 @@
+-- A feed that comes in pieces, one step after another as the program goes; the theorem that its lines are the whole feed's cites it.
+use Prim.Native.Nat.{ℕ, zero, suc, _*_}
+use mathlib.Core.Bool.{cond}
+use mathlib.Core.List.{List, [], _∷_, _++_}
+use lib.Dec.{leb}
+use lib.ListN.{length, take, drop, replicate}
+use Rattle.geometry.specs.Geometry.{size}
+use Rattle.feed.specs.Head.{headDepth, headWidth, headed}
+use Rattle.feed.specs.Record.{recorded}
+use Rattle.feed_text.specs.declared.Line.{Line}
+use Rattle.feed_text.specs.Words.{wholeWords}
+use Rattle.feed_lines.specs.declared.Progress.{Progress}
+use Rattle.feed_lines.specs.Line.{headLine}
+use Rattle.feed_lines.specs.Feed.{followed, afterEnd}
+use Rattle.feed_lines.specs.Step.{progress}
+
+-- the bytes at hand, and the pieces that are still to be read
+pub record Held : Type 0 where
+  pub bytes : List ℕ
+  pub pieces : List (List ℕ)
+
+unfoldable pub joined : List (List ℕ) → List ℕ
+joined [] = []
+joined (p ∷ ps) = p ++ joined ps
+
+-- pieces are read until the bytes of the longest record, 25 words, are at hand or no piece is left
+unfoldable pub readOn : List ℕ → List (List ℕ) → Held
+readOn bytes [] = record { bytes = bytes; pieces = [] }
+readOn bytes (p ∷ ps) = cond (leb (4 * 25) (length bytes)) (record { bytes = bytes; pieces = p ∷ ps }) (readOn (bytes ++ p) ps)
+
+-- the words that are lent, and what the step does with them
+abbrev pub lent : Held → List ℕ
+lent h = take 25 (wholeWords (h .bytes))
+
+abbrev pub done : ℕ → ℕ → List ℕ → ℕ → ℕ → Held → Progress
+done d w memory before records h = progress d w memory before records (lent h)
+
+-- after n words of those at hand
+abbrev pub next : ℕ → Held → Held
+next n h = readOn (drop (4 * n) (h .bytes)) (h .pieces)
+
+-- the lines of records and the end, n at most
+unfoldable pub stepLines : ℕ → ℕ → ℕ → List ℕ → ℕ → ℕ → Held → List Line
+stepLines zero d w memory before records h = []
+stepLines (suc n) d w memory before records h =
+    followed (done d w memory before records h .line)
+    (stepLines n d w (recorded d w memory before (lent h) .memory) (done d w memory before records h .words) (done d w memory before records h .records)
+    (next (done d w memory before records h .taken) h))
+    (afterEnd (done d w memory before records h .words) (next (done d w memory before records h .taken) h .bytes))
+
+-- the lines of the whole feed: its head's payload v and what is at hand after the first reads, then the records, n at most
+abbrev pub startLines : ℕ → ℕ → Held → List Line
+startLines n v h = stepLines n (headDepth v) (headWidth v) (replicate (size (headDepth v) (headWidth v)) 0) 1 0 (next 1 h)
+
+unfoldable pub pieceLines : List (List ℕ) → List Line
+pieceLines pieces =
+    followed (headLine (headed (take 1 (wholeWords (readOn [] pieces .bytes)))))
+    (startLines (length (wholeWords (joined pieces))) (headed (take 1 (wholeWords (readOn [] pieces .bytes))) .value) (readOn [] pieces)) []
