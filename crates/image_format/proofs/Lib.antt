@@ -1,4 +1,5 @@
 pub mod Laws
+pub mod Rows
 pub mod Sizes
 pub mod Counters
 pub mod Plain

@@ -3,6 +3,7 @@ use group::Group;
 ghost use mathlib.Core.Path.{_≡_};
 ghost use Prim.Native.Nat.{_+_, _^_, _<_, _≤_};
 ghost use lib.ListN.{length, take};
+ghost use Rattle.group_codes.specs.Pack.{layoutsOf};
 ghost use Rattle.group_codes.specs.Codes.{codeOf};
 ghost use Rattle.image_format.specs.Image as spec;
 ghost use Rattle.image_format.specs.Image.{countKind, logWidth, wordsOf, levelAt};
@@ -187,7 +188,7 @@ fn describe(t: &mut [u8], at: usize, merge: u8)
 // For each of the first n layout codes a description of a group's words. Where a description has no word its bits stay 31: a reader that
 // tests eight words at once then sees little of the words behind the group's.
 pub fn field_table(n: usize) -> [u8; 442]
-    requires { ⌜ n ≤ 26 ⌝ }
+    requires { ⌜ n ≤ layoutsOf 1 ⌝ }
     ensures { λ r. ⌜ FirstFields n r ⌝ }
 {
     let mut t = [31u8; 442];

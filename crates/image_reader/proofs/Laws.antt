@@ -17,6 +17,7 @@ use Rattle.geometry.specs.Rows.{withGroup}
 use Rattle.word.specs.Word.{payload}
 use Rattle.image_format.specs.Image.{wordsOf, levelAt, isFirst}
 use Rattle.image_format.specs.Write.{slotSize, groupSize}
+use Rattle.image_format.proofs.Rows.{rows-turn}
 use Rattle.image_format.specs.Read.{valueFrom, readSlot, readSlots, mergesAt, readGroup, readGroups, afterGroups, afterFours, readFours, readRows}
 
 -- the words of a value, read one by one
@@ -113,11 +114,13 @@ row-part memory r w size e =
 abbrev pub rowsFrom : ℕ → ℕ → ℕ → List ℕ → List ℕ → ℕ → List ℕ
 rowsFrom d r w memory words p = take (r * stride w) memory ++ readRows (d - r) w (drop (r * stride w) memory) words p
 
-read-rows-step : (n w : ℕ) (memory words : List ℕ) (p : ℕ) → 0 < n
-    → readRows n w memory words p ≡ readFours (w / 32) 0 w (take (stride w) memory) words p ++ readRows (n - 1) w (drop (stride w) memory) words (afterFours (w / 32) words p)
+read-rows-step : (memory : List ℕ) (d r w : ℕ) (words : List ℕ) (p : ℕ) → r < d
+    → readRows (d - r) w (drop (r * stride w) memory) words p
+    ≡ readFours (w / 32) 0 w (take (stride w) (drop (r * stride w) memory)) words p ++ readRows (d - (r + 1)) w (drop ((r + 1) * stride w) memory) words (afterFours (w / 32) words p)
 unfolding readRows
-read-rows-step zero w memory words p h = absurd (omega arith)
-read-rows-step (suc n) w memory words p h = rw (sub-one (suc n))
+read-rows-step memory d r w words p h =
+    ap (λ (f : ℕ → List ℕ). f p)
+    (rows-turn (λ n m q. readRows n w m words q) (λ row f q. readFours (w / 32) 0 w row words q ++ f (afterFours (w / 32) words q)) (stride w) (λ n m. refl) memory d r h)
 
 pub read-rows-end : (d r w : ℕ) (memory words : List ℕ) (p : ℕ) → d - r ≡ 0 → rowsFrom d r w memory words p ≡ memory
 unfolding readRows
@@ -130,15 +133,13 @@ module _ (d r w : ℕ) (memory ys words : List ℕ) (p size : ℕ) (e : size ≡
       let s = stride w in
       let a = r * s in
       let y : ys ≡ readFours (w / 32) 0 w (take s (drop a memory)) words p = f ∙ ap (λ (z : List ℕ). readFours (w / 32) 0 w z words p) (row-part memory r w size e) in
-      let n : d - r - 1 ≡ d - (r + 1) = omega arith in
       let b : (r + 1) * s ≡ a + s = add-mul r 1 s ∙ ap (λ (m : ℕ). a + m) (one-mul s) in
       let front : length (take a memory ++ ys) ≡ a + s = simp (length-append, length-take-le a memory (omega arith), l) in
       let whole : putMid a (a + s - a) memory ys ≡ (take a memory ++ ys) ++ drop (a + s) memory
       = ap (λ (z : List ℕ). take a memory ++ (ys ++ z)) (post-is a (a + s) memory (omega arith)) ∙ sym (append-assoc (take a memory) ys (drop (a + s) memory)) in
       let t : take (a + s) ((take a memory ++ ys) ++ drop (a + s) memory) ≡ take a memory ++ ys = take-at (take a memory ++ ys) (drop (a + s) memory) (a + s) front in
       let u : drop (a + s) ((take a memory ++ ys) ++ drop (a + s) memory) ≡ drop (a + s) memory = drop-at (take a memory ++ ys) (drop (a + s) memory) (a + s) front in
-      let v : drop s (drop a memory) ≡ drop (a + s) memory = drop-drop s a memory in
       let rest = readRows (d - (r + 1)) w (drop (a + s) memory) words (afterFours (w / 32) words p) in
       let done : rowsFrom d (r + 1) w (putMid a (a + s - a) memory ys) words (afterFours (w / 32) words p) ≡ take a memory ++ (ys ++ rest) = rw (b, whole, t, u) (append-assoc (take a memory) ys rest) in
-      let left : readRows (d - r) w (drop a memory) words p ≡ ys ++ rest = read-rows-step (d - r) w (drop a memory) words p (omega arith) ∙ rw (n, v, ← y) in
+      let left : readRows (d - r) w (drop a memory) words p ≡ ys ++ rest = read-rows-step memory d r w words p h ∙ rw (b, ← y) in
       ap (λ (z : ℕ). rowsFrom d (r + 1) w (putMid (r * z) (r * z + z - r * z) memory ys) words (afterFours (w / 32) words p)) e ∙ done ∙ ap (λ (z : List ℕ). take a memory ++ z) (sym left)

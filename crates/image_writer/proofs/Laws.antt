@@ -18,6 +18,7 @@ use Rattle.word.specs.Word.{headKind}
 use Rattle.image_format.specs.Image.{word, countKind, parts, wordsOf, levelAt, isFirst, slotWords, slotsWords, groupWords, groupsWords, fourWords, rowWords, rowsWords, layoutAt, headPayload, body, endWord, image}
 use Rattle.image_format.specs.Write.{allValid, validRows, slotSize, slotsSize, groupSize}
 use Rattle.image_format.proofs.Laws.{slot-none, parts-length}
+use Rattle.image_format.proofs.Rows.{rows-turn}
 use Rattle.image_format.proofs.Counters.{behind}
 
 pub map-append : {A : Type 0} (f : A → ℕ) (xs ys : List A) → map f (xs ++ ys) ≡ map f xs ++ map f ys
@@ -60,9 +61,7 @@ drop-row memory r s =
 pub valid-rows-step : (memory : List ℕ) (d r w : ℕ) → r < d
     → validRows (d - r) w (drop (r * stride w) memory) ≡ (allValid (drop w (take (stride w) (drop (r * stride w) memory))) && validRows (d - (r + 1)) w (drop ((r + 1) * stride w) memory))
 unfolding validRows
-valid-rows-step memory d r w h =
-    let e : d - r ≡ suc (d - (r + 1)) = omega arith in
-    rw (e, drop-row memory r (stride w))
+valid-rows-step memory d r w h = rows-turn (λ n m. validRows n w m) (λ row v. allValid (drop w row) && v) (stride w) (λ n m. refl) memory d r h
 
 pub valid-rows-none : (n w : ℕ) (memory : List ℕ) → n ≡ 0 → validRows n w memory ≡ true
 unfolding validRows
@@ -156,9 +155,7 @@ row-length-step n i w row h =
 pub rows-step : (memory : List ℕ) (d r w : ℕ) → r < d
     → rowsWords (d - r) w (drop (r * stride w) memory) ≡ rowWords (w / 32) 0 w (take (stride w) (drop (r * stride w) memory)) ++ rowsWords (d - (r + 1)) w (drop ((r + 1) * stride w) memory)
 unfolding rowsWords
-rows-step memory d r w h =
-    let e : d - r ≡ suc (d - (r + 1)) = omega arith in
-    rw (e, drop-row memory r (stride w))
+rows-step memory d r w h = rows-turn (λ n m. rowsWords n w m) (λ row ws. rowWords (w / 32) 0 w row ++ ws) (stride w) (λ n m. refl) memory d r h
 
 pub rows-none : (n w : ℕ) (memory : List ℕ) → n ≡ 0 → rowsWords n w memory ≡ []
 unfolding rowsWords
