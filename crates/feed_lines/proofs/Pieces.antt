@@ -9,7 +9,7 @@ use borrow.Author.Tests.{leb-true}
 use lib.Dec.{leb}
 use lib.ListN.{length, take, drop, replicate, length-append, length-take, length-drop, length-replicate}
 use Rattle.geometry.specs.Geometry.{size}
-use Rattle.geometry.specs.Order.{badShape}
+use Rattle.geometry.specs.Checks.{badShape}
 use Rattle.feed_records.proofs.Past.{some-taken}
 use Rattle.feed.specs.Head.{headDepth, headWidth, headed}
 use Rattle.feed.specs.Record.{recorded}

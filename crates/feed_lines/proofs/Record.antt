@@ -9,16 +9,19 @@ use native.Mathlib.Omega.{arith}
 use borrow.Author.Tests.{eqb-true, eq-eqb, leb-true, lt-ltb}
 use lib.Dec.{eqb, leb}
 use lib.ListN.{length, take}
-use Rattle.group.specs.Status.{badPayload}
-use Rattle.geometry.specs.Order.{badShape, badKey, finish}
+use Rattle.answer.specs.Numbers.{badPayload}
+use Rattle.answer.specs.Answers.{finish, leaves}
+use Rattle.geometry.specs.Checks.{badShape, badKey}
 use Rattle.meter.specs.Meter.{updated, estimated}
-use Rattle.meter.proofs.Memory.{update-accepted, status-is}
+use Rattle.answer.proofs.Answers.{status-is}
+use Rattle.meter.proofs.Memory.{update-accepted}
 use Rattle.word.specs.declared.Step.{Step}
 use Rattle.word.specs.Word.{endKind, stop, next, payload, isDue, tested, below}
 use Rattle.word.proofs.Laws.{due-in, one-on}
 use Rattle.feed_records.specs.declared.Opening.the-variants as opening
 use Rattle.feed_records.specs.Words.{updateKind, queryKind, keyKind, amountKind, opensKey, opened, keyOf, amountOf, keyWords, keyPayload, keyWord, checkKey, checkAmount, updateStep, queryStep, bodyOf, updateBody, queryBody, wordsTaken}
-use Rattle.feed_records.proofs.Places.{key-in, update-in}
+use Rattle.feed_keys.proofs.Places.{key-in}
+use Rattle.feed_records.proofs.Places.{update-in}
 use Rattle.feed_records.proofs.Past.{opened-same}
 use Rattle.feed.specs.declared.Recorded.{Recorded}
 use Rattle.feed.specs.declared.Recorded.the-variants as case
@@ -26,7 +29,7 @@ use Rattle.feed.specs.Record.{Carried, outcomeOf, carriedUpdate, queried, carri
 use Rattle.feed.proofs.Laws.{record-good}
 use Rattle.feed.proofs.Past.{record-alone}
 use Rattle.feed_text.specs.declared.Line.{Line}
-use Rattle.feed_text.specs.Line.{stops, rejectedLine, continues, isEnd}
+use Rattle.feed_text.specs.Line.{stops, refusedLine, continues, isEnd}
 use Rattle.feed_lines.specs.Line.{lineOf}
 use Rattle.feed_lines.specs.Feed.{recordLine}
 use Rattle.feed_lines.specs.Step.{takenBy}
@@ -132,7 +135,7 @@ key-stops n = by-test (leb 1 n && leb n 64) (λ t. rw t (inl refl)) (λ t. rw t 
 
 -- a refused call leaves the memory as it was
 refused-keeps : (s v : ℕ) (after before : List ℕ) → eqb (finish s v after before .answer .status) 0 ≡ false → finish s v after before .memory ≡ before
-unfolding finish
+unfolding finish leaves
 refused-keeps s v after before h = rw (rw (status-is s v) at h)
 
 taken-most : (l : Line) (words : List ℕ) → takenBy l words ≤ wordsTaken words
@@ -148,7 +151,7 @@ module _ (d w : ℕ) (memory : List ℕ) (before : ℕ) (words : List ℕ) (shap
 
   -- to prove a thing of what the call does, prove it of a stop, and of an update, a query and the end whose words are lent
   module _ (P : Carried → Type 0)
-      (stopping : (s p : ℕ) → stops s ≡ true → P (record { outcome = case.Rejected s p; memory = memory }))
+      (stopping : (s p : ℕ) → stops s ≡ true → P (record { outcome = case.Refused s p; memory = memory }))
       (updates : wordsTaken words ≤ length words
       → P (record { outcome = outcomeOf (updated d w memory key amount .answer) case.Updated; memory = updated d w memory key amount .memory }))
       (queries : wordsTaken words ≤ length words
@@ -197,7 +200,7 @@ module _ (d w : ℕ) (memory : List ℕ) (before : ℕ) (words : List ℕ) (shap
 
   -- what it takes is lent
   pub record-lies : (records : ℕ) → takenBy (recordLine d w memory before records words) words ≤ length words
-  unfolding takenBy lineOf rejectedLine continues isEnd
+  unfolding takenBy lineOf refusedLine continues isEnd
   record-lies records =
       record-cases (λ c. takenBy (lineOf (c .outcome) before records) words ≤ length words) (λ s p h. rw h (omega arith))
       (λ h. omega (arith, taken-most (lineOf (outcomeOf (updated d w memory key amount .answer) case.Updated) before records) words))
