@@ -9,11 +9,11 @@ use lib.Seq.{take-all}
 use Rattle.group.specs.Group.{read}
 use Rattle.hash.specs.Hash.{basis}
 use Rattle.geometry.specs.Geometry.{stride, size}
-use Rattle.answer.specs.Order.{earliest}
-use Rattle.geometry.specs.Rows.{mapRows, ofRows, groupAt, withGroup, leastOr, least}
+use Rattle.geometry.specs.Order.{earliest}
+use Rattle.geometry.specs.Rows.{mapRows, ofRows, groupAt, leastOr, least}
 use Rattle.meter_keys.specs.Keys.{keySlot}
-use Rattle.meter_row.specs.Row.{addedIn, updateStatus, updateRow, readRow}
-use Rattle.answer.proofs.Order.{earlier-none}
+use Rattle.meter_row.specs.Row.{addedIn, addedRow, updateStatus, updateRow, readRow}
+use Rattle.geometry.proofs.Widths.{earlier-none}
 use Rattle.meter_rows.specs.Slots.{addedStatus, slotAdded, slotStatus, slotValue}
 use Rattle.meter_rows.proofs.Stored.{reads-same, maps-same}
 use Rattle.meter.specs.Meter.{readStatus, readValue}
@@ -31,33 +31,38 @@ module _ (d w : ℕ) (memory key slots : List ℕ) {state : ℕ} (start : state 
   slot-at : (k : ℕ) → k < d → getD slots (0 + k) 0 ≡ keySlot basis w key (0 + k)
   slot-at k h = are (0 + k) (omega arith) ∙ ap (λ (s : ℕ). keySlot s w key (0 + k)) start
 
+  -- what is read and written by the slots of the rows is by the key: for any operation on a slot of a row
+  pub reads-by-key : (f : ℕ → List ℕ → ℕ)
+      → ofRows (λ (r : ℕ) (row : List ℕ). f (getD slots r 0) row) (stride w) d 0 memory
+      ≡ ofRows (λ (r : ℕ) (row : List ℕ). f (keySlot basis w key r) row) (stride w) d 0 memory
+  reads-by-key f =
+      reads-same (stride w) (λ (r : ℕ) (row : List ℕ). f (getD slots r 0) row) (λ (r : ℕ) (row : List ℕ). f (keySlot basis w key r) row) d 0 memory
+      (λ k h. ap (λ (s : ℕ). f s (take (stride w) (drop (k * stride w) memory))) (slot-at k h))
+
+  pub maps-by-key : (f : ℕ → List ℕ → List ℕ)
+      → mapRows (λ (r : ℕ) (row : List ℕ). f (getD slots r 0) row) (stride w) d 0 memory
+      ≡ mapRows (λ (r : ℕ) (row : List ℕ). f (keySlot basis w key r) row) (stride w) d 0 memory
+  maps-by-key f =
+      maps-same (stride w) (λ (r : ℕ) (row : List ℕ). f (getD slots r 0) row) (λ (r : ℕ) (row : List ℕ). f (keySlot basis w key r) row) d 0 memory
+      (λ k h. ap (λ (s : ℕ). f s (take (stride w) (drop (k * stride w) memory))) (slot-at k h))
+
   pub status-by-key : (amount : ℕ)
       → earliest (ofRows (addedStatus w slots amount) (stride w) d 0 memory) ≡ earliest (ofRows (updateStatus basis w key amount) (stride w) d 0 memory)
   unfolding updateStatus
-  status-by-key amount =
-      ap earliest (reads-same (stride w) (addedStatus w slots amount) (updateStatus basis w key amount) d 0 memory
-      (λ k h. ap (λ (s : ℕ). addedIn w (take (stride w) (drop (k * stride w) memory)) s amount .status) (slot-at k h)))
-
-  pub read-status-by-key : earliest (ofRows (slotStatus w slots) (stride w) d 0 memory) ≡ earliest (ofRows (readStatus w key) (stride w) d 0 memory)
-  unfolding readStatus readRow
-  read-status-by-key =
-      ap earliest (reads-same (stride w) (slotStatus w slots) (readStatus w key) d 0 memory
-      (λ k h. ap (λ (s : ℕ). read (groupAt w (take (stride w) (drop (k * stride w) memory)) (s / 8)) s .status) (slot-at k h)))
-
-  pub read-value-by-key : least (ofRows (slotValue w slots) (stride w) d 0 memory) ≡ least (ofRows (readValue w key) (stride w) d 0 memory)
-  unfolding readValue readRow
-  read-value-by-key =
-      ap least (reads-same (stride w) (slotValue w slots) (readValue w key) d 0 memory
-      (λ k h. ap (λ (s : ℕ). read (groupAt w (take (stride w) (drop (k * stride w) memory)) (s / 8)) s .value) (slot-at k h)))
+  status-by-key amount = ap earliest (reads-by-key (λ (s : ℕ) (row : List ℕ). addedIn w row s amount .status))
 
   pub added-by-key : (amount : ℕ)
       → mapRows (slotAdded w slots amount) (stride w) d 0 memory ≡ mapRows (updateRow basis w key amount) (stride w) d 0 memory
   unfolding updateRow
-  added-by-key amount =
-      maps-same (stride w) (slotAdded w slots amount) (updateRow basis w key amount) d 0 memory
-      (λ k h.
-      let row = take (stride w) (drop (k * stride w) memory) in
-      ap (λ (s : ℕ). withGroup w row (s / 8) (addedIn w row s amount .group)) (slot-at k h))
+  added-by-key amount = maps-by-key (λ (s : ℕ) (row : List ℕ). addedRow w row s amount)
+
+  pub read-status-by-key : earliest (ofRows (slotStatus w slots) (stride w) d 0 memory) ≡ earliest (ofRows (readStatus w key) (stride w) d 0 memory)
+  unfolding readStatus readRow
+  read-status-by-key = ap earliest (reads-by-key (λ (s : ℕ) (row : List ℕ). read (groupAt w row (s / 8)) s .status))
+
+  pub read-value-by-key : least (ofRows (slotValue w slots) (stride w) d 0 memory) ≡ least (ofRows (readValue w key) (stride w) d 0 memory)
+  unfolding readValue readRow
+  read-value-by-key = ap least (reads-by-key (λ (s : ℕ) (row : List ℕ). read (groupAt w row (s / 8)) s .value))
 
 -- the same of a meter of one row, by its one slot
 pub one-long : (d w bytes : ℕ) → d ≡ 1 → bytes ≡ size d w → bytes ≡ stride w
@@ -78,10 +83,10 @@ module _ (d w : ℕ) (memory key : List ℕ) (one : d ≡ 1) (long : length memo
   one-status amount = ap (λ (s : ℕ). addedIn w memory s amount .status) at-basis ∙ one-earliest (updateStatus basis w key amount)
 
   pub one-added : (amount : ℕ)
-      → withGroup w memory (slot / 8) (addedIn w memory slot amount .group) ≡ mapRows (updateRow basis w key amount) (stride w) d 0 memory
+      → addedRow w memory slot amount ≡ mapRows (updateRow basis w key amount) (stride w) d 0 memory
   unfolding updateRow
   one-added amount =
-      ap (λ (s : ℕ). withGroup w memory (s / 8) (addedIn w memory s amount .group)) at-basis
+      ap (λ (s : ℕ). addedRow w memory s amount) at-basis
       ∙ sym (one-map (updateRow basis w key amount) (stride w) memory long)
       ∙ ap (λ (n : ℕ). mapRows (updateRow basis w key amount) (stride w) n 0 memory) (sym one)
 
