@@ -26,7 +26,7 @@ use Rattle.feed.specs.Record.{Carried, outcomeOf, carriedUpdate, queried, carri
 use Rattle.feed.proofs.Laws.{record-good}
 use Rattle.feed.proofs.Past.{record-alone}
 use Rattle.feed_text.specs.declared.Line.{Line}
-use Rattle.feed_text.specs.Line.{stops, rejectedLine, continues, isEnd}
+use Rattle.feed_text.specs.Line.{stops, refusedLine, continues, isEnd}
 use Rattle.feed_lines.specs.Line.{lineOf}
 use Rattle.feed_lines.specs.Feed.{recordLine}
 use Rattle.feed_lines.specs.Step.{takenBy}
@@ -197,7 +197,7 @@ module _ (d w : ℕ) (memory : List ℕ) (before : ℕ) (words : List ℕ) (shap
 
   -- what it takes is lent
   pub record-lies : (records : ℕ) → takenBy (recordLine d w memory before records words) words ≤ length words
-  unfolding takenBy lineOf rejectedLine continues isEnd
+  unfolding takenBy lineOf refusedLine continues isEnd
   record-lies records =
       record-cases (λ c. takenBy (lineOf (c .outcome) before records) words ≤ length words) (λ s p h. rw h (omega arith))
       (λ h. omega (arith, taken-most (lineOf (outcomeOf (updated d w memory key amount .answer) case.Updated) before records) words))

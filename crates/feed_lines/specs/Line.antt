@@ -8,7 +8,7 @@ use Rattle.feed.specs.declared.Recorded.{Recorded}
 use Rattle.feed.specs.declared.Recorded.the-variants as recorded
 use Rattle.feed_text.specs.declared.Line.{Line}
 use Rattle.feed_text.specs.declared.Line.the-variants as line
-use Rattle.feed_text.specs.Line.{rejectedLine}
+use Rattle.feed_text.specs.Line.{refusedLine}
 
 -- the largest width that the program lends memory for
 abbrev pub mostSlots : ℕ
@@ -26,4 +26,4 @@ unfoldable pub lineOf : Recorded → ℕ → ℕ → Line
 lineOf recorded.Updated before records = line.Updated
 lineOf (recorded.Estimate v) before records = line.Estimate v
 lineOf recorded.Ended before records = line.End records
-lineOf (recorded.Rejected s p) before records = rejectedLine s (before + p)
+lineOf (recorded.Rejected s p) before records = refusedLine s (before + p)

@@ -84,7 +84,7 @@ fn line_of(r: Recorded, before: u64, records: u64) -> Line
         Recorded::Estimate { value } => Line::Estimate { value },
         Recorded::Ended => Line::End { records },
         Recorded::Rejected { status, position } => {
-            feed_text::rejected_line(status, before + position)
+            feed_text::refused_line(status, before + position)
         }
     }
 }

@@ -56,8 +56,8 @@ texts (l ∷ ls) = text l ++ texts ls
 unfoldable pub stops : ℕ → Bool
 stops s = eqb s 1 || eqb s 2 || eqb s 4 || eqb s 8 || eqb s 9
 
-unfoldable pub rejectedLine : ℕ → ℕ → Line
-rejectedLine s i = cond (stops s) (line.Stopped s i) (line.Refused s)
+unfoldable pub refusedLine : ℕ → ℕ → Line
+refusedLine s i = cond (stops s) (line.Stopped s i) (line.Refused s)
 
 -- whether a record follows
 unfoldable pub continues : Line → Bool

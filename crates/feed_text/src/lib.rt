@@ -69,8 +69,8 @@ fn stops(status: u8) -> bool
 }
 
 // The line of a call that was refused, by its number and the index of its word.
-pub fn rejected_line(status: u8, index: u64) -> Line
-    ensures { λ l. ⌜ l ≡ spec.rejectedLine status index ⌝ }
+pub fn refused_line(status: u8, index: u64) -> Line
+    ensures { λ l. ⌜ l ≡ spec.refusedLine status index ⌝ }
 {
     if stops(status) {
         return Line::Stopped { status, index };

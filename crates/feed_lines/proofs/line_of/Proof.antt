@@ -19,14 +19,14 @@ enum-told-2 c = search needs
 enum-known-r-2 : tie.Need-enum-known-r-2
 enum-known-r-2 c = search needs
 
-add-rejected-line : tie.Need-add-rejected-line
-add-rejected-line c = let a = c .before .before .before .args in
+add-refused-line : tie.Need-add-refused-line
+add-refused-line c = let a = c .before .before .before .args in
     let h : a .before + recordAnswer (a .r) .position < 2 ^ 64 = c .before .before .before .pre in
     let k = rw (c .before .r2 .given .1) at h in
     record { fits = k }
 
-rejected-line-requires : tie.Need-rejected-line-requires
-rejected-line-requires c κs = search needs
+refused-line-requires : tie.Need-refused-line-requires
+refused-line-requires c κs = search needs
 
 returns : tie.Need-returns
 returns c = sym (updated-line (c .before .before .args .r) (c .before .before .args .before) (c .before .before .args .records) (c .before .match .keys1))
@@ -40,7 +40,7 @@ returns-3 c = sym (ended-line (c .before .before .args .r) (c .before .before .a
 
 returns-4 : tie.Need-returns-4
 unfolding lineOf
-returns-4 c = rw (c .before .before .r2 .given .1) (c .rejected-line .ensures)
+returns-4 c = rw (c .before .before .r2 .given .1) (c .refused-line .ensures)
 
 pub line-of-spec : {M : Type 1} → statement M
 line-of-spec =
@@ -50,8 +50,8 @@ line-of-spec =
     enum-known-r
     enum-told-2
     enum-known-r-2
-    add-rejected-line
-    rejected-line-requires
+    add-refused-line
+    refused-line-requires
     returns
     returns-2
     returns-3
