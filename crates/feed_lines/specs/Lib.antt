@@ -3,3 +3,4 @@ pub mod Feed
 pub mod Step
 pub mod Pieces
 pub mod Bounds
+pub mod Examples

@@ -1,8 +1,8 @@
-use mathlib.Core.Path.{sym, ap, _∙_}
+use mathlib.Core.Path.{_≡_, sym, ap, _∙_}
 use mathlib.Core.List.{List, _++_}
 use Prim.Native.Nat.{ℕ, _+_, _*_, _≤_}
 use native.Mathlib.Omega.{arith}
-use lib.ListN.{take}
+use lib.ListN.{length, take}
 use Rattle.feed_text.specs.Words.{wholeWords}
 use Rattle.run_feed.specs.Buffers.{unused}
 use Rattle.run_feed.proofs.Buffers.{unused-length}
@@ -63,13 +63,14 @@ returns c =
     let o = c .before .before .before .before .before .before .put in
     let g = c .before .before .after in
     let i = f .result in
+    let long : length (o .last .0) ≡ length (a .output .now) = search needs in
     let hand = unused-length i (f .last .0) (f .ensures .within) in
     let lies : i .start + 4 * n .result .taken ≤ i .end = omega (arith, hand, n .ensures .1 .1 .1, f .ensures .within .0) in
     let moved = progressed (a .d) (a .w) (a .memory .now) (a .s .words) (a .s .records) (take 25 (wholeWords (unused i (f .last .0)))) (n .result) (n .ensures .0) in
     let q = state-is i (n .result) (o .result) (g .result) (c .before .continues .result) (c .is-end .result) (g .ensures) (c .before .continues .ensures) (c .is-end .ensures) in (
       rw (g .ensures) (lies, f .ensures .within .1),
       (
-        o .ensures .1 .0,
+        omega (arith, o .ensures .1 .0, long, s .pre .1 .1 .1 .1 .0),
         (
           (omega (arith, moved .0, n .ensures .1 .1 .0), moved .1, λ e. moved .2 (sym (c .before .continues .ensures) ∙ e)),
           stepped (a .d) (a .w) (a .memory .now) (a .s) (a .input .now) (a .output .now) i (f .last .0) (n .last .0) (o .last .0) (o .result) (s .pre .0) (s .pre .1 .0) (f .ensures) (n .ensures .1 .0)
