@@ -1,2 +1,3 @@
 pub mod Pack
+pub mod Codes
 pub mod Cases

@@ -1,13 +1,18 @@
--- Layout codes of a group and of four groups. Document 01, 'Layout codes'.
-use Prim.Native.Nat.{ℕ, _+_, _*_, _/_, _%_}
+-- Layout codes of a group and of four groups. Document 01, 'Layout codes'. Contracts of packing and unpacking cite it.
+use Prim.Native.Nat.{ℕ, _+_, _*_, _/_, _%_, _^_}
 use mathlib.Core.Bool.{cond, _&&_}
 use mathlib.Core.List.{List, [], _∷_}
 use lib.Dec.{ltb}
-use Rattle.group_layout.specs.Layout.{marks, layout, valid}
+use Rattle.group_layout.specs.Layout.{marks, layout}
 use Rattle.group_layout.specs.Code.{code, uncode}
 use Rattle.group.specs.declared.Answer.{Answer}
+use Rattle.group.specs.Group.{validMerge}
 use Rattle.group.specs.Status.{invalidMerge, badPayload, accepted, rejected}
 use Rattle.group_codes.specs.declared.Unpacked.{Unpacked}
+
+-- how many layouts n groups in a row have: 26, 676, 17,576, 456,976
+abbrev pub layoutsOf : ℕ → ℕ
+layoutsOf n = 26 ^ n
 
 -- the code of a merge byte, and the merge byte of a code below 26
 abbrev pub mergeCode : ℕ → ℕ
@@ -18,19 +23,23 @@ codeMerge c = marks (uncode 3 c)
 
 -- the layout code of one group
 unfoldable pub groupCode : ℕ → Answer
-groupCode m = cond (valid 3 m) (accepted (mergeCode m)) (rejected invalidMerge)
+groupCode m = cond (validMerge m) (accepted (mergeCode m)) (rejected invalidMerge)
 
--- the layout code of four groups in a row
+-- the layout code of four groups in a row, by the code of each
+abbrev pub codeOfFour : ℕ → ℕ → ℕ → ℕ → ℕ
+codeOfFour w x y z = w * layoutsOf 3 + x * layoutsOf 2 + y * layoutsOf 1 + z
+
 unfoldable pub fourCode : ℕ → ℕ → ℕ → ℕ → ℕ
-fourCode a b c d = mergeCode a * 17576 + mergeCode b * 676 + mergeCode c * 26 + mergeCode d
+fourCode a b c d = codeOfFour (mergeCode a) (mergeCode b) (mergeCode c) (mergeCode d)
 
 unfoldable pub packed : ℕ → ℕ → ℕ → ℕ → Answer
-packed a b c d = cond (valid 3 a && valid 3 b && valid 3 c && valid 3 d) (accepted (fourCode a b c d)) (rejected invalidMerge)
+packed a b c d = cond (validMerge a && validMerge b && validMerge c && validMerge d) (accepted (fourCode a b c d)) (rejected invalidMerge)
 
 -- the four merge bytes of a code; all 0 when rejected
 unfoldable pub fourMerges : ℕ → List ℕ
-fourMerges c = codeMerge (c / 17576) ∷ codeMerge (c / 676 % 26) ∷ codeMerge (c / 26 % 26) ∷ codeMerge (c % 26) ∷ []
+fourMerges c =
+    codeMerge (c / layoutsOf 3) ∷ codeMerge (c / layoutsOf 2 % layoutsOf 1) ∷ codeMerge (c / layoutsOf 1 % layoutsOf 1) ∷ codeMerge (c % layoutsOf 1) ∷ []
 
 unfoldable pub unpacked : ℕ → Unpacked
 unpacked c =
-    cond (ltb c 456976) (record { answer = accepted 0; merges = fourMerges c }) (record { answer = rejected badPayload; merges = 0 ∷ 0 ∷ 0 ∷ 0 ∷ [] })
+    cond (ltb c (layoutsOf 4)) (record { answer = accepted 0; merges = fourMerges c }) (record { answer = rejected badPayload; merges = 0 ∷ 0 ∷ 0 ∷ 0 ∷ [] })

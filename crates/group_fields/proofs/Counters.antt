@@ -5,6 +5,7 @@ use Prim.Native.Nat.{ℕ, _+_, _-_, _*_, _/_, _%_, _^_, _≤_, _<_}
 use native.Mathlib.Nat.{zero-mul, zero-mod, mod-lt, mod-eq-of-lt, div-eq-of-lt, div-add-mod'}
 use native.Mathlib.Omega.{arith}
 use lib.Arith.{digits-lt}
+use lib.ListN.{replicate}
 use lib.Pow.{pow-pos, pow-add, pow-mono, field, mod-mod-pow, shr-shr}
 use Rattle.group_bytes.specs.Bytes.{number, bytes}
 use Rattle.group_bytes.proofs.Bytes.{number-bytes}
@@ -14,7 +15,7 @@ use Rattle.group.specs.Group.{validMerge, decode, read, changed}
 use Rattle.group.proofs.Changing.{Good}
 use Rattle.group.proofs.Places.{value-put}
 use Rattle.group_fields.specs.declared.Fields.{Fields}
-use Rattle.group_fields.specs.Fields.{fieldsOf, countsOf, groupOf, bitsAt, put}
+use Rattle.group_fields.specs.Fields.{noFields, fieldsOf, countsOf, groupOf, bitsAt, put}
 use Rattle.group_fields.proofs.Readings.{value-is, valid-level}
 
 -- bits of a field are bits of the number that the field is in
@@ -31,6 +32,11 @@ pub counter-bits : (g : Group) (k i n : ℕ) → Good g → k < 8 → k % 2 ^ re
 unfolding fieldsOf
 counter-bits g k i n o h z l =
     sym (ap (λ (v : ℕ). v / 2 ^ i % 2 ^ n) (value-is g k o h z) ∙ within (number (g .counts)) (8 * k) (8 * 2 ^ read g k .level) i n l)
+
+-- with no bit set, no counts
+pub counts-none : countsOf noFields ≡ replicate 8 0
+unfolding countsOf bytes
+counts-none = refl
 
 -- a value put in the counter that starts at slot k, where no bit is set from there on, is another value in that counter
 module _ (m k x : ℕ) (f : Fields) (v : validMerge m ≡ true) (h : k < 8) (l : f .word < 2 ^ (8 * k)) where

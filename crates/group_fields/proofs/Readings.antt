@@ -162,6 +162,11 @@ readings-ext g h o q m f = changing.group-ext g h o q m (λ j l.
     let e : reading (counterAt (decode h) j) ≡ reading (counterAt (decode g) j) = sym (read-is h j (q .merges) l) ∙ f j l ∙ read-is g j (o .merges) l in
     ap (λ (r : Reading). record { value = r .value; level = r .level }) e)
 
+-- what is read of a valid group is accepted
+pub accepted-reading : (g : Group) (k : ℕ) → validMerge (g .merge) ≡ true → read g k ≡ record { status = 0; value = read g k .value; level = read g k .level }
+unfolding read reading
+accepted-reading g k v = rw v
+
 -- the value of the counter that starts at slot k, in the count bytes taken as one number
 pub value-is : (g : Group) (k : ℕ) → Good g → k < 8 → k % 2 ^ read g k .level ≡ 0 → read g k .value ≡ number (g .counts) / 2 ^ (8 * k) % 2 ^ (8 * 2 ^ read g k .level)
 unfolding decode reading cap

@@ -9,25 +9,24 @@ use lib.ListN.{length, drop}
 use Rattle.group.specs.Status.{invalidMerge, accepted, rejected}
 use Rattle.geometry.specs.Geometry.{stride, size}
 use Rattle.geometry.specs.Order.{unless, firstOf, badShape}
-use Rattle.geometry.proofs.Widths.{shape-good}
+use Rattle.geometry.proofs.Widths.{Wide, wide, shape-good}
 use Rattle.word.specs.declared.Step.{Step}
 use Rattle.image_format.specs.Image.{image}
 use Rattle.image_format.specs.Write.{tooFewWords, validRows, writeStatus, finishWrite, written}
 use Rattle.image_format.specs.Read.{checked, readRows, finishRead, readAfter, taken}
-use Rattle.image_format.proofs.Laws.{Width, width-is}
 
 -- a call whose depth, width and memory have passed
 pub record Sound (d w n : ℕ) : Type 0 where
   pub deep : 1 ≤ d
   pub depth : d ≤ 8
-  pub width : Width w
+  pub width : Wide w
   pub long : n ≡ d * stride w
 
 pub sound-call : (d w n : ℕ) → badShape d w n ≡ 0 → Sound d w n
 unfolding size
 sound-call d w n e =
     let s = shape-good d w n e in
-    record { deep = s .0; depth = s .1 .1; width = width-is w (s .1 .0); long = s .1 .2 }
+    record { deep = s .0; depth = s .1 .1; width = wide w (s .1 .0); long = s .1 .2 }
 
 module _ (d w : ℕ) (memory words : List ℕ) where
   pub write-call : (s : ℕ) → s ≡ badShape d w (length memory) → (s ≡ 0 → ⊥) → written d w memory words ≡ record { answer = rejected s; words = words }

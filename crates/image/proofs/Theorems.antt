@@ -21,25 +21,21 @@ use Rattle.geometry.specs.Order.{badShape, Done}
 use Rattle.geometry.proofs.Widths.{width-is}
 use Rattle.word.specs.declared.Step.{Step}
 use Rattle.word.specs.Word.{headKind, endKind, go, stop, badWord, next, payload, tested, below}
-use Rattle.image_format.specs.Image.{word, logFrom, logWidth, headPayload, rowsWords, body, endWord, image}
+use Rattle.image_format.specs.Image.{word, headPayload, rowsWords, body, endWord, image}
 use Rattle.image_format.specs.Write.{validRows, Written, written}
 use Rattle.image_format.specs.Read.{otherMeter, checkHead, checkFours, checkEnd, checked, readRows, taken}
 use Rattle.image.specs.Meters.{Meter, IsImage}
 use Rattle.image.proofs.Calls.{Sound, sound-call, write-call, write-invalid, write-short, write-done, read-call, read-faulty, read-done}
-use Rattle.image_reader.proofs.Digits.{payload-here, due-here, below-here}
+use Rattle.image_format.proofs.Laws.{log-width-most}
+use Rattle.image_checker.proofs.Digits.{payload-here, due-here, below-here}
 use Rattle.word.proofs.Passed.{passed, tested-is}
 use Rattle.image.proofs.Exact.{rows-are}
 use Rattle.image.proofs.Sharp.{sharp-at}
 use Rattle.image.proofs.Rows.{Rows, afterRows, rows-restored}
 
-log-le : (n k p w : ℕ) → logFrom n k p w ≤ k + n
-unfolding logFrom
-log-le zero k p w = omega arith
-log-le (suc n) k p w = cases (ltb p w) (λ t. rw t (omega (arith, log-le n (k + 1) (p * 2) w))) (λ t. rw t (omega arith))
-
 head-lt : (d w : ℕ) → d ≤ 8 → headPayload d w < 2 ^ 9
-unfolding headPayload logWidth
-head-lt d w h = omega (arith, log-le 11 5 32 w)
+unfolding headPayload
+head-lt d w h = omega (arith, log-width-most w)
 
 module _ (d w : ℕ) (memory old : List ℕ) (call : badShape d w (length memory) ≡ 0) (bytes : Bytes memory) (merges : validRows d w memory ≡ true) (long : length old ≡ length memory) where
   sound : Sound d w (length memory)
@@ -235,23 +231,3 @@ module _ (d w : ℕ) (old words : List ℕ) (call : badShape d w (length old) �
       (λ x. inl (ap (λ (y : Done). y .answer) (read-faulty d w old (take q words) 0 (sym call) refl (stop badWord q) (sym x) (λ z. omega arith))))
       (λ x. inr (ap (λ (y : Done). y .answer) (read-done d w old (take q words) 0 (sym call) refl (go q) (sym x) refl)))
       (sharp-at d w words q faulty (sym at-fault ∙ e))
-
--- the logarithm in a head is the width's
-log-power : (n k p i : ℕ) → 0 < p → i ≤ n → logFrom n k p (p * 2 ^ i) ≡ k + i
-unfolding logFrom
-log-power zero k p i h l = let z : i ≡ 0 = omega arith in rw z (sym (add-zero k))
-log-power (suc n) k p zero h l = rw (mul-one p, le-ltb p p (omega arith)) (sym (add-zero k))
-log-power (suc n) k p (suc i) h l =
-    let f : suc i ≡ 1 + i = omega arith in
-    let e : p * 2 ^ suc i ≡ p * 2 * 2 ^ i = ap (λ (x : ℕ). p * 2 ^ x) f ∙ ap (λ (x : ℕ). p * x) (pow-add 2 1 i) ∙ sym (mul-assoc p 2 (2 ^ i)) in
-    let m : p * 2 * 1 ≤ p * 2 * 2 ^ i = mul-le-mul-left {m = 1} {n = 2 ^ i} (p * 2) (pow-pos i) in
-    rw (e, lt-ltb p (p * 2 * 2 ^ i) (omega arith)) (log-power n (k + 1) (p * 2) i (omega arith) (omega arith) ∙ omega arith)
-
-pub log-width-is : (w : ℕ) → validWidth w ≡ true → 2 ^ logWidth w ≡ w
-unfolding logWidth
-log-width-is w v =
-    let r = width-is w v in
-    let i = r .0 - 5 in
-    let five : r .0 ≡ 5 + i = omega (arith, r .1) in
-    let e : w ≡ 32 * 2 ^ i = r .3 ∙ ap (λ (k : ℕ). 2 ^ k) five ∙ pow-add 2 5 i in
-    rw e (ap (λ (k : ℕ). 2 ^ k) (log-power 11 5 32 i (omega arith) (omega (arith, r .2))) ∙ pow-add 2 5 i)

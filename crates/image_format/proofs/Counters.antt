@@ -2,98 +2,46 @@
 -- behind them.
 use mathlib.Core.Path.{_≡_, sym, ap, _∙_}
 use mathlib.Core.Bool.{true, false}
-use Prim.Native.Nat.{ℕ, zero, suc, _+_, _-_, _%_, _^_, _≤_, _<_, _*_, _/_}
-use native.Mathlib.Nat.{add-zero, mod-eq-of-lt, zero-add, div-add-mod', mul-add-mod-self-right, mod-one, mod-self}
+use Prim.Native.Nat.{ℕ, zero, suc, _+_, _-_, _%_, _^_, _≤_, _<_}
+use native.Mathlib.Nat.{add-zero, zero-add}
 use native.Mathlib.Omega.{arith}
 use borrow.Author.Tests.{eqb-true, eqb-false, eq-eqb, ne-eqb}
-use lib.ListN.{replicate}
 use lib.Pow.{pow-pos}
-use Rattle.group_layout.specs.Layout.{valid}
-use Rattle.group_block.specs.Block.{counterAt}
-use Rattle.group_block.specs.declared.Counter.{Counter}
-use Rattle.group_block.proofs.Slots.{same-before, counter-in, counter-slots}
 use Rattle.group.specs.declared.Group.{Group}
-use Rattle.group.specs.declared.Reading.{Reading}
-use Rattle.group.specs.Group.{decode, reading}
-use Rattle.group.proofs.Changing.{Good, read-is, zero-good}
+use Rattle.group.specs.Group.{read}
+use Rattle.group_fields.proofs.Readings as readings
 use Rattle.image_format.specs.Image.{levelAt, isFirst}
 use Rattle.image_format.specs.Write.{slotSize, slotsSize}
-use Rattle.image_format.proofs.Laws.{size-other, sizes-step, by-test}
-use Rattle.image_format.proofs.Sizes.{read-level, invalid-level}
+use Rattle.image_format.proofs.Laws.{size-other, sizes-step}
+use Rattle.image_format.proofs.Sizes.{empty, read-level}
 
--- the level at a slot, by the block
-pub level-at : (g : Group) (k : ℕ) → Good g → k < 8 → levelAt (g .merge) k ≡ counterAt (decode g) k .level
-unfolding reading
-level-at g k o h = sym (read-level g k) ∙ ap (λ (r : Reading). r .level) (read-is g k (o .merges) h)
-
--- whether a slot is the first of its counter, by the block
-pub first-level : (g : Group) (k : ℕ) → Good g → k < 8 → isFirst (g .merge) k ≡ true → k % 2 ^ counterAt (decode g) k .level ≡ 0
-unfolding isFirst
-first-level g k o i t = rw (level-at g k o i) at (eqb-true (k % 2 ^ levelAt (g .merge) k) 0 t)
-
-pub other-level : (g : Group) (k : ℕ) → Good g → k < 8 → isFirst (g .merge) k ≡ false → k % 2 ^ counterAt (decode g) k .level ≡ 0 → ⊥
-unfolding isFirst
-other-level g k o i t = rw (level-at g k o i) at (eqb-false (k % 2 ^ levelAt (g .merge) k) 0 t)
-
--- the group with a merge byte and no counts
-empty : ℕ → Group
-empty m = record { counts = replicate 8 0; merge = m }
-
-first-at : (m k : ℕ) → isFirst m k ≡ true → k % 2 ^ levelAt m k ≡ 0
-unfolding isFirst
+-- whether a slot is the first of its counter, by what is read
+first-at : (m k : ℕ) → isFirst m k ≡ true → k % 2 ^ read (empty m) k .level ≡ 0
+unfolding isFirst levelAt
 first-at m k t = eqb-true (k % 2 ^ levelAt m k) 0 t
+
+pub first-is : (g : Group) (k : ℕ) → isFirst (g .merge) k ≡ true → k % 2 ^ read g k .level ≡ 0
+unfolding isFirst
+first-is g k t = rw (read-level g k) (eqb-true (k % 2 ^ levelAt (g .merge) k) 0 t)
+
+pub other-is : (g : Group) (k : ℕ) → isFirst (g .merge) k ≡ false → k % 2 ^ read g k .level ≡ 0 → ⊥
+unfolding isFirst
+other-is g k t = rw (read-level g k) (eqb-false (k % 2 ^ levelAt (g .merge) k) 0 t)
 
 -- a counter's slots lie in the group
 pub counter-end : (m k : ℕ) → k < 8 → isFirst m k ≡ true → k + 2 ^ levelAt m k ≤ 8
-unfolding empty
-counter-end m k h t =
-    by-test (valid 3 m)
-    (λ v. let o = zero-good m v in rw (level-at (empty m) k o h) (counter-in (decode (empty m)) k h (first-level (empty m) k o h t)))
-    (λ v. rw (invalid-level m k v) (omega arith))
-
--- and have its level
-counter-level : (m k j : ℕ) → k < 8 → isFirst m k ≡ true → j < 2 ^ levelAt m k → levelAt m (k + j) ≡ levelAt m k
-unfolding empty
-counter-level m k j h t i =
-    by-test (valid 3 m)
-    (λ v.
-    let o = zero-good m v in
-    level-at (empty m) (k + j) o (omega (arith, counter-end m k h t))
-    ∙ ap (λ (c : Counter). c .level) (counter-slots (decode (empty m)) k j h (first-level (empty m) k o h t) (rw (level-at (empty m) k o h) at i))
-    ∙ sym (level-at (empty m) k o h))
-    (λ v. invalid-level m (k + j) v ∙ sym (invalid-level m k v))
-
--- what is left over a multiple
-over-multiple : (k j n : ℕ) → k % n ≡ 0 → (k + j) % n ≡ j % n
-over-multiple k j n e =
-    let d : k / n * n ≡ k = sym (add-zero (k / n * n)) ∙ ap (λ (i : ℕ). k / n * n + i) (sym e) ∙ div-add-mod' k n in
-    ap (λ (i : ℕ). (i + j) % n) (sym d) ∙ mul-add-mod-self-right (k / n) n j
+unfolding levelAt
+counter-end m k h t = readings.counter-end (empty m) k h (first-at m k t)
 
 -- the slots of a counter after its first start none
 inside : (m k j : ℕ) → k < 8 → isFirst m k ≡ true → 0 < j → j < 2 ^ levelAt m k → isFirst m (k + j) ≡ false
-unfolding isFirst
-inside m k j h t p i =
-    let r : (k + j) % 2 ^ levelAt m k ≡ j = over-multiple k j (2 ^ levelAt m k) (first-at m k t) ∙ mod-eq-of-lt {n = j} {m = 2 ^ levelAt m k} i in
-    rw (counter-level m k j h t i) (ne-eqb ((k + j) % 2 ^ levelAt m k) 0 (λ z. omega (arith, r)))
+unfolding isFirst levelAt
+inside m k j h t p i = ne-eqb _ 0 (readings.inside (empty m) k j h (first-at m k t) p i)
 
 -- the slot behind a counter starts one
 pub next-first : (m k : ℕ) → k < 8 → isFirst m k ≡ true → k + 2 ^ levelAt m k < 8 → isFirst m (k + 2 ^ levelAt m k) ≡ true
-unfolding isFirst empty
-next-first m k h t i =
-    by-test (isFirst m (k + 2 ^ levelAt m k)) (λ e. e)
-    (λ f.
-    let L = levelAt m k in
-    let last = counter-level m k (2 ^ L - 1) h t (omega (arith, pow-pos L)) in
-    by-test (valid 3 m)
-    (λ v.
-    let o = zero-good m v in
-    let s = same-before (decode (empty m)) (k + 2 ^ L) i (other-level (empty m) (k + 2 ^ L) o i f) in
-    let before : k + 2 ^ L - 1 ≡ k + (2 ^ L - 1) = omega (arith, pow-pos L) in
-    let same : levelAt m (k + 2 ^ L) ≡ L =
-    level-at (empty m) (k + 2 ^ L) o i ∙ ap (λ (c : Counter). c .level) (s .1 ∙ ap (counterAt (decode (empty m))) before)
-    ∙ sym (level-at (empty m) (k + (2 ^ L - 1)) o (omega arith)) ∙ last in
-    rw same (eq-eqb ((k + 2 ^ L) % 2 ^ L) 0 (over-multiple k (2 ^ L) (2 ^ L) (first-at m k t) ∙ mod-self (2 ^ L))))
-    (λ v. rw (invalid-level m (k + 2 ^ L) v) (eq-eqb ((k + 2 ^ L) % 1) 0 (mod-one (k + 2 ^ L)))))
+unfolding isFirst levelAt
+next-first m k h t i = eq-eqb _ 0 (readings.next-first (empty m) k h (first-at m k t) i)
 
 -- A walk over the slots that a slot which starts no counter leaves as it was: `walk n k` goes over n slots from slot k on.
 module _ {X : Type 0} (walk : ℕ → ℕ → X) (m : ℕ) (over : (n k : ℕ) → isFirst m k ≡ false → walk (suc n) k ≡ walk n (k + 1)) where

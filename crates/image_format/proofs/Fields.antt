@@ -12,7 +12,7 @@ use lib.ListN.{length, getD, take, drop, set, length-append, length-set, length-
 use lib.Pow.{pow-pos}
 use lib.Seq.{getD-append-add, getD-drop, getD-set-same, getD-set-other, getD-take, take-take, drop-drop, drop-at}
 use Rattle.group_codes.specs.Pack.{codeMerge, fourMerges, unpacked}
-use Rattle.image_format.specs.Fields.{Field, partFields, slotFields, slotsFields, groupFields, fieldAt, Told, Described, Fields}
+use Rattle.image_format.specs.Fields.{Field, partFields, slotFields, slotsFields, groupFields, fieldAt, Told, Described}
 use Rattle.image_format.specs.Image.{wordsOf, levelAt, isFirst}
 use Rattle.image_format.specs.Read.{firstBits}
 use Rattle.image_format.specs.Write.{slotSize, slotsSize, groupSize}
@@ -101,8 +101,8 @@ slots-in (suc n) k m i l h =
           rw e (rw (getD-append-add xs ys (i - length xs) none) (slots-in n (k + 1) m (i - length xs) (omega arith) (omega (arith, length-append xs ys))))
     ]
 
-pub field-in : (m i : ℕ) → i < groupSize m → (fieldAt m i .bits ≤ 24) × (fieldAt m i .place + fieldAt m i .bits ≤ 64) × (1 ≤ fieldAt m i .bits)
-unfolding fieldAt groupFields
+pub field-in : (m i : ℕ) → i < groupSize m → (fieldAt (groupFields m) i .bits ≤ 24) × (fieldAt (groupFields m) i .place + fieldAt (groupFields m) i .bits ≤ 64) × (1 ≤ fieldAt (groupFields m) i .bits)
+unfolding groupFields
 field-in m i h = slots-in 8 0 m i (omega arith) (omega (arith, fields-size m))
 
 -- one word more of a description
@@ -149,41 +149,9 @@ past-parts fs rest i n place bits e =
 
 -- a description is whole with the number of its words
 pub described : (m : ℕ) (t : List ℕ) (at n : ℕ) → at < length t → n ≡ groupSize m → Told (groupFields m) n t at → Described m (set t at n) at
-unfolding fieldAt
 described m t at n h e o = (
   getD-set-same t at n 0 h ∙ e,
   λ i l.
       let p = o i (omega arith) in
       (getD-set-other t at (at + 1 + i) n 0 (λ e. omega arith) ∙ p .0, getD-set-other t at (at + 9 + i) n 0 (λ e. omega arith) ∙ p .1),
 )
-
--- what is the same below place a has the same descriptions there
-same-described : (m at a : ℕ) (t s : List ℕ) → at + 17 ≤ a → take a s ≡ take a t → Described m t at → Described m s at
-same-described m at a t s h e d = (
-  same at (omega arith) ∙ d .0,
-  λ i l.
-      let z = size-most m in
-      (same (at + 1 + i) (omega arith) ∙ d .1 i l .0, same (at + 9 + i) (omega arith) ∙ d .1 i l .1),
-)
-  where
-    same : (j : ℕ) → j < a → getD s j 0 ≡ getD t j 0
-    same j k = sym (getD-take a s j 0 k) ∙ ap (λ (l : List ℕ). getD l j 0) e ∙ getD-take a t j 0 k
-
--- one description more in a table
-pub table-more : (t s : List ℕ) (c : ℕ) → take (17 * c) s ≡ take (17 * c) t → Described (codeMerge c) s (17 * c)
-    → ((k : ℕ) → k < c → Described (codeMerge k) t (17 * k)) → (k : ℕ) → k < c + 1 → Described (codeMerge k) s (17 * k)
-table-more t s c e d f k h = elim (decLt k c) [
-  | yes l ↦ same-described (codeMerge k) (17 * k) (17 * c) t s (omega arith) e (f k l)
-  | no l ↦ let z : k ≡ c = omega arith in rw z d
-]
-
--- the descriptions of the first n codes, lent
-pub fields-part : (t : List ℕ) (n : ℕ) → ((c : ℕ) → c < n → Described (codeMerge c) t (17 * c)) → Fields (take (17 * n - 0) t)
-fields-part t n f c h =
-    let l : 17 * c + 17 ≤ 17 * n - 0 = omega (arith, length-take (17 * n - 0) t) in
-    same-described (codeMerge c) (17 * c) (17 * c + 17) t (take (17 * n - 0) t) (omega arith) (take-take (17 * c + 17) (17 * n - 0) t l) (f c (omega arith))
-
--- the last merge byte of a code below 26
-pub last-merge : (c : ℕ) → c < 26 → getD (unpacked c .merges) 3 0 ≡ codeMerge c
-unfolding unpacked fourMerges
-last-merge c h = rw (lt-ltb c 456976 (omega arith), mod-eq-of-lt {n = c} {m = 26} h)

@@ -1,24 +1,22 @@
 -- Laws of widths, levels and the words of counters.
 use mathlib.Core.Path.{_≡_, refl, ap, _∙_}
-use mathlib.Core.Bool.{Bool, true, false, cond}
+use mathlib.Core.Bool.{Bool, true, false}
 use mathlib.Core.List.{[]}
 use Prim.Native.Nat.{ℕ, zero, suc, _+_, _-_, _%_, _^_, _≤_, _<_, _*_}
 use native.Mathlib.Nat.{mod-eq-of-lt, one-mul, mul-le-mul-right}
 use native.Mathlib.Omega.{arith}
 use lib.ListN.{length}
-use native.Mathlib.Numerals.{sub-one}
-use lib.Dec.{ltb}
-use lib.Pow.{pow-add, pow-mono}
-use Rattle.group_layout.specs.Layout.{valid}
-use Rattle.group_block.specs.Block.{counterAt}
-use Rattle.group_block.proofs.Slots.{level-le}
+use native.Mathlib.Numerals.{add-one}
+use native.Mathlib.Decide.{decLt}
+use borrow.Author.Tests.{eq-eqb, ne-eqb}
+use lib.Dec.{eqb}
+use lib.Pow.{pow-mono, pow-lt}
 use Rattle.group.specs.declared.Group.{Group}
 use Rattle.group.specs.declared.Reading.{Reading}
-use Rattle.group.specs.Group.{decode, read, reading}
-use Rattle.group.specs.Status.{invalidMerge}
+use Rattle.group.specs.Group.{read}
 use Rattle.geometry.specs.Geometry.{validWidth}
-use Rattle.geometry.proofs.Widths.{width-is as power-is}
-use Rattle.image_format.specs.Image.{parts, wordsOf, levelAt, isFirst, slotWords, logFrom}
+use Rattle.geometry.proofs.Widths.{width-is}
+use Rattle.image_format.specs.Image.{parts, wordsOf, levelAt, isFirst, slotWords, logFrom, logWidth}
 use Rattle.image_format.specs.Write.{slotSize, slotsSize}
 
 pub by-test : (b : Bool) {A : Type 0} → (b ≡ true → A) → (b ≡ false → A) → A
@@ -29,37 +27,42 @@ by-test false f g = g refl
 pub small-shl : (a level : ℕ) → a ≤ 8 → level ≤ 24 → a * 2 ^ level % 2 ^ 32 ≡ a * 2 ^ level
 small-shl a level h k = mod-eq-of-lt {n = a * 2 ^ level} {m = 2 ^ 32} (omega (arith, pow-mono {i = level} {j = 24} k, mul-le-mul-right {m = a} {n = 8} (2 ^ level) h))
 
-pub log-step : (n k p w : ℕ) → 0 < n → logFrom n k p w ≡ cond (ltb p w) (logFrom (n - 1) (k + 1) (p * 2) w) k
+-- logarithms, tried from the largest down
+pub log-most : (n w : ℕ) → 0 < n → logFrom n w < n
 unfolding logFrom
-log-step zero k p w h = absurd (omega arith)
-log-step (suc n) k p w h = rw (sub-one (suc n))
+log-most zero w h = absurd (omega arith)
+log-most (suc zero) w h = by-test (eqb (2 ^ 0) w) (λ t. rw t (omega arith)) (λ t. rw t (omega arith))
+log-most (suc (suc k)) w h = by-test (eqb (2 ^ suc k) w) (λ t. rw t (omega arith)) (λ t. rw t (omega (arith, log-most (suc k) w (omega arith))))
 
-pub log-none : (n k p w : ℕ) → n ≡ 0 → logFrom n k p w ≡ k
+pub log-found : (n k : ℕ) → k < n → logFrom n (2 ^ k) ≡ k
 unfolding logFrom
-log-none n k p w e = rw e
+log-found zero k h = absurd (omega arith)
+log-found (suc n) k h = elim (decLt k n) [
+  | yes l ↦ rw (ne-eqb (2 ^ n) (2 ^ k) (λ e. omega (arith, pow-lt {i = k} {j = n} l))) (log-found n k l)
+  | no l ↦ let e : n ≡ k = omega arith in rw (e, eq-eqb (2 ^ k) (2 ^ k) refl)
+]
 
--- what the code needs of a width
-pub record Width (w : ℕ) : Type 0 where
-  pub least : 32 ≤ w
-  pub most : w ≤ 65536
-  pub whole : w % 32 ≡ 0
+-- one more tried: it is the one, or it is among those below
+pub log-this : (n k w : ℕ) → n ≡ k + 1 → 2 ^ k ≡ w → logFrom n w ≡ k
+unfolding logFrom
+log-this n k w e h = rw (e ∙ add-one k, eq-eqb (2 ^ k) w h)
 
-pub width-is : (w : ℕ) → validWidth w ≡ true → Width w
-width-is w e =
-    let r = power-is w e in
-    let k = r .0 in
-    let five : k ≡ k - 5 + 5 = omega (arith, r .1) in
-    let shares : 2 ^ k ≡ 2 ^ (k - 5) * 32 = ap (λ (n : ℕ). 2 ^ n) five ∙ pow-add 2 (k - 5) 5 in
-    rw (r .3) (record { least = pow-mono {i = 5} {j = k} (r .1); most = pow-mono {i = k} {j = 16} (r .2); whole = omega (arith, shares) })
+pub log-below : (n k w : ℕ) → n ≡ k + 1 → (2 ^ k ≡ w → ⊥) → logFrom n w ≡ logFrom k w
+unfolding logFrom
+log-below n k w e h = rw (e ∙ add-one k, ne-eqb (2 ^ k) w h)
 
--- a level is at most 3
-pub read-level-le : (g : Group) (k : ℕ) → read g k .level ≤ 3
-unfolding read reading
-read-level-le g k = go (valid 3 (g .merge))
-  where
-    go : (b : Bool) → cond b (reading (counterAt (decode g) (k % 8))) (record { status = invalidMerge; value = 0; level = 0 }) .level ≤ 3
-    go true = level-le (decode g) (k % 8)
-    go false = omega arith
+pub log-none : (n w : ℕ) → n ≡ 0 → logFrom n w ≡ 0
+unfolding logFrom
+log-none n w e = rw e
+
+-- the logarithm of a width is one
+pub log-width-is : (w : ℕ) → validWidth w ≡ true → 2 ^ logWidth w ≡ w
+unfolding logWidth
+log-width-is w e = let r = width-is w e in rw (r .3) (ap (λ (k : ℕ). 2 ^ k) (log-found 17 (r .0) (omega (arith, r .2))))
+
+pub log-width-most : (w : ℕ) → logWidth w ≤ 16
+unfolding logWidth
+log-width-most w = omega (arith, log-most 17 w (omega arith))
 
 -- sizes
 pub size-first : (m k level n : ℕ) → level ≡ levelAt m k → isFirst m k ≡ true → n ≡ wordsOf level → n ≡ slotSize m k

@@ -3,3 +3,4 @@ pub mod Sizes
 pub mod Counters
 pub mod Plain
 pub mod Fields
+pub mod Tables

@@ -1,11 +1,9 @@
--- Which bits of a group's count bytes, taken as one number, each word of its counters holds. The code's tables are made by it; no public
--- contract cites it.
-use Prim.Native.Nat.{ℕ, zero, suc, _+_, _*_, _≤_, _<_}
+-- Which bits of a group's count bytes, taken as bit fields, each word of its counters holds, and tables of them. The code's own terms.
+use Prim.Native.Nat.{ℕ, zero, suc, _+_, _*_, _<_}
 use mathlib.Core.Path.{_≡_}
 use mathlib.Core.Bool.{cond}
 use mathlib.Core.List.{List, [], _∷_, _++_}
-use lib.ListN.{length, getD}
-use Rattle.group_codes.specs.Pack.{codeMerge}
+use lib.ListN.{length, getD, drop}
 use Rattle.image_format.specs.Image.{wordsOf, levelAt, isFirst}
 use Rattle.image_format.specs.Write.{groupSize}
 use Rattle.image_format.specs.Read.{firstBits}
@@ -31,22 +29,19 @@ slotsFields (suc n) k merge = slotFields merge k ++ slotsFields n (k + 1) merge
 unfoldable pub groupFields : ℕ → List Field
 groupFields merge = slotsFields 8 0 merge
 
--- word i of a group's words
-unfoldable pub fieldAt : ℕ → ℕ → Field
-fieldAt merge i = getD (groupFields merge) i (record { place = 0; bits = 0 })
+-- word i of a group's words; where no word is, no bits
+abbrev pub fieldAt : List Field → ℕ → Field
+fieldAt fs i = getD fs i (record { place = 0; bits = 0 })
 
--- the bytes of a description at `at` that say the first n of these words
+-- the bytes of a description at `at` that say the first n of these words: a byte for the place of each, and one for its bits
 abbrev pub Told : List Field → ℕ → List ℕ → ℕ → Type 0
-Told fs n t at =
-    (i : ℕ) → i < n
-    → (getD t (at + 1 + i) 0 ≡ getD fs i (record { place = 0; bits = 0 }) .place) × (getD t (at + 9 + i) 0 ≡ getD fs i (record { place = 0; bits = 0 }) .bits)
+Told fs n t at = (i : ℕ) → i < n → (getD t (at + 1 + i) 0 ≡ fieldAt fs i .place) × (getD t (at + 9 + i) 0 ≡ fieldAt fs i .bits)
 
--- 17 bytes of a table, from `at` on, that describe the words of a group: their number, the place of each, and the bits of each
+-- a description that says the first i words, and one that says the words gs behind them too
+abbrev pub ToldMore : ℕ → List Field → List ℕ → List ℕ → ℕ → Type 0
+ToldMore i gs before after at =
+    (fs rest : List Field) → drop i fs ≡ gs ++ rest → Told fs i before at → Told fs (i + length gs) after at
+
+-- 17 bytes of a table, from `at` on, that describe the words of a group: their number, and each of them
 abbrev pub Described : ℕ → List ℕ → ℕ → Type 0
-Described merge t at =
-    (getD t at 0 ≡ groupSize merge)
-    × ((i : ℕ) → i < groupSize merge → (getD t (at + 1 + i) 0 ≡ fieldAt merge i .place) × (getD t (at + 9 + i) 0 ≡ fieldAt merge i .bits))
-
--- a table with the description of each layout by its code, as far as it reaches
-abbrev pub Fields : List ℕ → Type 0
-Fields t = (c : ℕ) → 17 * c + 17 ≤ length t → Described (codeMerge c) t (17 * c)
+Described merge t at = (getD t at 0 ≡ groupSize merge) × Told (groupFields merge) (groupSize merge) t at

@@ -1,8 +1,8 @@
--- The words of an image. Document 01, 'Images and feeds'.
-use Prim.Native.Nat.{ℕ, zero, suc, _+_, _-_, _*_, _/_, _%_, _^_}
+-- The words of an image. Document 01, 'Images and feeds'. Contracts of writing and reading and the theorems cite it.
+use Prim.Native.Nat.{ℕ, zero, suc, _+_, _*_, _/_, _%_, _^_}
 use mathlib.Core.Bool.{Bool, cond}
 use mathlib.Core.List.{List, [], _∷_, _++_}
-use lib.Dec.{eqb, ltb}
+use lib.Dec.{eqb}
 use lib.ListN.{length, take, drop, replicate}
 use Rattle.group.specs.declared.Group.{Group}
 use Rattle.group.specs.Group.{read}
@@ -21,13 +21,14 @@ layoutKind = 2
 abbrev pub countKind : ℕ
 countKind = 3
 
--- The logarithm of a width: the first k, from the smallest width's on, with w ≤ 2 ^ k. There are n larger powers to try, and p is 2 ^ k.
-unfoldable pub logFrom : ℕ → ℕ → ℕ → ℕ → ℕ
-logFrom zero k p w = k
-logFrom (suc n) k p w = cond (ltb p w) (logFrom n (k + 1) (p * 2) w) k
+-- log2 w: the k below n with 2 ^ k = w, or 0 if there is none
+unfoldable pub logFrom : ℕ → ℕ → ℕ
+logFrom zero w = 0
+logFrom (suc k) w = cond (eqb (2 ^ k) w) k (logFrom k w)
 
+-- the logarithm of a width: the k with 2 ^ k = w
 unfoldable pub logWidth : ℕ → ℕ
-logWidth w = logFrom (largestLog - 5) 5 32 w
+logWidth w = logFrom (largestLog + 1) w
 
 -- the head's payload: d in the low four bits, log2 w in the next five
 unfoldable pub headPayload : ℕ → ℕ → ℕ

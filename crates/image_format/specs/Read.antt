@@ -1,4 +1,4 @@
--- Reading an image. Document 01, 'Images and feeds' and 'Turned away, in checking order'.
+-- Reading an image. Document 01, 'Images and feeds' and 'Turned away, in checking order'. The contract of reading and the theorems cite it.
 use Prim.Native.Nat.{ℕ, zero, suc, _+_, _-_, _*_, _/_, _%_, _^_}
 use mathlib.Core.Bool.{cond}
 use mathlib.Core.List.{List, [], _∷_, _++_}
@@ -7,7 +7,7 @@ use lib.ListN.{length, take, drop, replicate}
 use Rattle.group.specs.declared.Group.{Group}
 use Rattle.group.specs.Status.{badPayload, accepted, rejected}
 use Rattle.group.specs.Group.{changed}
-use Rattle.group_codes.specs.Pack.{unpacked}
+use Rattle.group_codes.specs.Pack.{layoutsOf, unpacked}
 use Rattle.geometry.specs.Geometry.{stride}
 use Rattle.geometry.specs.Order.{badShape, Done}
 use Rattle.geometry.specs.Rows.{withGroup}
@@ -52,7 +52,7 @@ mergesAt words p = unpacked (payload words p) .merges
 
 -- 32 slots: a layout word whose code is one, and the counters; and n times 32 slots
 unfoldable pub checkFour : List ℕ → ℕ → Step
-checkFour words p = next (below words p layoutKind 456976) (λ q. checkGroups (mergesAt words p) words q)
+checkFour words p = next (below words p layoutKind (layoutsOf 4)) (λ q. checkGroups (mergesAt words p) words q)
 
 unfoldable pub checkFours : ℕ → List ℕ → ℕ → Step
 checkFours zero words p = go p

@@ -1,11 +1,11 @@
--- Writing an image. Document 01, 'Images and feeds' and 'Turned away, in checking order'.
+-- Writing an image. Document 01, 'Images and feeds' and 'Turned away, in checking order'. The contract of writing and the theorems cite it.
 use Prim.Native.Nat.{ℕ, zero, suc, _+_}
 use mathlib.Core.Bool.{Bool, true, cond, _&&_}
 use mathlib.Core.List.{List, [], _∷_, _++_}
 use lib.Dec.{leb}
 use lib.ListN.{length, take, drop}
-use Rattle.group_layout.specs.Layout.{valid}
 use Rattle.group.specs.declared.Answer.{Answer}
+use Rattle.group.specs.Group.{validMerge}
 use Rattle.group.specs.Status.{invalidMerge, accepted, rejected}
 use Rattle.geometry.specs.Geometry.{stride}
 use Rattle.geometry.specs.Order.{unless, firstOf, badShape}
@@ -18,7 +18,7 @@ tooFewWords = 7
 -- whether all of these merge bytes are valid
 unfoldable pub allValid : List ℕ → Bool
 allValid [] = true
-allValid (m ∷ ms) = valid 3 m && allValid ms
+allValid (m ∷ ms) = validMerge m && allValid ms
 
 -- whether the merge bytes of n rows of w slots are valid; a row's are those after its w count bytes
 unfoldable pub validRows : ℕ → ℕ → List ℕ → Bool

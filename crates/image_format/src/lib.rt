@@ -1,17 +1,15 @@
 // What an image's words are: words, the counters that they hold, and tables by merge byte.
 use group::Group;
 ghost use mathlib.Core.Path.{_≡_};
-ghost use mathlib.Core.Bool.{cond};
-ghost use mathlib.Core.List.{List, _++_};
-ghost use Prim.Native.Nat.{ℕ, _+_, _*_, _^_, _<_, _≤_};
-ghost use lib.ListN.{length, getD, take, drop};
-ghost use Rattle.group_layout.specs.Layout.{valid};
-ghost use Rattle.group_codes.specs.Pack.{mergeCode, codeMerge};
+ghost use Prim.Native.Nat.{_+_, _^_, _<_, _≤_};
+ghost use lib.ListN.{length, take};
+ghost use Rattle.group_codes.specs.Codes.{codeOf};
 ghost use Rattle.image_format.specs.Image as spec;
 ghost use Rattle.image_format.specs.Image.{countKind, logWidth, wordsOf, levelAt};
 ghost use Rattle.image_format.specs.Write.{groupSize};
 ghost use Rattle.image_format.specs.Read.{firstBits};
-ghost use Rattle.image_format.specs.Fields.{Field, partFields, Told, Described};
+ghost use Rattle.image_format.specs.Fields.{partFields, ToldMore, Described};
+ghost use Rattle.image_format.specs.Tables.{Filled, Sizes, Codes, FirstFields};
 
 // The kinds of words.
 pub const LAYOUT: u32 = 2;
@@ -34,7 +32,7 @@ pub fn word(kind: u32, payload: u32) -> u32
 pub fn count_word(count: u8) -> u32
     ensures { λ r. ⌜ r ≡ spec.word countKind count ⌝ }
 {
-    0x3000_0000 + count as u32
+    word(COUNT, count as u32)
 }
 
 // The level of the counter that a slot is in, in a group with this merge byte.
@@ -93,18 +91,14 @@ pub fn log_width(w: usize) -> u32
     ensures { λ r. ⌜ r ≡ logWidth w ⌝ }
     ensures { λ r. ⌜ r ≤ 16 ⌝ }
 {
-    let mut k = 5;
-    let mut power: usize = 32;
-    let mut left: usize = 11;
-    while left > 0 {
-        if w <= power {
+    let mut k = 17;
+    while k > 0 {
+        k -= 1;
+        if 1 << k == w {
             return k;
         }
-        k += 1;
-        power *= 2;
-        left -= 1;
     }
-    k
+    0
 }
 
 // Tables by merge byte, so that what a group's merge byte says is found out once for all groups of an image. A table of n entries has the
@@ -113,7 +107,7 @@ pub fn log_width(w: usize) -> u32
 // The number of words of a group's counters, by merge byte.
 pub fn size_table(n: usize) -> [u8; 128]
     requires { ⌜ n ≤ 128 ⌝ }
-    ensures { λ r. ⌜ ((m : ℕ) → m < n → getD r m 0 ≡ groupSize m) ⌝ }
+    ensures { λ r. ⌜ Filled groupSize n r ⌝ }
 {
     let mut t = [0u8; 128];
     for m in 0..n {
@@ -123,7 +117,7 @@ pub fn size_table(n: usize) -> [u8; 128]
 }
 
 pub fn size_at(sizes: &[u8], merge: u8) -> usize
-    requires { ⌜ ((m : ℕ) → m < length (now sizes) → getD (now sizes) m 0 ≡ groupSize m) ⌝ }
+    requires { ⌜ Sizes (now sizes) ⌝ }
     ensures { λ r. ⌜ r ≡ groupSize merge ⌝ }
     ensures { λ r. ⌜ r ≤ 24 ⌝ }
 {
@@ -134,38 +128,27 @@ pub fn size_at(sizes: &[u8], merge: u8) -> usize
     group_size(merge)
 }
 
-// The layout code of a group, or 26 for an invalid one.
-fn code_of(merge: u8) -> u8
-    ensures { λ r. ⌜ r ≡ cond (valid 3 merge) (mergeCode merge) 26 ⌝ }
-{
-    if !group::is_valid(merge) {
-        return 26;
-    }
-    let c = group_codes::code(merge);
-    c.value as u8
-}
-
-// The layout code of a group, or 26, by merge byte.
+// The layout code of a group by merge byte, or group_codes::LAYOUTS for an invalid one.
 pub fn code_table(n: usize) -> [u8; 128]
     requires { ⌜ n ≤ 128 ⌝ }
-    ensures { λ r. ⌜ ((m : ℕ) → m < n → getD r m 0 ≡ cond (valid 3 m) (mergeCode m) 26) ⌝ }
+    ensures { λ r. ⌜ Filled codeOf n r ⌝ }
 {
     let mut t = [0u8; 128];
     for m in 0..n {
-        t[m] = code_of(m as u8);
+        t[m] = group_codes::code_of(m as u8);
     }
     t
 }
 
 pub fn code_at(codes: &[u8], merge: u8) -> u8
-    requires { ⌜ ((m : ℕ) → m < length (now codes) → getD (now codes) m 0 ≡ cond (valid 3 m) (mergeCode m) 26) ⌝ }
-    ensures { λ r. ⌜ r ≡ cond (valid 3 merge) (mergeCode merge) 26 ⌝ }
+    requires { ⌜ Codes (now codes) ⌝ }
+    ensures { λ r. ⌜ r ≡ codeOf merge ⌝ }
 {
     let m = merge as usize;
     if m < codes.len() {
         return codes[m];
     }
-    code_of(merge)
+    group_codes::code_of(merge)
 }
 
 // The words of a counter described, from word i of a description at `at` on: the counter's lowest bit is at a place, its first word has so
@@ -174,7 +157,7 @@ fn describe_parts(t: &mut [u8], at: usize, i: usize, place: u32, n: u32, bits: u
     requires { ⌜ at + 17 ≤ length (now t) ⌝ ∗ ⌜ i + n ≤ 8 ⌝ ∗ ⌜ place < 64 ⌝ ∗ ⌜ bits ≤ 24 ⌝ }
     ensures { λ r. ⌜ r ≡ i + n ⌝ }
     ensures { λ r. ⌜ take at (now (t .exit)) ≡ take at (now (t .entry)) ⌝ }
-    ensures { λ r. ⌜ ((fs rest : List Field) → drop i fs ≡ partFields n place bits ++ rest → Told fs i (now (t .entry)) at → Told fs (i + n) (now (t .exit)) at) ⌝ }
+    ensures { λ r. ⌜ ToldMore i (partFields n place bits) (now (t .entry)) (now (t .exit)) at ⌝ }
 {
     let mut j = i;
     let mut left = n;
@@ -209,7 +192,7 @@ fn describe(t: &mut [u8], at: usize, merge: u8)
 // tests eight words at once then sees little of the words behind the group's.
 pub fn field_table(n: usize) -> [u8; 442]
     requires { ⌜ n ≤ 26 ⌝ }
-    ensures { λ r. ⌜ ((c : ℕ) → c < n → Described (codeMerge c) r (17 * c)) ⌝ }
+    ensures { λ r. ⌜ FirstFields n r ⌝ }
 {
     let mut t = [31u8; 442];
     for c in 0..n {

@@ -1,4 +1,4 @@
--- Laws of the loops that check and read: over words, slots, groups and rows.
+-- Laws of the loops that read: over words, slots, groups and rows.
 use mathlib.Core.Path.{_≡_, refl, sym, ap, _∙_}
 use mathlib.Core.Bool.{Bool, true, false, cond}
 use mathlib.Core.List.{List, _++_, append-assoc}
@@ -9,22 +9,17 @@ use native.Mathlib.Omega.{arith}
 use borrow.Rule.Slice.PartMut.{putMid, post-is}
 use lib.ListN.{length, getD, take, drop, length-append, drop-of-length-le, take-append-drop}
 use lib.Seq.{drop-cons, drop-drop, length-take-le, take-at, drop-at}
-use Rattle.group_layout.specs.Layout.{valid}
-use Rattle.group_block.specs.Block.{word as block-word}
-use Rattle.group_block.specs.Change.{change}
 use Rattle.group.specs.declared.Group.{Group}
-use Rattle.group_bytes.specs.Bytes.{bytes}
-use Rattle.group.specs.Group.{decode, changed, unchanged}
-use Rattle.group.specs.Status.{invalidMerge}
+use Rattle.group.specs.Group.{changed}
+use Rattle.group_fields.proofs.Readings.{changed-merge}
 use Rattle.geometry.specs.Geometry.{stride}
 use Rattle.geometry.specs.Rows.{withGroup}
-use Rattle.word.specs.Word.{next, below, payload}
-use Rattle.image_format.specs.Image.{countKind, wordsOf, levelAt, isFirst}
+use Rattle.word.specs.Word.{payload}
+use Rattle.image_format.specs.Image.{wordsOf, levelAt, isFirst}
 use Rattle.image_format.specs.Write.{slotSize, groupSize}
-use Rattle.image_format.specs.Read.{checkParts, checkSlot, checkSlots, checkGroups, checkFour, checkFours, valueFrom, firstBits, readSlot, readSlots, mergesAt, readGroup, readGroups, afterGroups, afterFours, readFours, readRows}
-use Rattle.image_format.proofs.Laws.{small-shl}
+use Rattle.image_format.specs.Read.{valueFrom, readSlot, readSlots, mergesAt, readGroup, readGroups, afterGroups, afterFours, readFours, readRows}
 
--- the words of a value, read and checked one by one
+-- the words of a value, read one by one
 pub value-step : (n v : ℕ) (words : List ℕ) (p : ℕ) → 0 < n → valueFrom n v words p ≡ valueFrom (n - 1) (v % 2 ^ 40 * 2 ^ 24 + payload words p % 2 ^ 24) words (p + 1)
 unfolding valueFrom
 value-step zero v words p h = absurd (omega arith)
@@ -33,36 +28,6 @@ value-step (suc n) v words p h = rw (sub-one (suc n))
 pub value-none : (n v : ℕ) (words : List ℕ) (p : ℕ) → n ≡ 0 → valueFrom n v words p ≡ v
 unfolding valueFrom
 value-none n v words p e = rw e
-
-pub check-parts-step : (n : ℕ) (words : List ℕ) (p limit : ℕ) → 0 < n → checkParts n words p limit ≡ next (below words p countKind limit) (λ q. checkParts (n - 1) words q (2 ^ 24))
-unfolding checkParts
-check-parts-step zero words p limit h = absurd (omega arith)
-check-parts-step (suc n) words p limit h = rw (sub-one (suc n))
-
-pub check-parts-none : (n : ℕ) (words : List ℕ) (p limit : ℕ) → n ≡ 0 → checkParts n words p limit ≡ record { status = 0; position = p }
-unfolding checkParts
-check-parts-none n words p limit e = rw e
-
--- checks of slots
-pub check-slots-step : (n k m : ℕ) (words : List ℕ) (p : ℕ) → k < n
-    → checkSlots (n - k) k m words p ≡ next (checkSlot m k words p) (λ q. checkSlots (n - (k + 1)) (k + 1) m words q)
-unfolding checkSlots
-check-slots-step n k m words p h =
-    let e : n - k ≡ suc (n - (k + 1)) = omega arith in
-    rw e
-
-pub check-slots-none : (n k m : ℕ) (words : List ℕ) (p : ℕ) → n ≡ 0 → checkSlots n k m words p ≡ record { status = 0; position = p }
-unfolding checkSlots
-check-slots-none n k m words p e = rw e
-
-pub check-slot-other : (m k : ℕ) (words : List ℕ) (p : ℕ) → isFirst m k ≡ false → checkSlot m k words p ≡ record { status = 0; position = p }
-unfolding checkSlot
-check-slot-other m k words p e = rw e
-
-pub check-slot-first : (m k level n bits : ℕ) (words : List ℕ) (p : ℕ) → level ≡ levelAt m k → isFirst m k ≡ true → n ≡ wordsOf level → bits ≡ firstBits level → bits ≤ 24
-    → checkParts n words p (1 * 2 ^ bits % 2 ^ 32) ≡ checkSlot m k words p
-unfolding checkSlot
-check-slot-first m k level n bits words p e f h i j = rw (small-shl 1 bits (omega arith) j, one-mul (2 ^ bits), f, ← e, h, i)
 
 -- slots read
 pub read-slot-other : (k : ℕ) (g : Group) (words : List ℕ) (p : ℕ) → isFirst (g .merge) k ≡ false → readSlot k g words p ≡ g
@@ -73,14 +38,6 @@ pub read-slot-first : (k : ℕ) (g : Group) (level n v : ℕ) (words : List ℕ)
     → changed g k v .group ≡ readSlot k g words p
 unfolding readSlot
 read-slot-first k g level n v words p e f h i = rw (f, ← e, ← h, i)
-
-pub changed-merge : (g : Group) (k v : ℕ) → changed g k v .group .merge ≡ g .merge
-unfolding changed
-changed-merge g k v = go (valid 3 (g .merge))
-  where
-    go : (t : Bool) → cond t (record { status = 0; group = record { counts = bytes 8 (block-word (change (decode g) (k % 8) v)); merge = g .merge } }) (unchanged invalidMerge g) .group .merge ≡ g .merge
-    go true = refl
-    go false = refl
 
 pub read-slot-merge : (k : ℕ) (g : Group) (words : List ℕ) (p : ℕ) → readSlot k g words p .merge ≡ g .merge
 unfolding readSlot
@@ -101,16 +58,7 @@ pub read-slots-none : (n k : ℕ) (g : Group) (words : List ℕ) (p : ℕ) → n
 unfolding readSlots
 read-slots-none n k g words p e = rw e
 
--- checks and reads of groups
-pub check-groups-step : (ms words : List ℕ) (p i : ℕ) → i < length ms
-    → checkGroups (drop i ms) words p ≡ next (checkSlots 8 0 (getD ms i 0) words p) (λ q. checkGroups (drop (i + 1) ms) words q)
-unfolding checkGroups
-check-groups-step ms words p i h = rw (drop-cons ms i 0, add-one)
-
-pub check-groups-none : (ms words : List ℕ) (p i : ℕ) → length ms ≤ i → checkGroups (drop i ms) words p ≡ record { status = 0; position = p }
-unfolding checkGroups
-check-groups-none ms words p i h = rw (drop-of-length-le ms h)
-
+-- reads of groups
 pub read-groups-step : (ms : List ℕ) (i g w : ℕ) (row words : List ℕ) (p : ℕ) → i < length ms
     → readGroups (drop i ms) (g + i) w row words p
     ≡ readGroups (drop (i + 1) ms) (g + (i + 1)) w (withGroup w row (g + i) (readGroup (getD ms i 0) words p)) words (p + groupSize (getD ms i 0))
@@ -131,17 +79,7 @@ pub after-groups-none : (ms : List ℕ) (i p : ℕ) → length ms ≤ i → afte
 unfolding afterGroups
 after-groups-none ms i p h = rw (drop-of-length-le ms h)
 
--- checks and reads of 32 slots
-pub check-fours-step : (n i : ℕ) (words : List ℕ) (p : ℕ) → i < n → checkFours (n - i) words p ≡ next (checkFour words p) (λ q. checkFours (n - (i + 1)) words q)
-unfolding checkFours
-check-fours-step n i words p h =
-    let e : n - i ≡ suc (n - (i + 1)) = omega arith in
-    rw e
-
-pub check-fours-none : (n : ℕ) (words : List ℕ) (p : ℕ) → n ≡ 0 → checkFours n words p ≡ record { status = 0; position = p }
-unfolding checkFours
-check-fours-none n words p e = rw e
-
+-- reads of 32 slots
 pub after-fours-step : (n i : ℕ) (words : List ℕ) (p : ℕ) → i < n → afterFours (n - i) words p ≡ afterFours (n - (i + 1)) words (afterGroups (mergesAt words p) (p + 1))
 unfolding afterFours
 after-fours-step n i words p h =

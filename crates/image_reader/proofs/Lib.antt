@@ -2,6 +2,5 @@ pub mod Laws
 pub mod Digits
 pub mod Restoring
 pub mod Steps
-pub mod Layouts
 pub mod Plain
 pub mod Fields

@@ -2,36 +2,29 @@
 use mathlib.Core.Path.{_≡_, refl, sym, ap, ap₂, _∙_}
 use mathlib.Core.Bool.{true, false}
 use mathlib.Core.List.{List, _++_, append-assoc}
-use Prim.Native.Nat.{ℕ, zero, suc, _+_, _-_, _%_, _≤_, _<_}
+use Prim.Native.Nat.{ℕ, zero, suc, _+_, _-_, _*_, _%_, _^_, _≤_, _<_}
 use native.Mathlib.Nat.{add-zero, add-assoc, mod-eq-of-lt}
-use native.Mathlib.Decide.{decLt}
 use native.Mathlib.Omega.{arith}
 use lib.ListN.{drop, replicate}
-use Rattle.group_block.specs.Block.{cap, counterAt}
-use Rattle.group_block.proofs.Slots.{level-le, value-lt, same-before}
 use Rattle.group.specs.declared.Group.{Group}
-use Rattle.group.specs.declared.Reading.{Reading}
-use Rattle.group.specs.Group.{decode, read, reading, changed}
-use Rattle.group.proofs.Changing.{Good, good-fits, read-is, group-ext, good-changed, changed-at, changed-before, zero-good}
+use Rattle.group.specs.Group.{read, changed}
+use Rattle.group.proofs.Changing.{Good, good-changed, zero-good}
+use Rattle.group_fields.proofs.Readings.{level-by-merge, value-below, same-before, changed-at, changed-before, readings-ext, accepted-reading}
 use Rattle.word.specs.Word.{go, next}
 use Rattle.image_format.specs.Image.{parts, wordsOf, levelAt, isFirst, slotWords, slotsWords, groupWords}
 use Rattle.image_format.specs.Write.{slotSize, slotsSize, groupSize}
 use Rattle.image_format.specs.Read.{checkSlot, checkSlots, readSlot, readSlots, readGroup}
 use Rattle.image_format.proofs.Laws.{slot-none, slot-some, size-first, size-other, by-test}
-use Rattle.image_format.proofs.Counters.{first-level, level-at, other-level}
-use Rattle.image_reader.proofs.Laws.{read-slot-other, read-slot-merge, read-slot-first, check-slot-other}
-use Rattle.image_reader.proofs.Digits.{check-counter, value-counter, parts-after}
+use Rattle.image_format.proofs.Sizes.{read-level, level-at-le}
+use Rattle.image_format.proofs.Counters.{first-is, other-is}
+use Rattle.image_checker.proofs.Laws.{up-to, check-slot-other}
+use Rattle.image_checker.proofs.Digits.{check-counter}
+use Rattle.image_reader.proofs.Laws.{read-slot-other, read-slot-merge, read-slot-first}
+use Rattle.image_reader.proofs.Digits.{value-counter, parts-after}
 
-pub read-value : (g : Group) (k : ℕ) → Good g → k < 8 → read g k .value ≡ counterAt (decode g) k .value
-unfolding reading
-read-value g k o h = ap (λ (r : Reading). r .value) (read-is g k (o .merges) h)
-
--- the slots before k of two groups have the same counters
+-- the slots before k of two groups are read alike
 abbrev pub Agree : ℕ → Group → Group → Type 0
-Agree k h g = (j : ℕ) → j < k → counterAt (decode h) j ≡ counterAt (decode g) j
-
-pub up-to : {k j : ℕ} {A : Type 0} → j < k + 1 → (j < k → A) → (j ≡ k → A) → A
-up-to {k} {j} h f g = elim (decLt j k) [ yes l ↦ f l | no l ↦ g (omega arith) ]
+Agree k h g = (j : ℕ) → j < k → read h j ≡ read g j
 
 -- a slot that was written, read back
 pub record Slot (k : ℕ) (g h : Group) (words : List ℕ) (p : ℕ) (rest : List ℕ) : Type 0 where
@@ -42,8 +35,8 @@ pub record Slot (k : ℕ) (g h : Group) (words : List ℕ) (p : ℕ) (rest : Lis
 
 module _ (k : ℕ) (g h : Group) (words : List ℕ) (p : ℕ) (rest : List ℕ) (o : Good g) (q : Good h) (m : h .merge ≡ g .merge) (i : k < 8) (f : Agree k h g)
     (e : drop p words ≡ slotWords g k ++ rest) where
-  same-level : counterAt (decode h) k .level ≡ counterAt (decode g) k .level
-  same-level = sym (level-at h k q i) ∙ ap (λ (x : ℕ). levelAt x k) m ∙ level-at g k o i
+  same-level : read h k .level ≡ read g k .level
+  same-level = level-by-merge h g k m
 
   slot-first : isFirst (g .merge) k ≡ true → Slot k g h words p rest
   unfolding checkSlot
@@ -51,23 +44,22 @@ module _ (k : ℕ) (g h : Group) (words : List ℕ) (p : ℕ) (rest : List ℕ) 
       let L = levelAt (g .merge) k in
       let n = wordsOf L in
       let v = read g k .value in
+      let l = read-level g k in
       let d : drop p words ≡ parts n v ++ rest = e ∙ ap (λ (l : List ℕ). l ++ rest) (sym (slot-some g k L n (read g k) refl t refl refl)) in
-      let low : v < cap L = rw (read-value g k o i, level-at g k o i) (value-lt (decode g) k (good-fits g o)) in
-      let three : L ≤ 3 = rw (level-at g k o i) (level-le (decode g) k) in
+      let low : v < 2 ^ (8 * 2 ^ L) = rw (← l) (value-below g k o i) in
       let z : n ≡ slotSize (g .merge) k = size-first (g .merge) k L n refl t refl in
       let th : isFirst (h .merge) k ≡ true = ap (λ (x : ℕ). isFirst x k) m ∙ t in
       let R : readSlot k h words p ≡ changed h k v .group
-      = sym (read-slot-first k h L n v words p (ap (λ (x : ℕ). levelAt x k) (sym m)) th refl (sym (value-counter L v words p rest three low d))) in
-      let vh : v % cap (counterAt (decode h) k .level) ≡ v
-      = mod-eq-of-lt {n = v} {m = cap (counterAt (decode h) k .level)} (rw (same-level, ← level-at g k o i) low) in
+      = sym (read-slot-first k h L n v words p (ap (λ (x : ℕ). levelAt x k) (sym m)) th refl (sym (value-counter L v words p rest (level-at-le (g .merge) k) low d))) in
+      let vh : v % 2 ^ (8 * 2 ^ read h k .level) ≡ v = mod-eq-of-lt {n = v} {m = 2 ^ (8 * 2 ^ read h k .level)} (rw (same-level, l) low) in
       record {
         checks = rw t (check-counter L v words p rest low d) ∙ ap (λ (x : ℕ). go (p + x)) z;
         after = rw (← z) (parts-after n v words p rest d);
         good = rw R (good-changed h k v q);
         agree = λ j l. up-to l
-            (λ b. ap (λ (x : Group). counterAt (decode x) j) R ∙ changed-before k h v j q i (first-level h k q i th) b ∙ f j b)
-            (λ b. rw b (ap (λ (x : Group). counterAt (decode x) k) R ∙ changed-at k h v q i
-            ∙ ap₂ (λ (x y : ℕ). record { value = x; level = y }) (vh ∙ read-value g k o i) same-level));
+            (λ b. ap (λ (x : Group). read x j) R ∙ changed-before h k v j q i (first-is h k th) b ∙ f j b)
+            (λ b. rw b (ap (λ (x : Group). read x k) R ∙ changed-at h k v q i
+            ∙ ap₂ (λ (x y : ℕ). record { status = 0; value = x; level = y }) vh same-level ∙ sym (accepted-reading g k (o .merges))));
       }
 
   slot-other : isFirst (g .merge) k ≡ false → Slot k g h words p rest
@@ -75,15 +67,15 @@ module _ (k : ℕ) (g h : Group) (words : List ℕ) (p : ℕ) (rest : List ℕ) 
       let z : p + slotSize (g .merge) k ≡ p = ap (λ (x : ℕ). p + x) (sym (size-other (g .merge) k t)) ∙ add-zero p in
       let th : isFirst (h .merge) k ≡ false = ap (λ (x : ℕ). isFirst x k) m ∙ t in
       let R = read-slot-other k h words p th in
-      let sg = same-before (decode g) k i (other-level g k o i t) in
-      let sh = same-before (decode h) k i (other-level h k q i th) in
+      let sg = same-before g k i (other-is g k t) in
+      let sh = same-before h k i (other-is h k th) in
       record {
         checks = check-slot-other (g .merge) k words p t ∙ ap go (sym z);
         after = rw z (e ∙ ap (λ (l : List ℕ). l ++ rest) (slot-none g k t));
         good = rw R q;
         agree = λ j l. up-to l
-            (λ b. ap (λ (x : Group). counterAt (decode x) j) R ∙ f j b)
-            (λ b. rw b (ap (λ (x : Group). counterAt (decode x) k) R ∙ sh .1 ∙ f (k - 1) (omega (arith, sh .0)) ∙ sym (sg .1)));
+            (λ b. ap (λ (x : Group). read x j) R ∙ f j b)
+            (λ b. rw b (ap (λ (x : Group). read x k) R ∙ sh .1 ∙ f (k - 1) (omega (arith, sh .0)) ∙ sym (sg .1)));
       }
 
   slot-restored : Slot k g h words p rest
@@ -102,7 +94,7 @@ slots-restored zero k g h words p rest o q m i f e =
     record {
       checks = ap go (sym (add-zero p));
       after = rw (add-zero p) e;
-      is = group-ext g h o q m (λ j l. f j (omega arith));
+      is = readings-ext g h o q m (λ j l. f j (omega arith));
     }
 slots-restored (suc n) k g h words p rest o q m i f e =
     let s = slot-restored k g h words p (slotsWords n (k + 1) g ++ rest) o q m (omega arith) f (e ∙ append-assoc (slotWords g k) (slotsWords n (k + 1) g) rest) in

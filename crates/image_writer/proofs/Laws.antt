@@ -6,23 +6,18 @@ use Prim.Native.Nat.{ℕ, zero, suc, _+_, _-_, _*_, _/_, _%_, _^_, _≤_, _<_}
 use native.Mathlib.Nat.{one-mul, add-mul, add-assoc, add-zero, add-suc, suc-add, zero-add}
 use native.Mathlib.Numerals.{add-one, sub-one}
 use native.Mathlib.Omega.{arith}
-use borrow.Author.Tests.{lt-ltb}
-use lib.Dec.{ltb}
 use lib.ListN.{length, getD, take, drop, set, length-append, drop-of-length-le}
 use lib.Seq.{sets, drop-cons, drop-drop, sets-eq}
-use Rattle.group_layout.specs.Layout.{valid}
 use Rattle.group.specs.declared.Group.{Group}
-use Rattle.group.specs.Group.{read}
-use Rattle.group.specs.Status.{invalidMerge, accepted, rejected}
-use Rattle.group_codes.specs.Pack.{fourCode, packed, mergeCode}
-use Rattle.group_codes.proofs.Packing.{four-below, code-below}
+use Rattle.group.specs.Group.{validMerge, read}
+use Rattle.group_codes.specs.Pack.{layoutsOf, packed}
+use Rattle.group_codes.proofs.Packing.{packed-lt}
 use Rattle.geometry.specs.Geometry.{stride}
 use Rattle.geometry.specs.Rows.{groupAt}
 use Rattle.word.specs.Word.{headKind}
 use Rattle.image_format.specs.Image.{word, countKind, parts, wordsOf, levelAt, isFirst, slotWords, slotsWords, groupWords, groupsWords, fourWords, rowWords, rowsWords, layoutAt, headPayload, body, endWord, image}
 use Rattle.image_format.specs.Write.{allValid, validRows, slotSize, slotsSize, groupSize}
 use Rattle.image_format.proofs.Laws.{slot-none, parts-length}
-use Rattle.image_format.proofs.Sizes.{codeOf}
 use Rattle.image_format.proofs.Counters.{behind}
 
 pub map-append : {A : Type 0} (f : A → ℕ) (xs ys : List A) → map f (xs ++ ys) ≡ map f xs ++ map f ys
@@ -30,7 +25,7 @@ map-append f [] ys = refl
 map-append f (x ∷ xs) ys = ap (λ (l : List ℕ). f x ∷ l) (map-append f xs ys)
 
 -- merge bytes one by one
-pub valid-step : (row : List ℕ) (i : ℕ) → i < length row → allValid (drop i row) ≡ (valid 3 (getD row i 0) && allValid (drop (i + 1) row))
+pub valid-step : (row : List ℕ) (i : ℕ) → i < length row → allValid (drop i row) ≡ (validMerge (getD row i 0) && allValid (drop (i + 1) row))
 unfolding allValid
 valid-step row i h = rw (drop-cons row i 0, add-one)
 
@@ -53,35 +48,9 @@ pub layout-is : (w : ℕ) (row : List ℕ) (g : ℕ) → packed (getD row (w + g
 unfolding layoutAt groupAt
 layout-is w row g = rw (add-assoc w g 1, add-assoc w g 2, add-assoc w g 3)
 
-pub packed-lt : (a b c d : ℕ) → packed a b c d .value < 456976
-unfolding packed
-packed-lt a b c d = go (valid 3 a && valid 3 b && valid 3 c && valid 3 d)
-  where
-    go : (t : Bool) → cond t (accepted (fourCode a b c d)) (rejected invalidMerge) .value < 456976
-    go true = four-below a b c d
-    go false = omega arith
-
-pub layout-lt : (w : ℕ) (row : List ℕ) (g : ℕ) → layoutAt w row g < 456976
+pub layout-lt : (w : ℕ) (row : List ℕ) (g : ℕ) → layoutAt w row g < layoutsOf 4
 unfolding layoutAt
 layout-lt w row g = packed-lt _ _ _ _
-
--- the code of a layout of four groups by the codes of each
-pub packed-by : (a b c d : ℕ)
-    → packed a b c d .value
-    ≡ cond (ltb (codeOf a) 26 && ltb (codeOf b) 26 && ltb (codeOf c) 26 && ltb (codeOf d) 26) (codeOf a * 17576 + codeOf b * 676 + codeOf c * 26 + codeOf d) 0
-unfolding packed fourCode
-packed-by a b c d =
-    go (mergeCode a) (mergeCode b) (mergeCode c) (mergeCode d) (code-below a) (code-below b) (code-below c) (code-below d) (valid 3 a) (valid 3 b) (valid 3 c) (valid 3 d)
-  where
-    go : (w x y z : ℕ) → w < 26 → x < 26 → y < 26 → z < 26 → (p q r s : Bool)
-        → cond (p && q && r && s) (accepted (w * 17576 + x * 676 + y * 26 + z)) (rejected invalidMerge) .value
-        ≡ cond (ltb (cond p w 26) 26 && ltb (cond q x 26) 26 && ltb (cond r y 26) 26 && ltb (cond s z 26) 26)
-        (cond p w 26 * 17576 + cond q x 26 * 676 + cond r y 26 * 26 + cond s z 26) 0
-    go w x y z hw hx hy hz false q r s = refl
-    go w x y z hw hx hy hz true false r s = rw (lt-ltb w 26 hw)
-    go w x y z hw hx hy hz true true false s = rw (lt-ltb w 26 hw, lt-ltb x 26 hx)
-    go w x y z hw hx hy hz true true true false = rw (lt-ltb w 26 hw, lt-ltb x 26 hx, lt-ltb y 26 hy)
-    go w x y z hw hx hy hz true true true true = rw (lt-ltb w 26 hw, lt-ltb x 26 hx, lt-ltb y 26 hy, lt-ltb z 26 hz)
 
 -- the bytes after row r
 pub drop-row : (memory : List ℕ) (r s : ℕ) → drop s (drop (r * s) memory) ≡ drop ((r + 1) * s) memory

@@ -8,16 +8,18 @@ use native.Mathlib.Numerals.{add-one}
 use native.Mathlib.Omega.{arith}
 use lib.ListN.{length, getD, take, drop, length-append, length-drop}
 use lib.Seq.{take-add, drop-drop, length-take-le}
-use Rattle.group_layout.specs.Layout.{layout, valid, bit, ones}
-use Rattle.group_layout.specs.Code.{layouts, mergedCode, code}
-use Rattle.group_codes.specs.Pack.{fourCode, packed}
+use Rattle.group_fields.proofs.Readings.{none-merged}
+use Rattle.group_codes.specs.Pack.{packed}
+use Rattle.group_codes.proofs.Packing.{packed-none}
 use Rattle.group.proofs.Laws.{Eight}
 use Rattle.laws.proofs.Lists.{Bytes}
 use Rattle.geometry.specs.Rows.{groupAt}
 use Rattle.geometry.proofs.Lists.{bytes-drop, bytes-take}
 use Rattle.image_format.specs.Image.{word, layoutKind, countKind, groupWords, groupsWords, layoutAt, fourWords}
 use Rattle.image_format.specs.Write.{allValid, groupSize}
-use Rattle.image_format.proofs.Plain.{plain-words, size-none}
+use Rattle.image_format.proofs.Sizes.{size-none}
+use Rattle.image_format.proofs.Plain.{plain-words}
+use Rattle.image_writer.specs.Writer.{fourSum}
 use Rattle.image_writer.proofs.Laws.{map-append, layout-is, group-length, valid-step}
 
 pub plain-groups : (n g w : ℕ) (row : List ℕ) → Bytes row → 8 * g + 8 * n ≤ length row → ((i : ℕ) → i < n → getD row (w + (g + i)) 0 ≡ 0)
@@ -36,19 +38,12 @@ plain-groups (suc n) g w row b h z =
     let e : 8 * (g + 1) ≡ 8 * g + 8 = omega arith in
     rw (m, r, s, take-add 8 (8 * n) (drop (8 * g) row), drop-drop 8 (8 * g) row, e) (ap (λ (l : List ℕ). l ++ map (word countKind) (take (8 * n) (drop (8 * g + 8) row))) (plain-words xs o) ∙ sym (map-append (word countKind) xs (take (8 * n) (drop (8 * g + 8) row))))
 
-abbrev pub fourSum : List ℕ → ℕ → ℕ
-fourSum row at = getD row at 0 + getD row (at + 1) 0 + getD row (at + 2) 0 + getD row (at + 3) 0
-
 clear-at : (w g : ℕ) (row : List ℕ) → fourSum row (w + g) ≡ 0 → (i : ℕ) → i < 4 → getD row (w + (g + i)) 0 ≡ 0
 clear-at w g row e zero h = rw (add-zero g) (omega arith)
 clear-at w g row e (suc zero) h = rw (← add-assoc w g 1) (omega arith)
 clear-at w g row e (suc (suc zero)) h = rw (← add-assoc w g 2) (omega arith)
 clear-at w g row e (suc (suc (suc zero))) h = rw (← add-assoc w g 3) (omega arith)
 clear-at w g row e (suc (suc (suc (suc i)))) h = absurd (omega arith)
-
-packed-none : packed 0 0 0 0 .value ≡ 0
-unfolding packed fourCode code mergedCode layouts layout valid bit ones
-packed-none = refl
 
 pub clear-words : (w g : ℕ) (row : List ℕ) → Bytes row → 8 * g + 32 ≤ length row → fourSum row (w + g) ≡ 0
     → fourWords w row g ≡ word layoutKind 0 ∷ map (word countKind) (take 32 (drop (8 * g) row))
@@ -73,12 +68,8 @@ clear-size-from (suc n) g w row z =
 pub clear-size : (w g : ℕ) (row : List ℕ) → fourSum row (w + g) ≡ 0 → length (groupsWords 4 g w row) ≡ 32
 clear-size w g row e = clear-size-from 4 g w row (clear-at w g row e)
 
-valid-none-merged : valid 3 0 ≡ true
-unfolding valid ones
-valid-none-merged = refl
-
 valid-zero : (row : List ℕ) (at : ℕ) → at < length row → getD row at 0 ≡ 0 → allValid (drop at row) ≡ allValid (drop (at + 1) row)
-valid-zero row at h e = valid-step row at h ∙ rw (e, valid-none-merged)
+valid-zero row at h e = valid-step row at h ∙ rw (e, none-merged)
 
 pub valid-clear : (row : List ℕ) (at : ℕ) → at + 4 ≤ length row → fourSum row at ≡ 0 → allValid (drop at row) ≡ allValid (drop (at + 4) row)
 valid-clear row at h e =

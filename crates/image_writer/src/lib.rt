@@ -2,29 +2,29 @@
 use geometry::load;
 use geometry::row_at;
 use group::Group;
+use group_fields::Fields;
 use image_format::code_at;
 use image_format::log_width;
 use image_format::size_at;
 use image_format::word;
 ghost use mathlib.Core.Path.{_≡_};
-ghost use mathlib.Core.Bool.{true, false, cond, _&&_};
-ghost use mathlib.Core.List.{_∷_, _++_, map};
-ghost use Prim.Native.Nat.{ℕ, _+_, _*_, _/_, _%_, _^_, _<_, _≤_};
-ghost use lib.Dec.{ltb};
-ghost use lib.ListN.{length, getD, take, drop};
+ghost use mathlib.Core.Bool.{true, false};
+ghost use mathlib.Core.List.{_++_};
+ghost use Prim.Native.Nat.{_+_, _*_, _/_, _<_, _≤_};
+ghost use lib.ListN.{length, drop};
 ghost use lib.Seq.{sets};
-ghost use Rattle.group_layout.specs.Layout.{valid};
-ghost use Rattle.group_codes.specs.Pack.{mergeCode};
+ghost use Rattle.group.specs.Group.{validMerge};
+ghost use Rattle.group_codes.specs.Pack.{layoutsOf};
 ghost use Rattle.geometry.specs.Geometry.{RowsIn};
-ghost use Rattle.image_format.specs.Image as spec;
-ghost use Rattle.image_format.specs.Image.{layoutKind, countKind, parts, groupWords, groupsWords, layoutAt, fourWords, rowWords, rowsWords, image};
+ghost use Rattle.image_format.specs.Image.{parts, groupWords, groupsWords, layoutAt, fourWords, rowWords, rowsWords, image};
 ghost use Rattle.image_format.specs.Write.{allValid, validRows, groupSize};
-ghost use Rattle.image_format.specs.Fields.{Described, Fields};
+ghost use Rattle.image_format.specs.Tables.{Sizes, Codes, DescribedAt, Writes};
+ghost use Rattle.image_writer.specs.Writer.{Room, GroupsRoom, RowRoom, FourClear, countWords, clearWords};
 
 // Whether four bytes are there and all are 0.
 fn clear(row: &[u8], at: usize) -> bool
     requires { ⌜ at ≤ length (now row) ⌝ }
-    ensures { λ r. ⌜ (r ≡ true → (at + 4 ≤ length (now (row .entry))) × (getD (now (row .entry)) at 0 + getD (now (row .entry)) (at + 1) 0 + getD (now (row .entry)) (at + 2) 0 + getD (now (row .entry)) (at + 3) 0 ≡ 0)) ⌝ }
+    ensures { λ r. ⌜ (r ≡ true → FourClear (now (row .entry)) at) ⌝ }
 {
     if row.len() - at < 4 {
         return false;
@@ -95,7 +95,7 @@ pub fn table_size(row: &[u8], w: usize) -> usize
 
 // The number of words of the counters of four groups, from group g on.
 fn groups_size(row: &[u8], w: usize, g: usize, sizes: &[u8]) -> usize
-    requires { ⌜ w + g + 4 ≤ length (now row) ⌝ ∗ ⌜ ((m : ℕ) → m < length (now sizes) → getD (now sizes) m 0 ≡ groupSize m) ⌝ }
+    requires { ⌜ w + g + 4 ≤ length (now row) ⌝ ∗ ⌜ Sizes (now sizes) ⌝ }
     ensures { λ r. ⌜ r ≡ length (groupsWords 4 g w (now (row .entry))) ⌝ }
     ensures { λ r. ⌜ r ≤ 96 ⌝ }
 {
@@ -111,7 +111,7 @@ fn groups_size(row: &[u8], w: usize, g: usize, sizes: &[u8]) -> usize
 
 // The number of words of a row.
 fn row_size(row: &[u8], w: usize, sizes: &[u8]) -> usize
-    requires { ⌜ w + w / 8 ≤ length (now row) ⌝ ∗ ⌜ w ≤ 65536 ⌝ ∗ ⌜ ((m : ℕ) → m < length (now sizes) → getD (now sizes) m 0 ≡ groupSize m) ⌝ }
+    requires { ⌜ w + w / 8 ≤ length (now row) ⌝ ∗ ⌜ w ≤ 65536 ⌝ ∗ ⌜ Sizes (now sizes) ⌝ }
     ensures { λ r. ⌜ r ≡ length (rowWords (w / 32) 0 w (now (row .entry))) ⌝ }
     ensures { λ r. ⌜ r ≤ 97 * 2048 ⌝ }
 {
@@ -124,7 +124,7 @@ fn row_size(row: &[u8], w: usize, sizes: &[u8]) -> usize
 
 // The number of words of d rows.
 pub fn rows_size(memory: &[u8], d: usize, w: usize, sizes: &[u8]) -> usize
-    requires { ⌜ RowsIn d w (length (now memory)) ⌝ ∗ ⌜ ((m : ℕ) → m < length (now sizes) → getD (now sizes) m 0 ≡ groupSize m) ⌝ }
+    requires { ⌜ RowsIn d w (length (now memory)) ⌝ ∗ ⌜ Sizes (now sizes) ⌝ }
     ensures { λ r. ⌜ r ≡ length (rowsWords d w (now (memory .entry))) ⌝ }
     ensures { λ r. ⌜ r ≤ 97 * 16384 ⌝ }
 {
@@ -170,27 +170,18 @@ fn put_group(words: &mut [u32], p: usize, g: Group) -> usize
     at
 }
 
-// So many bits of a number, from a place on.
-fn field(x: u64, place: u8, bits: u8) -> u32
-    requires { ⌜ place < 64 ⌝ ∗ ⌜ bits ≤ 24 ⌝ }
-    ensures { λ r. ⌜ r ≡ x / 2 ^ place % 2 ^ bits ⌝ }
-    ensures { λ r. ⌜ r < 2 ^ 24 ⌝ }
-{
-    ((x >> (place as u32)) & ((1u64 << (bits as u32)) - 1)) as u32
-}
-
 // The words of a valid group's counters, by the description of its layout, which has code c.
 fn put_fields(words: &mut [u32], p: usize, g: Group, fields: &[u8], c: usize) -> usize
-    requires { ⌜ p + groupSize (g .merge) ≤ length (now words) ⌝ ∗ ⌜ valid 3 (g .merge) ≡ true ⌝ ∗ ⌜ 17 * c + 17 ≤ length (now fields) ⌝ ∗ ⌜ Described (g .merge) (now fields) (17 * c) ⌝ }
+    requires { ⌜ p + groupSize (g .merge) ≤ length (now words) ⌝ ∗ ⌜ validMerge (g .merge) ≡ true ⌝ ∗ ⌜ DescribedAt c (g .merge) (now fields) ⌝ }
     ensures { λ r. ⌜ r ≡ p + groupSize (g .merge) ⌝ }
     ensures { λ _. ⌜ now (words .exit) ≡ sets (now (words .entry)) p (groupWords g) ⌝ }
 {
     let at = 17 * c;
     let n = fields[at] as usize;
     let counts = g.counts;
-    let x = group_bytes::number_of(counts);
+    let x = Fields::of(counts);
     for i in 0..n {
-        let part = field(x, fields[at + 1 + i], fields[at + 9 + i]);
+        let part = x.bits_at(fields[at + 1 + i], fields[at + 9 + i]);
         words[p + i] = word(image_format::COUNT, part);
     }
     p + n
@@ -198,14 +189,14 @@ fn put_fields(words: &mut [u32], p: usize, g: Group, fields: &[u8], c: usize) ->
 
 // The words of a group's counters: by the description of its layout, if there is one.
 fn put_any(words: &mut [u32], p: usize, g: Group, codes: &[u8], fields: &[u8]) -> usize
-    requires { ⌜ p + groupSize (g .merge) ≤ length (now words) ⌝ ∗ ⌜ ((m : ℕ) → m < length (now codes) → getD (now codes) m 0 ≡ cond (valid 3 m) (mergeCode m) 26) ⌝ ∗ ⌜ Fields (now fields) ⌝ }
+    requires { ⌜ p + groupSize (g .merge) ≤ length (now words) ⌝ ∗ ⌜ Writes (now codes) (now fields) ⌝ }
     ensures { λ r. ⌜ r ≡ p + groupSize (g .merge) ⌝ }
     ensures { λ _. ⌜ now (words .exit) ≡ sets (now (words .entry)) p (groupWords g) ⌝ }
 {
     if fields.len() == 442 {
-        let c = code_at(codes, g.merge) as usize;
-        if c < 26 {
-            return put_fields(words, p, g, fields, c);
+        let c = code_at(codes, g.merge);
+        if (c as u32) < group_codes::LAYOUTS {
+            return put_fields(words, p, g, fields, c as usize);
         }
     }
     put_group(words, p, g)
@@ -221,7 +212,7 @@ fn put_groups(
     codes: &[u8],
     fields: &[u8],
 ) -> usize
-    requires { ⌜ 8 * g + 32 ≤ w ⌝ ∗ ⌜ w + g + 4 ≤ length (now row) ⌝ ∗ ⌜ p + length (groupsWords 4 g w (now row)) ≤ length (now words) ⌝ ∗ ⌜ ((m : ℕ) → m < length (now codes) → getD (now codes) m 0 ≡ cond (valid 3 m) (mergeCode m) 26) ⌝ ∗ ⌜ Fields (now fields) ⌝ }
+    requires { ⌜ 8 * g + 32 ≤ w ⌝ ∗ ⌜ w + g + 4 ≤ length (now row) ⌝ ∗ ⌜ GroupsRoom w (now row) g p (now words) ⌝ ∗ ⌜ Writes (now codes) (now fields) ⌝ }
     ensures { λ r. ⌜ r ≡ p + length (groupsWords 4 g w (now (row .entry))) ⌝ }
     ensures { λ _. ⌜ now (words .exit) ≡ sets (now (words .entry)) p (groupsWords 4 g w (now (row .entry))) ⌝ }
 {
@@ -232,30 +223,14 @@ fn put_groups(
     at
 }
 
-// The code of the layout of four groups by the code of each, or 0 if one is invalid.
-fn four_code(a: u8, b: u8, c: u8, d: u8) -> u32
-    ensures { λ r. ⌜ r ≡ cond (ltb a 26 && ltb b 26 && ltb c 26 && ltb d 26) (a * 17576 + b * 676 + c * 26 + d) 0 ⌝ }
-{
-    if a < 26 {
-        if b < 26 {
-            if c < 26 {
-                if d < 26 {
-                    return (a as u32) * 17576 + (b as u32) * 676 + (c as u32) * 26 + (d as u32);
-                }
-            }
-        }
-    }
-    0
-}
-
 // The code of the layout of four groups, from group g on.
 fn layout_at(row: &[u8], w: usize, g: usize, codes: &[u8]) -> u32
-    requires { ⌜ w + g + 4 ≤ length (now row) ⌝ ∗ ⌜ ((m : ℕ) → m < length (now codes) → getD (now codes) m 0 ≡ cond (valid 3 m) (mergeCode m) 26) ⌝ }
+    requires { ⌜ w + g + 4 ≤ length (now row) ⌝ ∗ ⌜ Codes (now codes) ⌝ }
     ensures { λ r. ⌜ r ≡ layoutAt w (now (row .entry)) g ⌝ }
-    ensures { λ r. ⌜ r < 456976 ⌝ }
+    ensures { λ r. ⌜ r < layoutsOf 4 ⌝ }
 {
     let at = w + g;
-    four_code(
+    group_codes::four_code(
         code_at(codes, row[at]),
         code_at(codes, row[at + 1]),
         code_at(codes, row[at + 2]),
@@ -266,7 +241,7 @@ fn layout_at(row: &[u8], w: usize, g: usize, codes: &[u8]) -> u32
 // The words of n slots that are not merged, from count byte `at` on.
 fn put_counts(words: &mut [u32], p: usize, row: &[u8], at: usize, n: usize)
     requires { ⌜ p + n ≤ length (now words) ⌝ ∗ ⌜ at + n ≤ length (now row) ⌝ }
-    ensures { λ _. ⌜ now (words .exit) ≡ sets (now (words .entry)) p (map (spec.word countKind) (take n (drop at (now (row .entry))))) ⌝ }
+    ensures { λ _. ⌜ now (words .exit) ≡ sets (now (words .entry)) p (countWords n at (now (row .entry))) ⌝ }
 {
     for i in 0..n {
         words[p + i] = image_format::count_word(row[at + i]);
@@ -276,9 +251,9 @@ fn put_counts(words: &mut [u32], p: usize, row: &[u8], at: usize, n: usize)
 // The words of 32 slots, from group g on, if nothing is merged there.
 fn put_clear(words: &mut [u32], p: usize, row: &[u8], g: usize)
     requires { ⌜ 8 * g + 32 ≤ length (now row) ⌝ ∗ ⌜ p + 33 ≤ length (now words) ⌝ }
-    ensures { λ _. ⌜ now (words .exit) ≡ sets (now (words .entry)) p (spec.word layoutKind 0 ∷ map (spec.word countKind) (take 32 (drop (8 * g) (now (row .entry))))) ⌝ }
+    ensures { λ _. ⌜ now (words .exit) ≡ sets (now (words .entry)) p (clearWords g (now (row .entry))) ⌝ }
 {
-    words[p] = 0x2000_0000;
+    words[p] = word(image_format::LAYOUT, 0);
     put_counts(words, p + 1, row, 8 * g, 32);
 }
 
@@ -292,7 +267,7 @@ fn put_mixed(
     codes: &[u8],
     fields: &[u8],
 ) -> usize
-    requires { ⌜ 8 * g + 32 ≤ w ⌝ ∗ ⌜ w + g + 4 ≤ length (now row) ⌝ ∗ ⌜ p + length (fourWords w (now row) g) ≤ length (now words) ⌝ ∗ ⌜ ((m : ℕ) → m < length (now codes) → getD (now codes) m 0 ≡ cond (valid 3 m) (mergeCode m) 26) ⌝ ∗ ⌜ Fields (now fields) ⌝ }
+    requires { ⌜ 8 * g + 32 ≤ w ⌝ ∗ ⌜ w + g + 4 ≤ length (now row) ⌝ ∗ ⌜ Room (fourWords w (now row) g) p (now words) ⌝ ∗ ⌜ Writes (now codes) (now fields) ⌝ }
     ensures { λ r. ⌜ r ≡ p + length (fourWords w (now (row .entry)) g) ⌝ }
     ensures { λ _. ⌜ now (words .exit) ≡ sets (now (words .entry)) p (fourWords w (now (row .entry)) g) ⌝ }
 {
@@ -310,7 +285,7 @@ fn put_four(
     codes: &[u8],
     fields: &[u8],
 ) -> usize
-    requires { ⌜ 8 * g + 32 ≤ w ⌝ ∗ ⌜ w + g + 4 ≤ length (now row) ⌝ ∗ ⌜ p + length (fourWords w (now row) g) ≤ length (now words) ⌝ ∗ ⌜ ((m : ℕ) → m < length (now codes) → getD (now codes) m 0 ≡ cond (valid 3 m) (mergeCode m) 26) ⌝ ∗ ⌜ Fields (now fields) ⌝ }
+    requires { ⌜ 8 * g + 32 ≤ w ⌝ ∗ ⌜ w + g + 4 ≤ length (now row) ⌝ ∗ ⌜ Room (fourWords w (now row) g) p (now words) ⌝ ∗ ⌜ Writes (now codes) (now fields) ⌝ }
     ensures { λ r. ⌜ r ≡ p + length (fourWords w (now (row .entry)) g) ⌝ }
     ensures { λ _. ⌜ now (words .exit) ≡ sets (now (words .entry)) p (fourWords w (now (row .entry)) g) ⌝ }
 {
@@ -323,7 +298,7 @@ fn put_four(
 
 // The words of a row.
 fn put_row(words: &mut [u32], p: usize, row: &[u8], w: usize, codes: &[u8], fields: &[u8]) -> usize
-    requires { ⌜ w + w / 8 ≤ length (now row) ⌝ ∗ ⌜ w ≤ 65536 ⌝ ∗ ⌜ p + length (rowWords (w / 32) 0 w (now row)) ≤ length (now words) ⌝ ∗ ⌜ ((m : ℕ) → m < length (now codes) → getD (now codes) m 0 ≡ cond (valid 3 m) (mergeCode m) 26) ⌝ ∗ ⌜ Fields (now fields) ⌝ }
+    requires { ⌜ w + w / 8 ≤ length (now row) ⌝ ∗ ⌜ w ≤ 65536 ⌝ ∗ ⌜ RowRoom w (now row) p (now words) ⌝ ∗ ⌜ Writes (now codes) (now fields) ⌝ }
     ensures { λ r. ⌜ r ≡ p + length (rowWords (w / 32) 0 w (now (row .entry))) ⌝ }
     ensures { λ _. ⌜ now (words .exit) ≡ sets (now (words .entry)) p (rowWords (w / 32) 0 w (now (row .entry))) ⌝ }
 {
@@ -344,7 +319,7 @@ fn put_rows(
     codes: &[u8],
     fields: &[u8],
 ) -> usize
-    requires { ⌜ RowsIn d w (length (now memory)) ⌝ ∗ ⌜ p + length (rowsWords d w (now memory)) ≤ length (now words) ⌝ ∗ ⌜ ((m : ℕ) → m < length (now codes) → getD (now codes) m 0 ≡ cond (valid 3 m) (mergeCode m) 26) ⌝ ∗ ⌜ Fields (now fields) ⌝ }
+    requires { ⌜ RowsIn d w (length (now memory)) ⌝ ∗ ⌜ Room (rowsWords d w (now memory)) p (now words) ⌝ ∗ ⌜ Writes (now codes) (now fields) ⌝ }
     ensures { λ r. ⌜ r ≡ p + length (rowsWords d w (now (memory .entry))) ⌝ }
     ensures { λ _. ⌜ now (words .exit) ≡ sets (now (words .entry)) p (rowsWords d w (now (memory .entry))) ⌝ }
 {
@@ -357,7 +332,7 @@ fn put_rows(
 
 // The whole image.
 pub fn put_image(words: &mut [u32], memory: &[u8], d: usize, w: usize, codes: &[u8], fields: &[u8])
-    requires { ⌜ RowsIn d w (length (now memory)) ⌝ ∗ ⌜ length (image d w (now memory)) ≤ length (now words) ⌝ ∗ ⌜ ((m : ℕ) → m < length (now codes) → getD (now codes) m 0 ≡ cond (valid 3 m) (mergeCode m) 26) ⌝ ∗ ⌜ Fields (now fields) ⌝ }
+    requires { ⌜ RowsIn d w (length (now memory)) ⌝ ∗ ⌜ length (image d w (now memory)) ≤ length (now words) ⌝ ∗ ⌜ Writes (now codes) (now fields) ⌝ }
     ensures { λ _. ⌜ now (words .exit) ≡ image d w (now (memory .entry)) ++ drop (length (image d w (now (memory .entry)))) (now (words .entry)) ⌝ }
 {
     words[0] = word(word::HEAD, log_width(w) * 16 + d as u32);

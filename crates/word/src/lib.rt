@@ -1,7 +1,8 @@
 // Words of images and feeds: the top four bits of a word are its kind and the low 28 its payload. A reader goes from word to word and
 // stops at the first that is faulty.
 ghost use mathlib.Core.Path.{_≡_};
-ghost use Prim.Native.Nat.{_^_, _<_};
+ghost use Prim.Native.Nat.{_*_, _^_, _<_};
+ghost use lib.Bits.{bitXor};
 ghost use Rattle.word.specs.Word as spec;
 
 // The kinds that images and feeds share.
@@ -81,4 +82,13 @@ pub fn below(words: &[u32], p: usize, kind: u32, limit: u32) -> Step
         payload(words, p) < limit,
         group::BAD_PAYLOAD,
     )
+}
+
+// The bits in which a word differs from the word of a kind with payload 0: its payload, if it is of that kind, and else bits above any
+// payload too. Words tested one after another with no exit between them are tested by this.
+pub fn differing_bits(word: u32, kind: u32) -> u32
+    requires { ⌜ kind < 2 ^ 4 ⌝ }
+    ensures { λ r. ⌜ r ≡ bitXor word (kind * 2 ^ 28) ⌝ }
+{
+    word ^ (kind << 28)
 }

@@ -1,7 +1,7 @@
 use mathlib.Core.Path.{_≡_, sym, ap, _∙_}
 use mathlib.Core.Bool.{true, false}
 use borrow.Author.Tests.{not-true, not-false}
-use Rattle.group_layout.specs.Layout.{valid}
+use Rattle.group.specs.Group.{validMerge}
 use Rattle.group.specs.Status.{accepted}
 use Rattle.group_codes.specs.Pack.{groupCode}
 use borrow.Author.Needs.{needs}
@@ -16,7 +16,7 @@ rejected-requires c κs = search needs
 
 returns : tie.Need-returns
 unfolding groupCode
-returns c = let v : valid 3 (c .before .before .before .args .merge) ≡ false = sym (c .before .before .is-valid .ensures) ∙ not-true _ (c .before .if1 .taken) in
+returns c = let v : validMerge (c .before .before .before .args .merge) ≡ false = sym (c .before .before .is-valid .ensures) ∙ not-true _ (c .before .if1 .taken) in
     rw v (c .rejected .ensures)
 
 code-requires : tie.Need-code-requires
@@ -30,7 +30,7 @@ accepted-requires c κs = search needs
 
 returns-2 : tie.Need-returns-2
 unfolding groupCode
-returns-2 c = let v : valid 3 (c .before .before .before .before .args .merge) ≡ true = sym (c .before .before .before .is-valid .ensures) ∙ not-false _ (c .before .before .if1 .left) in
+returns-2 c = let v : validMerge (c .before .before .before .before .args .merge) ≡ true = sym (c .before .before .before .is-valid .ensures) ∙ not-false _ (c .before .before .if1 .left) in
     rw v (c .accepted .ensures ∙ ap accepted (c .before .code .ensures .0))
 
 pub code-spec : {M : Type 1} → statement M

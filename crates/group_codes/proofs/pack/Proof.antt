@@ -34,17 +34,17 @@ add-high c = search needs
 code-requires-3 : tie.Need-code-requires-3
 code-requires-3 c κs = search needs
 
-mul-accepted : tie.Need-mul-accepted
-mul-accepted c = search needs
+mul-three : tie.Need-mul-three
+mul-three c = search needs
 
-add-accepted : tie.Need-add-accepted
-add-accepted c = search needs
+add-three : tie.Need-add-three
+add-three c = search needs
 
 code-requires-4 : tie.Need-code-requires-4
 code-requires-4 c κs = search needs
 
-add-accepted-2 : tie.Need-add-accepted-2
-add-accepted-2 c = search needs
+add-accepted : tie.Need-add-accepted
+add-accepted c = search needs
 
 cast-accepted : tie.Need-cast-accepted
 cast-accepted c = search needs
@@ -70,10 +70,10 @@ pack-spec =
     mul-high-2
     add-high
     code-requires-3
-    mul-accepted
-    add-accepted
+    mul-three
+    add-three
     code-requires-4
-    add-accepted-2
+    add-accepted
     cast-accepted
     accepted-requires
     returns-2)

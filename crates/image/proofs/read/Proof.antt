@@ -5,9 +5,8 @@ use lib.ListN.{length, getD, take}
 use Rattle.image.proofs.Places.{all-of}
 use Rattle.image.proofs.Calls.{Sound, sound-call, read-call, read-faulty, read-done}
 use Rattle.group_codes.specs.Pack.{codeMerge}
-use Rattle.image_format.specs.Fields.{Fields}
-use Rattle.image_format.proofs.Sizes.{table-part}
-use Rattle.image_format.proofs.Fields.{fields-part}
+use Rattle.image_format.specs.Tables.{Fields}
+use Rattle.image_format.proofs.Tables.{table-part, fields-part}
 use borrow.Author.Needs.{needs}
 use Rattle.image.proofs.read.Statement.{statement}
 use Rattle.image.proofs.read.Tie as tie

@@ -11,8 +11,8 @@ use Rattle.image_format.specs.Write.{groupSize, Written}
 use Rattle.geometry.specs.Geometry.{RowsIn}
 use Rattle.geometry.proofs.Widths.{shape-good, stride-is}
 use Rattle.geometry.proofs.Lists.{one-row}
-use Rattle.image_format.proofs.Sizes.{table-part, codeOf}
-use Rattle.image_format.proofs.Fields.{fields-part}
+use Rattle.group_codes.specs.Codes.{codeOf}
+use Rattle.image_format.proofs.Tables.{table-part, fields-part}
 use borrow.Author.Needs.{needs}
 use Rattle.image.proofs.write.Statement.{statement}
 use Rattle.image.proofs.write.Tie as tie

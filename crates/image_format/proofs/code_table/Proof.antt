@@ -1,21 +1,19 @@
-use mathlib.Core.Path.{_≡_, _∙_}
-use Prim.Native.Nat.{ℕ, _-_, _≤_, _<_}
+use Prim.Native.Nat.{_-_, _≤_}
 use native.Mathlib.Omega.{arith}
 use borrow.Author.Needs.{needs}
-use lib.ListN.{length, getD, length-set}
-use Rattle.geometry.proofs.Lists.{filled-more}
-use Rattle.image_format.proofs.Sizes.{codeOf}
+use Rattle.group_codes.specs.Codes.{codeOf}
+use Rattle.image_format.proofs.Tables.{Filling, filling-more}
 use Rattle.image_format.proofs.code_table.Statement.{statement}
 use Rattle.image_format.proofs.code_table.Tie as tie
 
 abbrev Inv-loop : tie.InvT-loop
-Inv-loop n t₀ m₀ t m = (m ≤ n) × (length t ≡ 128) × ((k : ℕ) → k < m → getD t k 0 ≡ codeOf k)
+Inv-loop n t₀ m₀ t m = (m ≤ n) × Filling 128 codeOf m t
 
 abbrev μ-loop : tie.MeasureT-loop
 μ-loop n t₀ m₀ t m = n - m
 
 loop-holds : tie.Need-loop-holds Inv-loop μ-loop
-loop-holds c = (omega arith, search needs, λ k h. absurd (omega arith))
+loop-holds c = (omega arith, (search needs, λ k h. absurd (omega arith)))
 
 cast-code-of : tie.Need-cast-code-of Inv-loop μ-loop
 cast-code-of c = search needs
@@ -34,10 +32,10 @@ loop-less c = search needs
 
 loop-again : tie.Need-loop-again Inv-loop μ-loop
 loop-again c = let l = c .before .before .loop in
-    (omega arith, length-set (l .t) (l .m) (c .code-of .result) ∙ l .inv .1, filled-more codeOf (l .t) (l .m) (c .code-of .result) 0 (omega arith) (c .code-of .ensures) (l .inv .2))
+    (omega arith, filling-more 128 codeOf (l .m) (c .code-of .result) (l .t) (omega arith) (c .code-of .ensures) (l .inv .1))
 
 returns : tie.Need-returns Inv-loop μ-loop
-returns c = λ k h. c .before .loop .inv .2 k (omega arith)
+returns c = λ k h. c .before .loop .inv .1 .1 k (omega arith)
 
 pub code-table-spec : {M : Type 1} → statement M
 code-table-spec =

@@ -13,7 +13,7 @@ use Rattle.image_format.specs.Write.{slotsSize, groupSize}
 use Rattle.image_format.proofs.Laws.{size-first, sizes-none}
 use Rattle.image_format.proofs.Sizes.{first-zero, behind-is}
 use Rattle.image_format.proofs.Counters.{counter-end, next-first, sizes-turn}
-use Rattle.image_format.proofs.Fields.{size-most, fields-turn, past-parts, described}
+use Rattle.image_format.proofs.Fields.{size-most, fields-turn, past-parts, parts-size, described}
 use Rattle.image_format.proofs.describe.Statement.{statement}
 use Rattle.image_format.proofs.describe.Tie as tie
 
@@ -96,7 +96,7 @@ loop-again c = let l = c .before .before .before .before .before .before .before
       omega arith,
       p .ensures .1 .0 ∙ l .inv .4,
       rw r (past-parts (groupFields m) rest (l .i) (n .result) (8 * l .k) (b .result) turn),
-      rw r (p .ensures .1 .1 (groupFields m) rest turn (l .inv .6)),
+      rw (r, ← parts-size (n .result) (8 * l .k) (b .result)) (p .ensures .1 .1 (groupFields m) rest turn (l .inv .6)),
     )
 
 cast-t : tie.Need-cast-t Inv-loop μ-loop

@@ -6,7 +6,7 @@ use borrow.Author.Needs.{needs}
 use lib.ListN.{length, take, drop, length-set}
 use lib.Seq.{take-set-le}
 use Rattle.image_format.specs.Fields.{Field, partFields, Told}
-use Rattle.image_format.proofs.Fields.{told-more}
+use Rattle.image_format.proofs.Fields.{told-more, parts-size}
 use Rattle.image_format.proofs.describe_parts.Statement.{statement}
 use Rattle.image_format.proofs.describe_parts.Tie as tie
 
@@ -80,7 +80,8 @@ same-length c = search needs
 returns : tie.Need-returns Inv-loop μ-loop
 returns c = let l = c .before .loop in
     let e : l .j ≡ c .before .before .args .i + c .before .before .args .n = omega arith in
-    (e, (l .inv .3, λ fs rest f o. rw e at (l .inv .4 fs rest f o .1)))
+    let s : l .j ≡ c .before .before .args .i + length (partFields (c .before .before .args .n) (c .before .before .args .place) (c .before .before .args .bits)) = omega (arith, parts-size (c .before .before .args .n) (c .before .before .args .place) (c .before .before .args .bits)) in
+    (e, (l .inv .3, λ fs rest f o. rw s at (l .inv .4 fs rest f o .1)))
 
 pub describe-parts-spec : {M : Type 1} → statement M
 describe-parts-spec =

@@ -5,13 +5,14 @@ use borrow.Author.Needs.{needs}
 use lib.ListN.{length, getD}
 use Rattle.group_codes.specs.declared.Unpacked.{Unpacked}
 use Rattle.group_codes.specs.Pack.{codeMerge}
-use Rattle.image_format.specs.Fields.{Described}
-use Rattle.image_format.proofs.Fields.{table-more, last-merge}
+use Rattle.group_codes.proofs.Packing.{last-merge}
+use Rattle.image_format.specs.Tables.{FirstFields}
+use Rattle.image_format.proofs.Tables.{fields-more}
 use Rattle.image_format.proofs.field_table.Statement.{statement}
 use Rattle.image_format.proofs.field_table.Tie as tie
 
 abbrev Inv-loop : tie.InvT-loop
-Inv-loop n t₀ c₀ t c = (c ≤ n) × (length t ≡ 442) × ((k : ℕ) → k < c → Described (codeMerge k) t (17 * k))
+Inv-loop n t₀ c₀ t c = (c ≤ n) × (length t ≡ 442) × FirstFields c t
 
 abbrev μ-loop : tie.MeasureT-loop
 μ-loop n t₀ c₀ t c = n - c
@@ -49,7 +50,7 @@ loop-again c = let l = c .before .before .before .before .before .before .loop i
     let d = c .before .describe in
     let x = getD (u .result .merges) 3 0 in
     let e : x ≡ codeMerge (l .c) = ap (λ (u : Unpacked). getD (u .merges) 3 0) (u .ensures) ∙ last-merge (l .c) (omega arith) in
-    (omega arith, omega arith, table-more (l .t) (d .last .0) (l .c) (d .ensures .1) (rw e at (d .ensures .0)) (l .inv .2))
+    (omega arith, omega arith, fields-more (l .t) (d .last .0) (l .c) (d .ensures .1) (rw e at (d .ensures .0)) (l .inv .2))
 
 returns : tie.Need-returns Inv-loop μ-loop
 returns c = λ k h. c .before .loop .inv .2 k (omega arith)

@@ -1,21 +1,19 @@
-use mathlib.Core.Path.{_≡_, _∙_}
-use Prim.Native.Nat.{ℕ, _-_, _≤_, _<_}
+use Prim.Native.Nat.{_-_, _≤_}
 use native.Mathlib.Omega.{arith}
 use borrow.Author.Needs.{needs}
-use lib.ListN.{length, getD, length-set}
 use Rattle.image_format.specs.Write.{groupSize}
-use Rattle.geometry.proofs.Lists.{filled-more}
+use Rattle.image_format.proofs.Tables.{Filling, filling-more}
 use Rattle.image_format.proofs.size_table.Statement.{statement}
 use Rattle.image_format.proofs.size_table.Tie as tie
 
 abbrev Inv-loop : tie.InvT-loop
-Inv-loop n t₀ m₀ t m = (m ≤ n) × (length t ≡ 128) × ((k : ℕ) → k < m → getD t k 0 ≡ groupSize k)
+Inv-loop n t₀ m₀ t m = (m ≤ n) × Filling 128 groupSize m t
 
 abbrev μ-loop : tie.MeasureT-loop
 μ-loop n t₀ m₀ t m = n - m
 
 loop-holds : tie.Need-loop-holds Inv-loop μ-loop
-loop-holds c = (omega arith, search needs, λ k h. absurd (omega arith))
+loop-holds c = (omega arith, (search needs, λ k h. absurd (omega arith)))
 
 cast-group-size : tie.Need-cast-group-size Inv-loop μ-loop
 cast-group-size c = search needs
@@ -37,10 +35,10 @@ loop-less c = search needs
 
 loop-again : tie.Need-loop-again Inv-loop μ-loop
 loop-again c = let l = c .before .before .loop in
-    (omega arith, length-set (l .t) (l .m) (c .group-size .result) ∙ l .inv .1, filled-more groupSize (l .t) (l .m) (c .group-size .result) 0 (omega arith) (c .group-size .ensures .0) (l .inv .2))
+    (omega arith, filling-more 128 groupSize (l .m) (c .group-size .result) (l .t) (omega arith) (c .group-size .ensures .0) (l .inv .1))
 
 returns : tie.Need-returns Inv-loop μ-loop
-returns c = λ k h. c .before .loop .inv .2 k (omega arith)
+returns c = λ k h. c .before .loop .inv .1 .1 k (omega arith)
 
 pub size-table-spec : {M : Type 1} → statement M
 size-table-spec =

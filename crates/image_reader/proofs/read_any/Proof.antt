@@ -17,8 +17,8 @@ add-if1 c = search needs
 read-fields-requires : tie.Need-read-fields-requires
 read-fields-requires c κs = search needs
 
-bytes-of-requires : tie.Need-bytes-of-requires
-bytes-of-requires c κs = search needs
+counts-requires : tie.Need-counts-requires
+counts-requires c κs = search needs
 
 mul-t13 : tie.Need-mul-t13
 mul-t13 c = search needs
@@ -40,7 +40,7 @@ add-t17 c = omega (arith, size-is (c .before .before .before), size-most (c .bef
 returns : tie.Need-returns
 returns c = let s = c .before .before .before .before .before .before in
     let n = size-is (c .before .before .before) in (
-      rw (c .before .bytes-of .ensures, s .pre .1 .0) (c .before .before .read-fields .ensures),
+      rw (c .before .counts .ensures, s .pre .1 .0) (c .before .before .read-fields .ensures),
       (
         ap (λ (x : ℕ). s .args .p + x) n,
         omega (arith, n, size-most (s .args .merge)),
@@ -60,7 +60,7 @@ read-any-spec =
     mul-if1
     add-if1
     read-fields-requires
-    bytes-of-requires
+    counts-requires
     mul-t13
     shared-slice-read-t15
     cast-t16

@@ -9,7 +9,8 @@ use Rattle.geometry.specs.Rows.{withGroup}
 use Rattle.image_format.specs.Write.{groupSize}
 use Rattle.image_format.specs.Read.{readGroup, afterGroups, readGroups}
 use Rattle.image_reader.proofs.Laws.{after-groups-step, after-groups-none, read-groups-step, read-groups-none}
-use Rattle.image_reader.proofs.Layouts.{mergesOf, merge-at, merges-length}
+use Rattle.group_codes.specs.Codes.{mergesOf}
+use Rattle.group_codes.proofs.Packing.{merge-at, merges-length}
 use Rattle.image_reader.proofs.read_groups.Statement.{statement}
 use Rattle.image_reader.proofs.read_groups.Tie as tie
 

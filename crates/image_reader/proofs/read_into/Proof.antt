@@ -42,7 +42,7 @@ returns c = let a = c .before .before .before .before .before .before .before .b
       (
         omega arith,
         ap (λ (x : List ℕ). set x (a .w + a .g) 0) (c .before .before .read-counts .ensures)
-            ∙ plain-read (a .w) (a .g) (a .row .now) (a .words .now) (a .p) (omega arith) (z .0) (z .1)
+            ∙ plain-read (a .w) (a .g) (a .row .now) (a .words .now) (a .p) (omega arith) z
             ∙ ap (λ (x : ℕ). withGroup (a .w) (a .row .now) (a .g) (readGroup x (a .words .now) (a .p))) (sym m),
       ),
     )

@@ -4,7 +4,7 @@ use lib.ListN.{getD}
 use borrow.Author.Needs.{needs}
 use Rattle.image_format.specs.Image.{layoutAt}
 use Rattle.image_writer.proofs.Laws.{layout-is, layout-lt}
-use Rattle.image_writer.proofs.Laws.{packed-by}
+use Rattle.group_codes.proofs.Packing.{four-of}
 use Rattle.image_writer.proofs.layout_at.Statement.{statement}
 use Rattle.image_writer.proofs.layout_at.Tie as tie
 
@@ -53,7 +53,7 @@ returns c = let a = c .before .before .before .before .before .before .before .b
     let e : c .four-code .result ≡ layoutAt (a .w) (a .row .now) (a .g)
     = c .four-code .ensures
     ∙ rw (c .before .before .before .before .before .before .before .code-at .ensures, c .before .before .before .before .before .code-at2 .ensures, c .before .before .before .code-at3 .ensures, c .before .code-at4 .ensures)
-    (sym (packed-by (getD (a .row .now) m 0) (getD (a .row .now) (m + 1) 0) (getD (a .row .now) (m + 2) 0) (getD (a .row .now) (m + 3) 0)))
+    (sym (four-of (getD (a .row .now) m 0) (getD (a .row .now) (m + 1) 0) (getD (a .row .now) (m + 2) 0) (getD (a .row .now) (m + 3) 0)))
     ∙ layout-is (a .w) (a .row .now) (a .g) in
     (e, rw e (layout-lt (a .w) (a .row .now) (a .g)))
 

@@ -1,16 +1,19 @@
 use Prim.Native.Nat.{_+_, _*_, _≤_}
 use native.Mathlib.Omega.{arith}
-use borrow.Author.Needs.{needs}
 use lib.ListN.{length}
-use Rattle.image_writer.proofs.Fields.{code-is}
+use Rattle.group_codes.proofs.Packing.{code-is}
+use borrow.Author.Needs.{needs}
 use Rattle.image_writer.proofs.put_any.Statement.{statement}
 use Rattle.image_writer.proofs.put_any.Tie as tie
 
 code-at-requires : tie.Need-code-at-requires
 code-at-requires c κs = search needs
 
-cast-c : tie.Need-cast-c
-cast-c c = search needs
+cast-if2 : tie.Need-cast-if2
+cast-if2 c = search needs
+
+cast-put-fields : tie.Need-cast-put-fields
+cast-put-fields c = search needs
 
 put-fields-requires : tie.Need-put-fields-requires
 put-fields-requires c κs = let s = c .before .before .before .before .before .before .before in
@@ -39,7 +42,8 @@ put-any-spec =
     tie.close
     (tie.spec
     code-at-requires
-    cast-c
+    cast-if2
+    cast-put-fields
     put-fields-requires
     same-length
     returns

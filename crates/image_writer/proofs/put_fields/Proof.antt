@@ -31,34 +31,34 @@ shared-slice-read-n c = search needs
 cast-n : tie.Need-cast-n Inv-loop μ-loop
 cast-n c = search needs
 
-number-of-requires : tie.Need-number-of-requires Inv-loop μ-loop
-number-of-requires c κs = search needs
+of-requires : tie.Need-of-requires Inv-loop μ-loop
+of-requires c κs = search needs
 
 loop-holds : tie.Need-loop-holds Inv-loop μ-loop
 loop-holds c = let a = c .before .before .before .before .before .args in
     let t = a .fields .now in
-    (omega arith, refl, ap₂ (λ (q n : ℕ). sets (a .words .now) q (tableWords t (17 * a .c) (c .number-of .result) n 0)) (add-zero (a .p)) (sub-zero (getD t (17 * a .c) 0)))
+    (omega arith, refl, ap₂ (λ (q n : ℕ). sets (a .words .now) q (tableWords t (17 * a .c) (c .of .result) n 0)) (add-zero (a .p)) (sub-zero (getD t (17 * a .c) 0)))
 
-add-field : tie.Need-add-field Inv-loop μ-loop
-add-field c = search needs
+add-bits-at : tie.Need-add-bits-at Inv-loop μ-loop
+add-bits-at c = search needs
 
-add-field-2 : tie.Need-add-field-2 Inv-loop μ-loop
-add-field-2 c = search needs
+add-bits-at-2 : tie.Need-add-bits-at-2 Inv-loop μ-loop
+add-bits-at-2 c = search needs
 
-shared-slice-read-field : tie.Need-shared-slice-read-field Inv-loop μ-loop
-shared-slice-read-field c = let s = c .before .before .before .before .before .before .before .before in omega (arith, s .pre .1 .1 .1 .0, size-most (s .args .g .merge))
+shared-slice-read-bits-at : tie.Need-shared-slice-read-bits-at Inv-loop μ-loop
+shared-slice-read-bits-at c = let s = c .before .before .before .before .before .before .before .before in omega (arith, s .pre .1 .1 .1 .0, size-most (s .args .g .merge))
 
-add-field-3 : tie.Need-add-field-3 Inv-loop μ-loop
-add-field-3 c = search needs
+add-bits-at-3 : tie.Need-add-bits-at-3 Inv-loop μ-loop
+add-bits-at-3 c = search needs
 
-add-field-4 : tie.Need-add-field-4 Inv-loop μ-loop
-add-field-4 c = search needs
+add-bits-at-4 : tie.Need-add-bits-at-4 Inv-loop μ-loop
+add-bits-at-4 c = search needs
 
-shared-slice-read-field-2 : tie.Need-shared-slice-read-field-2 Inv-loop μ-loop
-shared-slice-read-field-2 c = let s = c .before .before .before .before .before .before .before .before .before in omega (arith, s .pre .1 .1 .1 .0, size-most (s .args .g .merge))
+shared-slice-read-bits-at-2 : tie.Need-shared-slice-read-bits-at-2 Inv-loop μ-loop
+shared-slice-read-bits-at-2 c = let s = c .before .before .before .before .before .before .before .before .before in omega (arith, s .pre .1 .1 .1 .0, size-most (s .args .g .merge))
 
-field-requires : tie.Need-field-requires Inv-loop μ-loop
-field-requires c κs = let s = c .before .before .before .before .before .before .before .before .before in
+bits-at-requires : tie.Need-bits-at-requires Inv-loop μ-loop
+bits-at-requires c κs = let s = c .before .before .before .before .before .before .before .before .before in
     let i = c .before .before .before .loop .i in
     let l : i < groupSize (s .args .g .merge) = omega (arith, s .pre .1 .1 .1 .0) in
     let e = s .pre .1 .1 .1 .1 i l in
@@ -87,8 +87,8 @@ loop-again : tie.Need-loop-again Inv-loop μ-loop
 loop-again c = let l = c .before .before .before .before .before .loop in
     let a = c .before .before .before .before .before .before .before .before .before .before .before .args in
     let t = a .fields .now in
-    let x = c .before .before .before .before .before .before .number-of .result in
-    let v = c .word .ensures ∙ ap (word countKind) (c .before .field .ensures .0) in
+    let x = c .before .before .before .before .before .before .of .result in
+    let v = c .word .ensures ∙ ap (word countKind) (c .before .bits-at .ensures .0) in
     let e : a .p + (l .i + 1) ≡ suc (a .p + l .i) = omega arith in
     (omega arith, simp length-set (omega arith), rw (v, e) (ap (sets (l .words) (a .p + l .i)) (sym (table-step t (17 * a .c) x (getD t (17 * a .c) 0) (l .i) (omega arith))) ∙ l .inv .2))
 
@@ -105,7 +105,7 @@ returns c = let s = c .before .before .before .before .before .before .before in
     let t = a .fields .now in
     let d = s .pre .1 .1 .1 in
     let n = getD t (17 * a .c) 0 in
-    let x = c .before .before .number-of in
+    let x = c .before .before .of in
     let long : length (a .g .counts) ≡ 8 = search needs in
     let small : Bytes (a .g .counts) = λ i. let f : Fits w8 (getD (a .g .counts) i 0) = search needs in f .fits in
     let o : Good (a .g) = record { merges = s .pre .1 .0; eight = record { long = long; small = small } } in (
@@ -123,15 +123,15 @@ put-fields-spec =
     mul-at
     shared-slice-read-n
     cast-n
-    number-of-requires
+    of-requires
     loop-holds
-    add-field
-    add-field-2
-    shared-slice-read-field
-    add-field-3
-    add-field-4
-    shared-slice-read-field-2
-    field-requires
+    add-bits-at
+    add-bits-at-2
+    shared-slice-read-bits-at
+    add-bits-at-3
+    add-bits-at-4
+    shared-slice-read-bits-at-2
+    bits-at-requires
     word-requires
     add-words
     mul-words

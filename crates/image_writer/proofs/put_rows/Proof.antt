@@ -10,7 +10,7 @@ use native.Mathlib.Nat.{sub-zero, zero-mul}
 use Rattle.image_format.specs.Image.{rowWords, rowsWords}
 use Rattle.geometry.proofs.Lists.{one-row}
 use Rattle.geometry.proofs.Widths.{stride-is}
-use Rattle.image_format.proofs.Laws.{width-is}
+use Rattle.geometry.proofs.Widths.{wide}
 use Rattle.image_writer.proofs.Laws.{put-turn, rows-step, rows-length-step, rows-none}
 use Rattle.image_writer.proofs.put_rows.Statement.{statement}
 use Rattle.image_writer.proofs.put_rows.Tie as tie
@@ -34,7 +34,7 @@ put-row-requires c κs = let l = c .before .before .before .loop in
     let s = c .before .before .before .before .before .before .before .before in (
       omega (arith, c .row-at .ensures .1, stride-is (s .args .w)),
       (
-        width-is _ (s .pre .0 .0) .most,
+        wide _ (s .pre .0 .0) .high,
         (rw (c .row-at .ensures .0) (omega (arith, rows-length-step (s .args .memory .now) (s .args .d) (l .r) (s .args .w) (omega arith))), s .pre .1 .1),
       ),
     )

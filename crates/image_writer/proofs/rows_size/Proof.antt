@@ -9,7 +9,7 @@ use native.Mathlib.Nat.{zero-add, sub-zero, zero-mul}
 use Rattle.image_format.specs.Image.{rowWords, rowsWords}
 use Rattle.geometry.proofs.Lists.{one-row}
 use Rattle.geometry.proofs.Widths.{stride-is}
-use Rattle.image_format.proofs.Laws.{width-is}
+use Rattle.geometry.proofs.Widths.{wide}
 use Rattle.image_writer.proofs.Laws.{rows-length-step, rows-none}
 use Rattle.image_writer.proofs.rows_size.Statement.{statement}
 use Rattle.image_writer.proofs.rows_size.Tie as tie
@@ -29,7 +29,7 @@ row-at-requires c κs = one-row _ _ _ (c .before .before .before .before .pre .0
 
 row-size-requires : tie.Need-row-size-requires Inv-loop μ-loop
 row-size-requires c κs = let p = c .before .before .before .before .before .pre in
-    (omega (arith, c .row-at .ensures .1, stride-is (c .before .before .before .before .before .args .w)), (width-is _ (p .0 .0) .most, p .1))
+    (omega (arith, c .row-at .ensures .1, stride-is (c .before .before .before .before .before .args .w)), (wide _ (p .0 .0) .high, p .1))
 
 add-n : tie.Need-add-n Inv-loop μ-loop
 add-n c = search needs

@@ -2,7 +2,7 @@ use mathlib.Core.Path.{_≡_, sym, _∙_}
 use mathlib.Core.Bool.{true, false}
 use native.Mathlib.Omega.{arith}
 use lib.ListN.{getD}
-use Rattle.group_layout.specs.Layout.{valid}
+use Rattle.group.specs.Group.{validMerge}
 use Rattle.image_writer.proofs.Laws.{valid-step}
 use Rattle.image_writer.proofs.Plain.{valid-clear}
 use borrow.Author.Needs.{needs}
@@ -25,12 +25,12 @@ is-valid-requires c κs = search needs
 
 returns-2 : tie.Need-returns-2
 returns-2 c = let a = c .before .before .before .before .before .before .args in
-    let v : valid 3 (getD (a .row .now) (a .at) 0) ≡ true = sym (c .before .is-valid .ensures) ∙ c .if2 .taken in
+    let v : validMerge (getD (a .row .now) (a .at) 0) ≡ true = sym (c .before .is-valid .ensures) ∙ c .if2 .taken in
     (omega arith, (λ e. absurd (omega arith), λ h. valid-step (a .row .now) (a .at) (omega arith) ∙ rw v))
 
 returns-3 : tie.Need-returns-3
 returns-3 c = let a = c .before .before .before .before .before .before .args in
-    let v : valid 3 (getD (a .row .now) (a .at) 0) ≡ false = sym (c .before .is-valid .ensures) ∙ c .if2 .left in
+    let v : validMerge (getD (a .row .now) (a .at) 0) ≡ false = sym (c .before .is-valid .ensures) ∙ c .if2 .left in
     (omega arith, (λ e. valid-step (a .row .now) (a .at) (omega arith) ∙ rw v, λ h. absurd (omega arith)))
 
 pub valid-run-spec : {M : Type 1} → statement M
