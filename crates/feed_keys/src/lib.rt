@@ -1,5 +1,6 @@
 // The key words of a record: tested, and their bytes taken.
 use word::Step;
+use word::differing_bits;
 use word::go;
 use word::is_due;
 use word::payload;
@@ -96,7 +97,7 @@ pub fn take_sound_key(words: &[u32], n: usize, key: &mut [u8]) -> bool
     for i in 0..m {
         let v = words[1 + i];
         // kind 7, and bits 24 to 27 are 0
-        bad = bad | ((v >> 24) ^ 0x70);
+        bad = bad | (differing_bits(v, KEY) >> 24);
         put_three(key, i, v);
     }
     if bad != 0 {

@@ -5,11 +5,11 @@ use native.Mathlib.Omega.{arith}
 use borrow.Author.Needs.{needs}
 use borrow.Author.Count.{below-more}
 use borrow.Author.Tests.{eqb-true}
-use lib.Bits.{bitXor}
+use lib.Bits.{xor-shr}
 use lib.ListN.{length, take, getD}
 use Rattle.geometry.proofs.Lists.{or-none}
 use Rattle.word.specs.Word.{payload}
-use Rattle.feed_keys.specs.Keys.{keyWords, keyFrom, keyOf}
+use Rattle.feed_keys.specs.Keys.{keyKind, keyWords, keyFrom, keyOf}
 use Rattle.laws.proofs.Shifts.{one-shl, one-shl-pos}
 use Rattle.feed_keys.proofs.Laws.{key-taken, word-more, stored-length, xor-none, key-sound}
 use Rattle.feed_keys.proofs.take_sound_key.Statement.{statement}
@@ -41,6 +41,9 @@ mul-v c = search needs
 shared-slice-read-v : tie.Need-shared-slice-read-v Inv-loop μ-loop
 shared-slice-read-v c = search needs
 
+differing-bits-requires : tie.Need-differing-bits-requires Inv-loop μ-loop
+differing-bits-requires c κs = search needs
+
 put-three-requires : tie.Need-put-three-requires Inv-loop μ-loop
 put-three-requires c κs = search needs
 
@@ -52,17 +55,19 @@ loop-less c = search needs
 
 loop-again : tie.Need-loop-again Inv-loop μ-loop
 unfolding payload
-loop-again c = let l = c .before .before .before .before .before .before .loop in
-    let w = c .before .before .before .before .before .before .before .before .before .before .before .args .words .now in
+loop-again c = let l = c .before .before .before .before .before .before .before .loop in
+    let w = c .before .before .before .before .before .before .before .before .before .before .before .before .args .words .now in
     let v = getD w (1 + l .i) 0 in
-    let b = c .before .before .put-three .ensures in (
+    let b = c .before .before .put-three .ensures in
+    let d = c .before .before .before .before .differing-bits in (
       omega arith,
       l .inv .1,
       l .inv .2,
       ap length b ∙ stored-length (l .key) (l .i) v ∙ l .inv .3,
       l .inv .4,
-      λ z. let e = or-none (l .bad) (bitXor (v / 2 ^ 24) 0x70) z in
-          below-more (λ (j : ℕ). getD w (1 + j) 0 / 2 ^ 24 ≡ 0x70) (l .i) (l .inv .5 (e .0)) (xor-none (v / 2 ^ 24) 0x70 (e .1)),
+      λ z. let e = or-none (l .bad) (d .result / 2 ^ 24) z in
+          let f = sym (xor-shr v (keyKind * 2 ^ 28) 24) ∙ ap (λ (x : ℕ). x / 2 ^ 24) (sym (d .ensures)) ∙ e .1 in
+          below-more (λ (j : ℕ). getD w (1 + j) 0 / 2 ^ 24 ≡ 0x70) (l .i) (l .inv .5 (e .0)) (xor-none (v / 2 ^ 24) 0x70 f),
       ap (take (3 * (l .i + 1))) b ∙ word-more (l .key) w (l .i) v (omega arith) refl (l .inv .6),
     )
 
@@ -122,6 +127,7 @@ take-sound-key-spec =
     add-v
     mul-v
     shared-slice-read-v
+    differing-bits-requires
     put-three-requires
     add-i
     loop-less
