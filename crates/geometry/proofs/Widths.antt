@@ -51,30 +51,28 @@ is-width k h l =
     let e : 2 ^ k ≡ 32 * 2 ^ (k - 5) = ap (λ (n : ℕ). 2 ^ n) (omega arith) ∙ pow-add 2 5 (k - 5) in
     rw e (are-powers 12 32 (k - 5) (omega arith))
 
--- what follows from it
+-- what a valid width has: the one place for it, which the crates above cite
 pub record Wide (w : ℕ) : Type 0 where
   pub low : 32 ≤ w
   pub high : w ≤ 65536
-  pub eights : w % 8 ≡ 0
   pub whole : w % 32 ≡ 0
+  pub eights : w % 8 ≡ 0
   pub shares : 2 ^ 32 % w ≡ 0
 
 pub wide : (w : ℕ) → validWidth w ≡ true → Wide w
 wide w e =
     let r = width-is w e in
     let k = r .0 in
-    let three : k ≡ k - 3 + 3 = omega (arith, r .1) in
     let five : k ≡ k - 5 + 5 = omega (arith, r .1) in
     let rest : 32 ≡ 32 - k + k = omega (arith, r .2) in
-    let by-eight : 2 ^ k ≡ 2 ^ (k - 3) * 8 = ap (λ (n : ℕ). 2 ^ n) three ∙ pow-add 2 (k - 3) 3 in
-    let by-whole : 2 ^ k ≡ 2 ^ (k - 5) * 32 = ap (λ (n : ℕ). 2 ^ n) five ∙ pow-add 2 (k - 5) 5 in
+    let by-32 : 2 ^ k ≡ 2 ^ (k - 5) * 32 = ap (λ (n : ℕ). 2 ^ n) five ∙ pow-add 2 (k - 5) 5 in
     let shared : 2 ^ 32 ≡ 2 ^ (32 - k) * 2 ^ k = ap (λ (n : ℕ). 2 ^ n) rest ∙ pow-add 2 (32 - k) k in
     rw (r .3)
     (record {
       low = pow-mono {i = 5} {j = k} (r .1);
       high = pow-mono {i = k} {j = 16} (r .2);
-      eights = rw by-eight (mul-mod-left (2 ^ (k - 3)) 8);
-      whole = rw by-whole (mul-mod-left (2 ^ (k - 5)) 32);
+      whole = omega (arith, by-32);
+      eights = omega (arith, by-32);
       shares = rw shared (mul-mod-left (2 ^ (32 - k)) (2 ^ k));
     })
 
