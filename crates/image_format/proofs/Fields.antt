@@ -3,15 +3,13 @@ use mathlib.Core.Path.{_≡_, refl, sym, ap, ap₂, _∙_}
 use mathlib.Core.Bool.{true}
 use mathlib.Core.List.{List, _++_}
 use Prim.Native.Nat.{ℕ, zero, suc, _+_, _-_, _*_, _^_, _≤_, _<_}
-use native.Mathlib.Nat.{add-zero, mod-eq-of-lt}
+use native.Mathlib.Nat.{add-zero}
 use native.Mathlib.Numerals.{sub-one}
 use native.Mathlib.Decide.{decLt}
 use native.Mathlib.Omega.{arith}
-use borrow.Author.Tests.{lt-ltb}
-use lib.ListN.{length, getD, take, drop, set, length-append, length-set, length-take, List·getD-append}
+use lib.ListN.{length, getD, drop, set, length-append, length-set, List·getD-append}
 use lib.Pow.{pow-pos}
-use lib.Seq.{getD-append-add, getD-drop, getD-set-same, getD-set-other, getD-take, take-take, drop-drop, drop-at}
-use Rattle.group_codes.specs.Pack.{codeMerge, fourMerges, unpacked}
+use lib.Seq.{getD-append-add, getD-drop, getD-set-same, getD-set-other, drop-drop, drop-at}
 use Rattle.image_format.specs.Fields.{Field, partFields, slotFields, slotsFields, groupFields, fieldAt, Told, Described}
 use Rattle.image_format.specs.Image.{wordsOf, levelAt, isFirst}
 use Rattle.image_format.specs.Read.{firstBits}

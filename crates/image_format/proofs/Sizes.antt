@@ -1,5 +1,5 @@
 -- What a merge byte alone says of a group: the levels of its slots and the number of its words.
-use mathlib.Core.Path.{_≡_, refl, ap, _∙_}
+use mathlib.Core.Path.{_≡_, refl, ap}
 use mathlib.Core.Bool.{true, false}
 use Prim.Native.Nat.{ℕ, zero, suc, _+_, _*_, _%_, _^_, _≤_, _<_}
 use native.Mathlib.Nat.{zero-mod, mod-one}
@@ -9,7 +9,7 @@ use lib.ListN.{replicate}
 use Rattle.group.specs.declared.Group.{Group}
 use Rattle.group.specs.declared.Reading.{Reading}
 use Rattle.group.specs.Group.{validMerge, read}
-use Rattle.group.proofs.Changing.{Good, zero-good}
+use Rattle.group.proofs.Changing.{zero-good}
 use Rattle.group_fields.proofs.Readings.{none-merged, level-most, level-by-merge, invalid-reading, plain-reading}
 use Rattle.image_format.specs.Image.{wordsOf, levelAt, isFirst}
 use Rattle.image_format.specs.Write.{slotSize, slotsSize, groupSize}

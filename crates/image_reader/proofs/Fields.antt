@@ -11,7 +11,6 @@ use lib.Arith.{digits-lt}
 use lib.ListN.{length, getD, drop, drop-of-length-le}
 use lib.Pow.{pow-pos, pow-add, pow-mono, mod-pow-add, mod-mod-pow, high, low}
 use lib.Seq.{drop-cons}
-use Rattle.group.specs.declared.Group.{Group}
 use Rattle.group.specs.Group.{validMerge, read, changed}
 use Rattle.group_fields.specs.Fields.{groupOf}
 use Rattle.group_fields.proofs.Counters.{counts-none, put-below, changed-put}

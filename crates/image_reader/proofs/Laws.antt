@@ -8,7 +8,7 @@ use native.Mathlib.Numerals.{add-one, sub-one}
 use native.Mathlib.Omega.{arith}
 use borrow.Rule.Slice.PartMut.{putMid, post-is}
 use lib.ListN.{length, getD, take, drop, length-append, drop-of-length-le, take-append-drop}
-use lib.Seq.{drop-cons, drop-drop, length-take-le, take-at, drop-at}
+use lib.Seq.{drop-cons, length-take-le, take-at, drop-at}
 use Rattle.group.specs.declared.Group.{Group}
 use Rattle.group.specs.Group.{changed}
 use Rattle.group_fields.proofs.Readings.{changed-merge}
