@@ -1,7 +1,7 @@
 -- The short feeds' lines, by computation.
 use mathlib.Core.Path.{refl}
 use Rattle.geometry.specs.Geometry.{validDepth, oneOfPowers, validWidth, stride, size}
-use Rattle.geometry.specs.Order.{firstOf}
+use Rattle.answer.specs.Order.{firstOf}
 use Rattle.word.specs.Word.{next, payload, isDue, tested, below}
 use Rattle.feed_records.specs.Words.{opensKey, opened, wordsTaken}
 use Rattle.feed.specs.Head.{headWidth, badGeometry, headStep, headed}

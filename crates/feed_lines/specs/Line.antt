@@ -26,4 +26,4 @@ unfoldable pub lineOf : Recorded → ℕ → ℕ → Line
 lineOf recorded.Updated before records = line.Updated
 lineOf (recorded.Estimate v) before records = line.Estimate v
 lineOf recorded.Ended before records = line.End records
-lineOf (recorded.Rejected s p) before records = refusedLine s (before + p)
+lineOf (recorded.Refused s p) before records = refusedLine s (before + p)

@@ -83,7 +83,7 @@ fn line_of(r: Recorded, before: u64, records: u64) -> Line
         Recorded::Updated => Line::Updated,
         Recorded::Estimate { value } => Line::Estimate { value },
         Recorded::Ended => Line::End { records },
-        Recorded::Rejected { status, position } => {
+        Recorded::Refused { status, position } => {
             feed_text::refused_line(status, before + position)
         }
     }

@@ -20,7 +20,7 @@ use Rattle.group_block.proofs.Slots.{levelOf, level-is, level-le, value-lt}
 use Rattle.group.specs.declared.Group.{Group}
 use Rattle.group.specs.declared.Reading.{Reading}
 use Rattle.group.specs.Group.{validMerge, decode, read, reading, changed}
-use Rattle.group.specs.Status.{invalidMerge}
+use Rattle.answer.specs.Numbers.{invalidMerge}
 use Rattle.group.proofs.Laws.{Eight, number-in}
 use Rattle.group.proofs.Changing.{Good, good-fits, shape-decode, read-is, good-changed}
 use Rattle.group.proofs.Changing as changing

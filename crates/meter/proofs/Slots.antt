@@ -9,11 +9,11 @@ use lib.Seq.{take-all}
 use Rattle.group.specs.Group.{read}
 use Rattle.hash.specs.Hash.{basis}
 use Rattle.geometry.specs.Geometry.{stride, size}
-use Rattle.geometry.specs.Order.{earliest}
+use Rattle.answer.specs.Order.{earliest}
 use Rattle.geometry.specs.Rows.{mapRows, ofRows, groupAt, leastOr, least}
 use Rattle.meter_keys.specs.Keys.{keySlot}
 use Rattle.meter_row.specs.Row.{addedIn, addedRow, updateStatus, updateRow, readRow}
-use Rattle.geometry.proofs.Widths.{earlier-none}
+use Rattle.answer.proofs.Order.{earlier-none}
 use Rattle.meter_rows.specs.Slots.{addedStatus, slotAdded, slotStatus, slotValue}
 use Rattle.meter_rows.proofs.Stored.{reads-same, maps-same}
 use Rattle.meter.specs.Meter.{readStatus, readValue}
