@@ -5,7 +5,7 @@ use mathlib.Core.List.{List, [], _∷_, _++_}
 use Prim.Native.Nat.{ℕ, zero, suc, _-_, _^_}
 use lib.Dec.{eqb, ltb}
 use lib.ListN.{replicate}
-use Rattle.answer.specs.Answers.{accepted, leaves}
+use Rattle.answer.specs.Answers.{accepted}
 use Rattle.group_bytes.specs.Bytes as bytes
 use Rattle.group_layout.specs.Layout as layouts
 use Rattle.group_layout.specs.Code as codes
@@ -16,7 +16,8 @@ use Rattle.hash.specs.Hash as hashes
 use Rattle.group.specs.Group as groups
 use Rattle.group_codes.specs.Pack as packs
 use Rattle.geometry.specs.Geometry as geometry
-use Rattle.geometry.specs.Checks as order
+use Rattle.answer.specs.Order as order
+use Rattle.answer.specs.Answers as answers
 use Rattle.geometry.specs.Rows as rows
 use Rattle.meter_keys.specs.Keys as keys
 use Rattle.meter_row.specs.Row as row
@@ -100,7 +101,7 @@ unfolding numbers allRefuse allFit twice calls.recordPair calls.traffic calls.af
     sums.held sums.join sums.add sums.unite hashes.fnvStep hashes.fnv hashes.slotOf bytes.number bytes.bytes groups.decode groups.encode
     groups.reading groups.read groups.settle groups.added groups.united groups.widestOf groups.changed packs.fourCode packs.packed
     packs.fourMerges packs.unpacked geometry.validDepth geometry.oneOfPowers geometry.validWidth geometry.stride geometry.size
-    order.firstOf order.earlier order.earliest order.answerOf order.finish order.leaves rows.mapRows rows.ofRows rows.groupAt rows.withGroup
+    order.firstOf order.placeIn order.earlier order.earliest answers.answerOf answers.leaves answers.finish rows.mapRows rows.ofRows rows.groupAt rows.withGroup
     rows.ofGroups rows.leastOr rows.least rows.largest keys.keySlot row.addedIn row.updateStatus row.updateRow row.readRow
     row.levelStatus row.levelAt row.widestStatus row.widestRow row.unitedAt row.unitedStatus row.uniteStatus row.uniteGroups
     row.uniteRow meter.cleared meter.badCall meter.updated meter.readStatus meter.readValue meter.estimated meter.widest meter.rowOf

@@ -11,7 +11,7 @@ use Rattle.meter.specs.Meter.{united, updated}
 use Rattle.traffic.specs.Traffic.{sameKey, keyTotal, lower, sumOf}
 use Rattle.traffic.specs.Calls.{Call, Calls, none, update, estimate, unite, feed, from, traffic, after, behind, run, done, bytesOf, Faithful, Listed, LeftBy}
 use Rattle.traffic.proofs.Totals.{sum-append}
-use Rattle.traffic_cases.specs.Cases.{at-10, at-11, updateWords}
+use Rattle.traffic_cases.specs.Cases.{at-10, at-11, _▸_, updateWords}
 use Rattle.traffic_cases.specs.Full.{doubled, full, after-full, Full}
 use Rattle.traffic_cases.proofs.Computed.{twice, allFit, first, nearly, whole, computed}
 
