@@ -14,7 +14,7 @@ use Rattle.geometry.specs.Checks.{badShape}
 use Rattle.word.specs.Word.{headKind, endKind, go, stop, next, payload, tested, below}
 use Rattle.word.proofs.Places.{In, tested-in, below-in, next-in}
 use Rattle.image_format.specs.Image.{headPayload}
-use Rattle.image_format.specs.Read.{checkHead, checkFours, checkEnd, checked, finishRead, readAfter, taken}
+use Rattle.image_format.specs.Read.{checkHead, checkFours, checkEnd, checked, readAnswer, finishRead, taken}
 use Rattle.image.proofs.Sharp.{fours-cut}
 
 end-in : (words : List ℕ) (p : ℕ) → p ≤ length words → In (length words) (checkEnd words p)
@@ -37,10 +37,10 @@ checked-in d w words =
     (λ p l. next-in (length words) (checkFours (d * (w / 32)) words p) (λ q. checkEnd words q) (fours-cut words 0 (d * (w / 32)) p .ahead .inside l) (λ q k. end-in words q k))
 
 pub place-in : (d w : ℕ) (memory words : List ℕ) → taken d w memory words .answer .position ≤ length words
-unfolding taken readAfter finishRead
+unfolding taken readAnswer finishRead
 place-in d w memory words = after (badShape d w (length memory))
   where
-    after : (s : ℕ) → readAfter s d w memory words .answer .position ≤ length words
+    after : (s : ℕ) → readAnswer s (checked d w words) .position ≤ length words
     after zero = cases (eqb (checked d w words .status) 0) (λ t. rw t (omega arith)) (λ t. rw t (checked-in d w words))
     after (suc s) = omega arith
 

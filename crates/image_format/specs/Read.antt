@@ -5,7 +5,8 @@ use mathlib.Core.List.{List, [], _∷_, _++_}
 use lib.Dec.{eqb}
 use lib.ListN.{length, take, drop, replicate}
 use Rattle.group.specs.declared.Group.{Group}
-use Rattle.answer.specs.Answers.{accepted, refused, Done}
+use Rattle.answer.specs.declared.Answer.{Answer}
+use Rattle.answer.specs.Answers.{accepted, refused, refusedAt, leaves, Done}
 use Rattle.answer.specs.Numbers.{badPayload, badWord, otherMeter}
 use Rattle.group.specs.Group.{changed}
 use Rattle.group_codes.specs.Pack.{layoutsOf, unpacked}
@@ -109,14 +110,12 @@ readRows (suc n) w memory words p =
     readFours (w / 32) 0 w (take (stride w) memory) words p ++ readRows n w (drop (stride w) memory) words (afterFours (w / 32) words p)
 
 -- The call's own d, w and memory come before the words. Of an accepted image the position after the end is the count of its words.
-unfoldable pub finishRead : Step → List ℕ → List ℕ → Done
-finishRead s new memory =
-    cond (eqb (s .status) 0) (record { answer = accepted (s .position); memory = new })
-    (record { answer = record { status = s .status; position = s .position; value = 0 }; memory = memory })
+unfoldable pub readAnswer : ℕ → Step → Answer
+readAnswer zero s = cond (eqb (s .status) 0) (accepted (s .position)) (refusedAt (s .status) (s .position))
+readAnswer (suc bad) s = refused (suc bad)
 
-unfoldable pub readAfter : ℕ → ℕ → ℕ → List ℕ → List ℕ → Done
-readAfter zero d w memory words = finishRead (checked d w words) (readRows d w memory words 1) memory
-readAfter (suc s) d w memory words = record { answer = refused (suc s); memory = memory }
+unfoldable pub finishRead : Answer → List ℕ → List ℕ → Done
+finishRead answer new memory = record { answer = answer; memory = leaves (answer .status) new memory }
 
 unfoldable pub taken : ℕ → ℕ → List ℕ → List ℕ → Done
-taken d w memory words = readAfter (badShape d w (length memory)) d w memory words
+taken d w memory words = finishRead (readAnswer (badShape d w (length memory)) (checked d w words)) (readRows d w memory words 1) memory

@@ -6,7 +6,7 @@ use lib.Dec.{leb}
 use lib.ListN.{length, take, drop}
 use Rattle.answer.specs.declared.Answer.{Answer}
 use Rattle.group.specs.Group.{validMerge}
-use Rattle.answer.specs.Answers.{accepted, refused}
+use Rattle.answer.specs.Answers.{answerOf, leaves}
 use Rattle.answer.specs.Numbers.{invalidMerge, tooFewWords}
 use Rattle.geometry.specs.Geometry.{stride}
 use Rattle.answer.specs.Order.{unless, firstOf}
@@ -47,8 +47,7 @@ writeStatus d w memory words =
 
 -- Lent words past the image stay.
 unfoldable pub finishWrite : ℕ → List ℕ → List ℕ → Written
-finishWrite zero new words = record { answer = accepted (length new); words = new ++ drop (length new) words }
-finishWrite (suc s) new words = record { answer = refused (suc s); words = words }
+finishWrite status new words = record { answer = answerOf status (length new); words = leaves status (new ++ drop (length new) words) words }
 
 unfoldable pub written : ℕ → ℕ → List ℕ → List ℕ → Written
 written d w memory words = finishWrite (writeStatus d w memory words) (image d w memory) words

@@ -112,7 +112,7 @@ unfolding numbers allRefuse allFit twice calls.recordPair calls.traffic calls.af
     writing.writeStatus writing.finishWrite writing.written reading.checkHead reading.firstBits reading.checkParts reading.checkSlot
     reading.checkSlots reading.checkGroups reading.mergesAt reading.checkFour reading.checkFours reading.checkEnd reading.checked
     reading.valueFrom reading.readSlot reading.readSlots reading.readGroup reading.readGroups reading.afterGroups reading.afterFours
-    reading.readFours reading.readRows reading.finishRead reading.readAfter reading.taken records.opensKey records.opened
+    reading.readFours reading.readRows reading.finishRead reading.readAnswer reading.taken records.opensKey records.opened
     records.keyPayload records.keyWord records.checkKey records.checkAmount records.keyByte records.keyFrom records.amountOf
     records.updateStep records.queryStep records.bodyOf records.updateBody records.queryBody carrying.outcomeOf carrying.carriedUpdate
     carrying.queried carrying.carried carrying.carriedAfter carrying.recorded
