@@ -1,11 +1,11 @@
 // Feeds: one call for the head, and one for each record and for the end. Both take any words, and look at none past the record.
+use answer::Answer;
 pub use feed_head::head;
 pub use feed_head::head_depth;
 pub use feed_head::head_width;
 use feed_records::Body;
 use feed_records::Opening;
 pub use feed_records::words_taken;
-use answer::Answer;
 ghost use mathlib.Core.Path.{_≡_};
 ghost use Prim.Native.Nat.{_≤_};
 ghost use lib.ListN.{length};

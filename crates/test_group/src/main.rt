@@ -1,5 +1,6 @@
 // Cases run by the compiled code; what they print is compared with `stdout` beside src/.
 use group::Group;
+use group::Outcome;
 use hash::Hash;
 use libc::STDOUT_FILENO;
 
@@ -41,7 +42,7 @@ fn lands(row: u8, key: &[u8], w: usize) {
 }
 
 // The status, the eight count bytes from the last slot to the first, and the merge byte.
-fn outcome(o: group::Outcome) {
+fn outcome(o: Outcome) {
     let g = o.group;
     let counts = g.counts;
     decimal(o.status as u64);
@@ -50,10 +51,24 @@ fn outcome(o: group::Outcome) {
     text(b"\n");
 }
 
+// An update as the meter makes it in one row: the group is the first of a row of 32 slots.
+fn update(g: Group, slot: usize, amount: u32) -> Outcome {
+    let mut row = [0u8; 36];
+    geometry::store(&mut row, 32, 0, g);
+    let status = meter_row::update_one(&mut row, 32, slot % 8, amount);
+    Outcome {
+        status,
+        group: geometry::load(&row, 32, 0),
+    }
+}
+
+// The group's own call, and the row's beside it.
 fn add(g: Group, slot: usize, amount: u32) -> Group {
     let o = group::add(g, slot, amount);
     text(b"add");
     outcome(o);
+    text(b"row");
+    outcome(update(g, slot, amount));
     o.group
 }
 
