@@ -4,10 +4,11 @@ use mathlib.Core.Bool.{false}
 use mathlib.Core.List.{List}
 use Prim.Native.Nat.{ℕ, zero, suc}
 use native.Mathlib.Omega.{arith}
-use borrow.Author.Tests.{eqb-false}
+use borrow.Author.Tests.{eqb-true, eqb-false, eq-eqb, ne-eqb}
 use borrow.Table.Steps.{cases}
 use lib.Dec.{eqb}
 use lib.ListN.{length}
+use Rattle.answer.specs.declared.Answer.{Answer}
 use Rattle.answer.specs.Answers.{leaves, finish}
 use Rattle.answer.proofs.Answers.{status-is, left-before}
 use Rattle.geometry.specs.Checks.{badShape}
@@ -21,7 +22,7 @@ use Rattle.feed_keys.specs.Keys.{keyOf}
 use Rattle.feed.specs.declared.Recorded.{Recorded}
 use Rattle.feed.specs.declared.Recorded.the-variants as case
 use Rattle.feed.specs.Answers.{recordAnswer}
-use Rattle.feed.specs.Record.{Carried, outcomeOf, updateOutcome, openedOutcome, recordOutcome, updateMemory, recordMemory, finishRecord, recorded}
+use Rattle.feed.specs.Record.{Carried, refusal, outcomeOf, updateOutcome, openedOutcome, recordOutcome, updateMemory, recordMemory, finishRecord, recorded}
 
 unfoldable pub carriedUpdate : ℕ → ℕ → List ℕ → ℕ → List ℕ → Body → Carried
 carriedUpdate d w memory n words (body.Sound a) =
@@ -37,6 +38,15 @@ carried d w memory words (opening.Refused s) = record { outcome = openedOutcome 
 unfoldable pub carriedAfter : ℕ → ℕ → ℕ → List ℕ → ℕ → List ℕ → Carried
 carriedAfter zero d w memory before words = carried d w memory words (opened before words)
 carriedAfter (suc s) d w memory before words = record { outcome = recordOutcome (suc s) d w memory before words; memory = memory }
+
+-- the outcome by an answer, as the code finds it
+pub outcome-refused : (a : Answer) (r : Recorded) → (a .status ≡ 0 → ⊥) → outcomeOf a r ≡ refusal a
+unfolding outcomeOf
+outcome-refused a r h = rw (ne-eqb (a .status) 0 h)
+
+pub outcome-accepted : (a : Answer) (r : Recorded) → a .status ≡ 0 → outcomeOf a r ≡ r
+unfolding outcomeOf
+outcome-accepted a r h = rw (eq-eqb (a .status) 0 h)
 
 -- an outcome with a memory that is what it leaves
 finished : (o : Recorded) (after before m : List ℕ) → leaves (recordAnswer o .status) after before ≡ m → finishRecord o after before ≡ record { outcome = o; memory = m }
@@ -57,10 +67,11 @@ module _ (d w : ℕ) (memory : List ℕ) where
   update-left : (key : List ℕ) (a : ℕ) →
       let u = updated d w memory key a in
       leaves (recordAnswer (outcomeOf (u .answer) case.Updated) .status) (u .memory) memory ≡ u .memory
-  unfolding leaves outcomeOf updated
+  unfolding leaves updated
   update-left key a =
       let u = updated d w memory key a in
-      cases (eqb (u .answer .status) 0) (λ t. rw t) (λ t. rw (t, t) (sym (meter-keeps _ _ _ memory t)))
+      cases (eqb (u .answer .status) 0) (λ t. rw (outcome-accepted (u .answer) case.Updated (eqb-true _ 0 t)))
+      (λ t. rw (outcome-refused (u .answer) case.Updated (eqb-false _ 0 t), t) (sym (meter-keeps _ _ _ memory t)))
 
   update-by-cases : (n : ℕ) (words : List ℕ)
       → finishRecord (updateOutcome d w memory n words (updateBody n words)) (updateMemory d w memory n words) memory ≡ carriedUpdate d w memory n words (updateBody n words)

@@ -5,14 +5,11 @@ use Prim.Native.Nat.{ℕ, zero, suc, _-_}
 use native.Mathlib.Nat.{sub-zero}
 use native.Mathlib.Omega.{arith}
 use lib.ListN.{length, take}
-use borrow.Author.Tests.{eq-eqb, ne-eqb}
 use Rattle.geometry.specs.Checks.{badShape, badKey}
 use Rattle.meter.specs.Meter.{badCall, estimated}
 use Rattle.meter.proofs.Calls.{call-key}
 use Rattle.feed_records.specs.declared.Body.{Body}
 use Rattle.feed_records.specs.declared.Body.the-variants as body
-use Rattle.answer.specs.declared.Answer.{Answer}
-use Rattle.feed.specs.declared.Recorded.{Recorded}
 use Rattle.feed.specs.declared.Recorded.the-variants as case
 use Rattle.feed_records.specs.Answers.{bodyAnswer}
 use Rattle.feed.specs.Record.{refusal, outcomeOf, updateOutcome, queried, recordOutcome, recorded}
@@ -44,15 +41,6 @@ pub call-passes : (d w : ℕ) (memory : List ℕ) (n : ℕ) (words key : List �
     → badCall d w memory key ≡ 0
 call-passes d w memory n words key s k e =
     sym (call-key d w memory key s) ∙ ap badKey (ap length e ∙ key-length n words 0) ∙ k
-
--- the outcome by an answer, as the code finds it
-pub outcome-refused : (a : Answer) (r : Recorded) → (a .status ≡ 0 → ⊥) → outcomeOf a r ≡ refusal a
-unfolding outcomeOf
-outcome-refused a r h = rw (ne-eqb (a .status) 0 h)
-
-pub outcome-accepted : (a : Answer) (r : Recorded) → a .status ≡ 0 → outcomeOf a r ≡ r
-unfolding outcomeOf
-outcome-accepted a r h = rw (eq-eqb (a .status) 0 h)
 
 -- the part of a buffer that is lent
 pub lent : (n : ℕ) (xs ys : List ℕ) → take n xs ≡ ys → take (n - 0) xs ≡ ys
