@@ -5,25 +5,23 @@ use Prim.Native.Nat.{ℕ, zero, suc, _-_}
 use native.Mathlib.Nat.{sub-zero}
 use native.Mathlib.Omega.{arith}
 use lib.ListN.{length, take}
-use borrow.Author.Tests.{eq-eqb, ne-eqb}
 use Rattle.geometry.specs.Checks.{badShape, badKey}
 use Rattle.meter.specs.Meter.{badCall, estimated}
 use Rattle.meter.proofs.Calls.{call-key}
 use Rattle.feed_records.specs.declared.Body.{Body}
 use Rattle.feed_records.specs.declared.Body.the-variants as body
-use Rattle.answer.specs.declared.Answer.{Answer}
-use Rattle.feed.specs.declared.Recorded.{Recorded}
 use Rattle.feed.specs.declared.Recorded.the-variants as case
 use Rattle.feed_records.specs.Answers.{bodyAnswer}
-use Rattle.feed.specs.Record.{refusal, outcomeOf, carriedUpdate, queried, carried, carriedAfter, recorded}
+use Rattle.feed.specs.Record.{refusal, outcomeOf, updateOutcome, queried, recordOutcome, recorded}
 use Rattle.feed_keys.specs.Keys.{keyOf}
 use Rattle.feed_records.specs.Words.{opened}
 use Rattle.feed_keys.proofs.Laws.{key-length}
 use Rattle.feed_records.proofs.Laws.{HasTag}
+use Rattle.feed.proofs.Cases.{carriedUpdate, carried, carriedAfter, by-cases}
 
 pub update-refused : (d w : ℕ) (memory : List ℕ) (n : ℕ) (words : List ℕ) (b : Body) → HasTag 1 b
     → carriedUpdate d w memory n words b ≡ record { outcome = refusal (bodyAnswer b); memory = memory }
-unfolding carriedUpdate
+unfolding carriedUpdate updateOutcome
 update-refused d w memory n words (body.Sound a) h = absurd (omega arith)
 update-refused d w memory n words (body.Refused s p) h = refl
 
@@ -44,15 +42,6 @@ pub call-passes : (d w : ℕ) (memory : List ℕ) (n : ℕ) (words key : List �
 call-passes d w memory n words key s k e =
     sym (call-key d w memory key s) ∙ ap badKey (ap length e ∙ key-length n words 0) ∙ k
 
--- the outcome by an answer, as the code finds it
-pub outcome-refused : (a : Answer) (r : Recorded) → (a .status ≡ 0 → ⊥) → outcomeOf a r ≡ refusal a
-unfolding outcomeOf
-outcome-refused a r h = rw (ne-eqb (a .status) 0 h)
-
-pub outcome-accepted : (a : Answer) (r : Recorded) → a .status ≡ 0 → outcomeOf a r ≡ r
-unfolding outcomeOf
-outcome-accepted a r h = rw (eq-eqb (a .status) 0 h)
-
 -- the part of a buffer that is lent
 pub lent : (n : ℕ) (xs ys : List ℕ) → take n xs ≡ ys → take (n - 0) xs ≡ ys
 lent n xs ys e = rw (sub-zero n) e
@@ -60,11 +49,11 @@ lent n xs ys e = rw (sub-zero n) e
 -- a call whose own arguments pass, and one whose do not
 pub record-good : (d w : ℕ) (memory : List ℕ) (before : ℕ) (words : List ℕ) → badShape d w (length memory) ≡ 0
     → recorded d w memory before words ≡ carried d w memory words (opened before words)
-unfolding recorded carriedAfter
-record-good d w memory before words e = rw e
+unfolding carriedAfter
+record-good d w memory before words e = by-cases d w memory before words ∙ rw e
 
 pub record-bad : (d w : ℕ) (memory : List ℕ) (before : ℕ) (words : List ℕ) (s : ℕ) → badShape d w (length memory) ≡ s → (s ≡ 0 → ⊥)
     → recorded d w memory before words ≡ record { outcome = case.Refused s 0; memory = memory }
-unfolding recorded carriedAfter
+unfolding carriedAfter recordOutcome
 record-bad d w memory before words zero e h = absurd (h refl)
-record-bad d w memory before words (suc s) e h = rw e
+record-bad d w memory before words (suc s) e h = by-cases d w memory before words ∙ rw e

@@ -11,7 +11,8 @@ use Rattle.feed_records.specs.declared.Body.{Body}
 use Rattle.feed_records.specs.declared.Body.the-variants as body
 use Rattle.feed_keys.specs.Keys.{keyOf}
 use Rattle.feed_records.specs.Words.{opened, updateBody, queryBody, wordsTaken}
-use Rattle.feed.specs.Record.{carriedUpdate, queried, carried, carriedAfter, recorded}
+use Rattle.feed.specs.Record.{updateOutcome, queried, openedOutcome, recordOutcome, recorded}
+use Rattle.feed.proofs.Cases.{carriedUpdate, carried, carriedAfter, by-cases}
 use Rattle.feed_keys.proofs.Places.{key-same}
 use Rattle.feed_records.proofs.Past.{taken, some-taken, opened-taken, update-same, query-same, opened-same}
 
@@ -21,7 +22,7 @@ module _ (words : List ℕ) (n : ℕ) where
 
   module _ (d w : ℕ) (memory : List ℕ) where
     update-carried : (m : ℕ) (b : Body) → keyOf m front ≡ keyOf m words → carriedUpdate d w memory m front b ≡ carriedUpdate d w memory m words b
-    unfolding carriedUpdate
+    unfolding carriedUpdate updateOutcome
     update-carried m (body.Sound a) e = rw e
     update-carried m (body.Refused s p) e = refl
 
@@ -31,19 +32,18 @@ module _ (words : List ℕ) (n : ℕ) where
     query-carried m (body.Refused s p) e = refl
 
     carried-same : (o : Opening) → taken o ≤ n → carried d w memory front o ≡ carried d w memory words o
-    unfolding carried taken
+    unfolding carried openedOutcome taken
     carried-same (opening.Update m) h = rw (update-same words n m h) (update-carried m (updateBody m words) (key-same words n m (omega arith)))
     carried-same (opening.Query m) h = rw (query-same words n m h, query-carried m (queryBody m words) (key-same words n m h))
     carried-same opening.End h = refl
     carried-same (opening.Refused s) h = refl
 
     after-same : (s before : ℕ) → wordsTaken words ≤ n → carriedAfter s d w memory before front ≡ carriedAfter s d w memory before words
-    unfolding carriedAfter
+    unfolding carriedAfter recordOutcome
     after-same zero before h =
         let l = some-taken words in
         rw (opened-same words n before (omega arith)) (carried-same (opened before words) (omega (arith, opened-taken before words)))
     after-same (suc s) before h = refl
 
     pub record-alone : (before : ℕ) → wordsTaken words ≤ n → recorded d w memory before (take n words) ≡ recorded d w memory before words
-    unfolding recorded
-    record-alone before h = after-same (badShape d w (length memory)) before h
+    record-alone before h = rw (by-cases d w memory before front, by-cases d w memory before words) (after-same (badShape d w (length memory)) before h)

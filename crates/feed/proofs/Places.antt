@@ -19,7 +19,7 @@ use Rattle.feed.specs.declared.Recorded.the-variants as case
 use Rattle.feed.specs.Answers.{recordAnswer}
 use Rattle.feed_keys.specs.Keys.{keyWords, keyOf}
 use Rattle.feed_records.specs.Words.{opened, amountOf, updateStep, queryStep, bodyOf, updateBody, queryBody}
-use Rattle.feed.specs.Record.{Carried, outcomeOf, carriedUpdate, queried, carried, carriedAfter, recorded}
+use Rattle.feed.specs.Record.{Carried, outcomeOf, updateOutcome, queried, openedOutcome, recordOutcome, finishRecord, recorded}
 use Rattle.feed_keys.proofs.Places.{key-in}
 use Rattle.feed_records.proofs.Places.{update-in, missing}
 
@@ -41,11 +41,11 @@ outcome-in n a r e h = test (eqb (a .status) 0)
     test true = h
     test false = omega arith
 
-update-place : (d w : ℕ) (memory : List ℕ) (n : ℕ) (words : List ℕ) → 1 ≤ length words → Inside (length words) (carriedUpdate d w memory n words (updateBody n words) .outcome)
-unfolding carriedUpdate updateBody bodyOf updated finish leaves
+update-place : (d w : ℕ) (memory : List ℕ) (n : ℕ) (words : List ℕ) → 1 ≤ length words → Inside (length words) (updateOutcome d w memory n words (updateBody n words))
+unfolding updateOutcome updateBody bodyOf updated finish leaves
 update-place d w memory n words h = test (eqb (updateStep n words .status) 0)
   where
-    test : (t : Bool) → Inside (length words) (carriedUpdate d w memory n words (cond t (body.Sound (amountOf n words)) (body.Refused (updateStep n words .status) (updateStep n words .position))) .outcome)
+    test : (t : Bool) → Inside (length words) (updateOutcome d w memory n words (cond t (body.Sound (amountOf n words)) (body.Refused (updateStep n words .status) (updateStep n words .position))))
     test true = outcome-in (length words) (updated d w memory (keyOf n words) (amountOf n words) .answer) case.Updated (no-place _ _) (omega arith)
     test false = update-in n words h
 
@@ -58,15 +58,15 @@ query-place d w memory n words h = test (eqb (queryStep n words .status) 0)
     test false = key-in (keyWords n) n words 1 h
 
 -- what a first word that is there opens
-carried-in : (d w : ℕ) (memory words : List ℕ) (o : Opening) → 1 ≤ length words → Inside (length words) (carried d w memory words o .outcome)
-unfolding carried
+carried-in : (d w : ℕ) (memory words : List ℕ) (o : Opening) → 1 ≤ length words → Inside (length words) (openedOutcome d w memory words o)
+unfolding openedOutcome
 carried-in d w memory words (opening.Update n) h = update-place d w memory n words h
 carried-in d w memory words (opening.Query n) h = query-place d w memory n words h
 carried-in d w memory words opening.End h = omega arith
 carried-in d w memory words (opening.Refused s) h = omega arith
 
-after-in : (s d w : ℕ) (memory : List ℕ) (before : ℕ) (words : List ℕ) → Inside (length words) (carriedAfter s d w memory before words .outcome)
-unfolding carriedAfter carried
+after-in : (s d w : ℕ) (memory : List ℕ) (before : ℕ) (words : List ℕ) → Inside (length words) (recordOutcome s d w memory before words)
+unfolding recordOutcome openedOutcome
 after-in (suc s) d w memory before words = omega arith
 after-in zero d w memory before words =
     elim (decLt 0 (length words)) [
@@ -75,7 +75,7 @@ after-in zero d w memory before words =
     ]
 
 pub place-in : (d w : ℕ) (memory : List ℕ) (before : ℕ) (words : List ℕ) → Inside (length words) (recorded d w memory before words .outcome)
-unfolding recorded
+unfolding recorded finishRecord
 place-in d w memory before words = after-in (badShape d w (length memory)) d w memory before words
 
 -- what the call's contract says of an outcome and of a memory

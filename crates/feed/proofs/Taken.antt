@@ -13,12 +13,11 @@ use Rattle.feed_records.specs.Words.{opened, updateStep, queryStep, bodyOf, upd
 use Rattle.feed_records.proofs.Past.{some-taken}
 use Rattle.feed_records.proofs.Taken.{fault, opened-status, sound-taken}
 use Rattle.feed.specs.Answers.{recordAnswer}
-use Rattle.feed.specs.Record.{Carried, carriedUpdate, queried, carried, carriedAfter, recorded}
-use Rattle.feed.proofs.Laws.{record-good}
+use Rattle.feed.specs.Record.{updateOutcome, queried, openedOutcome, recordOutcome, finishRecord, recorded}
 
 -- a record with a faulty word is refused by that word
-carried-fault : (d w : ℕ) (memory words : List ℕ) (o : Opening) → (fault words o ≡ 0 → ⊥) → recordAnswer (carried d w memory words o .outcome) .status ≡ fault words o
-unfolding carried carriedUpdate queried updateBody queryBody bodyOf
+carried-fault : (d w : ℕ) (memory words : List ℕ) (o : Opening) → (fault words o ≡ 0 → ⊥) → recordAnswer (openedOutcome d w memory words o) .status ≡ fault words o
+unfolding openedOutcome updateOutcome queried updateBody queryBody bodyOf
 carried-fault d w memory words (opening.Update n) h = rw (ne-eqb (updateStep n words .status) 0 h)
 carried-fault d w memory words (opening.Query n) h = rw (ne-eqb (queryStep n words .status) 0 h)
 carried-fault d w memory words opening.End h = absurd (h refl)
@@ -31,21 +30,22 @@ module _ (d w : ℕ) (memory : List ℕ) (before : ℕ) (words : List ℕ) where
 
   -- numbers 4, 8 and 9 are those of a record's words
   pub taken-in : badShape d w (length memory) ≡ 0 → (number ≡ 4 → ⊥) → (number ≡ 8 → ⊥) → (number ≡ 9 → ⊥) → wordsTaken words ≤ length words
+  unfolding recorded recordOutcome finishRecord
   taken-in shape four eight nine =
       sound-taken before words (⊎-elim (λ e. e) (⊎-elim (λ e. absurd (four (by-word 4 e (λ z. omega arith))))
       (⊎-elim (λ e. absurd (eight (by-word 8 e (λ z. omega arith)))) (λ e. absurd (nine (by-word 9 e (λ z. omega arith)))))) (opened-status before words))
     where
       by-word : (s : ℕ) → fault words (opened before words) ≡ s → (s ≡ 0 → ⊥) → number ≡ s
       by-word s e h =
-          ap (λ (c : Carried). recordAnswer (c .outcome) .status) (record-good d w memory before words shape)
+          ap (λ (z : ℕ). recordAnswer (recordOutcome z d w memory before words) .status) shape
           ∙ carried-fault d w memory words (opened before words) (λ z. h (sym e ∙ z)) ∙ e
 
   -- an accepted call's own arguments have passed
   accepted-shape : number ≡ 0 → badShape d w (length memory) ≡ 0
-  unfolding recorded carriedAfter
+  unfolding recorded recordOutcome finishRecord
   accepted-shape e = after (badShape d w (length memory)) e
     where
-      after : (s : ℕ) → recordAnswer (carriedAfter s d w memory before words .outcome) .status ≡ 0 → s ≡ 0
+      after : (s : ℕ) → recordAnswer (recordOutcome s d w memory before words) .status ≡ 0 → s ≡ 0
       after zero h = refl
       after (suc s) h = absurd (omega arith)
 

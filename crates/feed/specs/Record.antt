@@ -5,6 +5,7 @@ use mathlib.Core.List.{List}
 use lib.Dec.{eqb}
 use lib.ListN.{length}
 use Rattle.answer.specs.declared.Answer.{Answer}
+use Rattle.answer.specs.Answers.{leaves}
 use Rattle.geometry.specs.Checks.{badShape}
 use Rattle.meter.specs.Meter.{updated, estimated}
 use Rattle.feed_records.specs.declared.Opening.{Opening}
@@ -15,7 +16,8 @@ use Rattle.feed.specs.declared.Recorded.{Recorded}
 use Rattle.feed.specs.declared.Recorded.the-variants as case
 use Rattle.feed_records.specs.Answers.{openingAnswer, bodyAnswer}
 use Rattle.feed_keys.specs.Keys.{keyOf}
-use Rattle.feed_records.specs.Words.{opened, updateBody, queryBody}
+use Rattle.feed_records.specs.Words.{opened, amountOf, updateBody, queryBody}
+use Rattle.feed.specs.Answers.{recordAnswer}
 
 -- what the call answers and leaves in the memory
 pub record Carried : Type 0 where
@@ -26,14 +28,14 @@ pub record Carried : Type 0 where
 abbrev pub refusal : Answer → Recorded
 refusal a = case.Refused (a .status) (a .position)
 
--- an update by record is the meter's update with the record's key and amount
+-- what was asked of the meter, or the meter's refusal
 unfoldable pub outcomeOf : Answer → Recorded → Recorded
 outcomeOf a r = cond (eqb (a .status) 0) r (refusal a)
 
-unfoldable pub carriedUpdate : ℕ → ℕ → List ℕ → ℕ → List ℕ → Body → Carried
-carriedUpdate d w memory n words (body.Sound a) =
-    record { outcome = outcomeOf (updated d w memory (keyOf n words) a .answer) case.Updated; memory = updated d w memory (keyOf n words) a .memory }
-carriedUpdate d w memory n words (body.Refused s p) = record { outcome = refusal (bodyAnswer (body.Refused s p)); memory = memory }
+-- an update by record is the meter's update with the record's key and amount
+unfoldable pub updateOutcome : ℕ → ℕ → List ℕ → ℕ → List ℕ → Body → Recorded
+updateOutcome d w memory n words (body.Sound a) = outcomeOf (updated d w memory (keyOf n words) a .answer) case.Updated
+updateOutcome d w memory n words (body.Refused s p) = refusal (bodyAnswer (body.Refused s p))
 
 -- a query is the meter's estimate of the record's key
 unfoldable pub queried : ℕ → ℕ → List ℕ → ℕ → List ℕ → Body → Recorded
@@ -42,16 +44,31 @@ queried d w memory n words (body.Sound a) =
 queried d w memory n words (body.Refused s p) = refusal (bodyAnswer (body.Refused s p))
 
 -- each record is opened only after its kind and key length pass
-unfoldable pub carried : ℕ → ℕ → List ℕ → List ℕ → Opening → Carried
-carried d w memory words (opening.Update n) = carriedUpdate d w memory n words (updateBody n words)
-carried d w memory words (opening.Query n) = record { outcome = queried d w memory n words (queryBody n words); memory = memory }
-carried d w memory words opening.End = record { outcome = case.Ended; memory = memory }
-carried d w memory words (opening.Refused s) = record { outcome = refusal (openingAnswer (opening.Refused s)); memory = memory }
+unfoldable pub openedOutcome : ℕ → ℕ → List ℕ → List ℕ → Opening → Recorded
+openedOutcome d w memory words (opening.Update n) = updateOutcome d w memory n words (updateBody n words)
+openedOutcome d w memory words (opening.Query n) = queried d w memory n words (queryBody n words)
+openedOutcome d w memory words opening.End = case.Ended
+openedOutcome d w memory words (opening.Refused s) = refusal (openingAnswer (opening.Refused s))
 
 -- the call's own d, w and memory come before the words
-unfoldable pub carriedAfter : ℕ → ℕ → ℕ → List ℕ → ℕ → List ℕ → Carried
-carriedAfter zero d w memory before words = carried d w memory words (opened before words)
-carriedAfter (suc s) d w memory before words = record { outcome = case.Refused (suc s) 0; memory = memory }
+unfoldable pub recordOutcome : ℕ → ℕ → ℕ → List ℕ → ℕ → List ℕ → Recorded
+recordOutcome zero d w memory before words = openedOutcome d w memory words (opened before words)
+recordOutcome (suc s) d w memory before words = case.Refused (suc s) 0
+
+-- what an accepted record or end leaves: only an update changes the memory
+unfoldable pub updateMemory : ℕ → ℕ → List ℕ → ℕ → List ℕ → List ℕ
+updateMemory d w memory n words = updated d w memory (keyOf n words) (amountOf n words) .memory
+
+unfoldable pub recordMemory : ℕ → ℕ → List ℕ → List ℕ → Opening → List ℕ
+recordMemory d w memory words (opening.Update n) = updateMemory d w memory n words
+recordMemory d w memory words (opening.Query n) = memory
+recordMemory d w memory words opening.End = memory
+recordMemory d w memory words (opening.Refused s) = memory
+
+-- refused, it leaves the memory as it was
+unfoldable pub finishRecord : Recorded → List ℕ → List ℕ → Carried
+finishRecord outcome after before = record { outcome = outcome; memory = leaves (recordAnswer outcome .status) after before }
 
 unfoldable pub recorded : ℕ → ℕ → List ℕ → ℕ → List ℕ → Carried
-recorded d w memory before words = carriedAfter (badShape d w (length memory)) d w memory before words
+recorded d w memory before words =
+    finishRecord (recordOutcome (badShape d w (length memory)) d w memory before words) (recordMemory d w memory words (opened before words)) memory

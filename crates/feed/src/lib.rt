@@ -14,7 +14,7 @@ ghost use Rattle.feed_records.specs.Answers.{bodyAnswer};
 ghost use Rattle.feed.specs.Answers.{recordAnswer};
 ghost use Rattle.feed_records.specs.Words.{updateBody, queryBody};
 ghost use Rattle.feed.specs.Record as spec;
-ghost use Rattle.feed.specs.Record.{carriedUpdate, queried, recorded};
+ghost use Rattle.feed.specs.Record.{updateOutcome, queried, updateMemory, finishRecord, recorded};
 
 // What a record or the end did.
 pub enum Recorded {
@@ -61,8 +61,8 @@ fn refused(b: Body) -> Recorded
 // An update by record, with a key of n bytes. The geometry and the key's length were tested before any of its words.
 fn update(d: usize, w: usize, memory: &mut [u8], n: usize, words: &[u32]) -> Recorded
     requires { ⌜ badShape d w (length (now memory)) ≡ 0 ⌝ ∗ ⌜ badKey n ≡ 0 ⌝ }
-    ensures { λ r. ⌜ r ≡ carriedUpdate d w (now (memory .entry)) n (now (words .entry)) (updateBody n (now (words .entry))) .outcome ⌝ }
-    ensures { λ r. ⌜ now (memory .exit) ≡ carriedUpdate d w (now (memory .entry)) n (now (words .entry)) (updateBody n (now (words .entry))) .memory ⌝ }
+    ensures { λ r. ⌜ r ≡ updateOutcome d w (now (memory .entry)) n (now (words .entry)) (updateBody n (now (words .entry))) ⌝ }
+    ensures { λ r. ⌜ now (memory .exit) ≡ finishRecord r (updateMemory d w (now (memory .entry)) n (now (words .entry))) (now (memory .entry)) .memory ⌝ }
 {
     let mut key = [0u8; 66];
     let b = feed_records::update_body(words, n, &mut key);

@@ -25,7 +25,8 @@ use Rattle.feed_records.proofs.Places.{update-in}
 use Rattle.feed_records.proofs.Past.{opened-same}
 use Rattle.feed.specs.declared.Recorded.{Recorded}
 use Rattle.feed.specs.declared.Recorded.the-variants as case
-use Rattle.feed.specs.Record.{Carried, outcomeOf, carriedUpdate, queried, carried, carriedAfter, recorded}
+use Rattle.feed.specs.Record.{Carried, outcomeOf, updateOutcome, queried, openedOutcome, recordOutcome, recorded}
+use Rattle.feed.proofs.Cases.{carriedUpdate, carried, carriedAfter, by-cases}
 use Rattle.feed.proofs.Laws.{record-good}
 use Rattle.feed.proofs.Past.{record-alone}
 use Rattle.feed_text.specs.declared.Line.{Line}
@@ -158,7 +159,7 @@ module _ (d w : ℕ) (memory : List ℕ) (before : ℕ) (words : List ℕ) (shap
       → P (record { outcome = outcomeOf (estimated d w memory key) (case.Estimate (estimated d w memory key .value)); memory = memory }))
       (ends : wordsTaken words ≤ length words → P (record { outcome = case.Ended; memory = memory })) where
     sound : P (carried d w memory words (opened before words))
-    unfolding carried opened opensKey updateBody queryBody bodyOf carriedUpdate queried
+    unfolding carried openedOutcome opened opensKey updateBody queryBody bodyOf carriedUpdate updateOutcome queried
     sound =
         let n = payload words 0 in
         by-test (isDue words 0 updateKind)
@@ -225,10 +226,10 @@ long-refused before words =
 
 -- A call that is lent the words of the longest record does what one does that is lent all of them.
 pub record-lent : (d w : ℕ) (memory : List ℕ) (before : ℕ) (words : List ℕ) → recorded d w memory before (take 25 words) ≡ recorded d w memory before words
-unfolding recorded carriedAfter carried
+unfolding carriedAfter recordOutcome carried openedOutcome
 record-lent d w memory before words =
     elim (decLt 25 (wordsTaken words)) [
-      | yes l ↦ after (badShape d w (length memory)) l
+      | yes l ↦ by-cases d w memory before (take 25 words) ∙ after (badShape d w (length memory)) l ∙ sym (by-cases d w memory before words)
       | no l ↦ record-alone words 25 d w memory before (omega arith)
     ]
   where

@@ -15,7 +15,8 @@ use Rattle.feed.specs.declared.Recorded.{Recorded}
 use Rattle.feed.specs.declared.Recorded.the-variants as case
 use Rattle.feed.specs.Answers.{recordAnswer}
 use Rattle.feed_records.specs.Words.{updateKind, queryKind, opensKey, opened, keyOf, amountOf, updateStep, queryStep, bodyOf, updateBody, queryBody}
-use Rattle.feed.specs.Record.{Carried, outcomeOf, carriedUpdate, queried, carried, carriedAfter, recorded}
+use Rattle.feed.specs.Record.{Carried, outcomeOf, updateOutcome, queried, openedOutcome, recordOutcome, recorded}
+use Rattle.feed.proofs.Cases.{carriedUpdate, carried, carriedAfter, by-cases}
 use borrow.Table.Steps.{cases}
 
 module _ (d w : ℕ) (memory : List ℕ) (before : ℕ) (words : List ℕ) where
@@ -32,7 +33,7 @@ module _ (d w : ℕ) (memory : List ℕ) (before : ℕ) (words : List ℕ) where
       (queries : isDue words 0 updateKind ≡ false → isDue words 0 queryKind ≡ true → P (record { outcome = outcomeOf (estimated d w memory key) (case.Estimate (estimated d w memory key .value)); memory = memory }))
       (ends : isDue words 0 updateKind ≡ false → isDue words 0 queryKind ≡ false → P (record { outcome = case.Ended; memory = memory })) where
     sound : P (carried d w memory words (opened before words))
-    unfolding carried opened opensKey updateBody queryBody bodyOf carriedUpdate queried
+    unfolding carried openedOutcome opened opensKey updateBody queryBody bodyOf carriedUpdate updateOutcome queried
     sound =
         let n = payload words 0 in
         cases (isDue words 0 updateKind)
@@ -52,13 +53,12 @@ module _ (d w : ℕ) (memory : List ℕ) (before : ℕ) (words : List ℕ) where
         (λ e. rw e (refuses 8 0 refl))))))
 
     after : (s : ℕ) → P (carriedAfter s d w memory before words)
-    unfolding carriedAfter
+    unfolding carriedAfter recordOutcome
     after zero = sound
     after (suc s) = refuses (suc s) 0 (eqb·suc-zero s)
 
     pub record-cases : P (recorded d w memory before words)
-    unfolding recorded
-    record-cases = after (badShape d w (length memory))
+    record-cases = rw (by-cases d w memory before words) (after (badShape d w (length memory)))
 
 -- an outcome is accepted as what it carries out
 pub outcome-status : (a : Answer) (r : Recorded) → recordAnswer r .status ≡ 0 → eqb (recordAnswer (outcomeOf a r) .status) 0 ≡ eqb (a .status) 0

@@ -114,8 +114,8 @@ unfolding numbers allRefuse allFit twice calls.recordPair calls.traffic calls.af
     reading.valueFrom reading.readSlot reading.readSlots reading.readGroup reading.readGroups reading.afterGroups reading.afterFours
     reading.readFours reading.readRows reading.finishRead reading.readAnswer reading.taken records.opensKey records.opened
     records.keyPayload records.keyWord records.checkKey records.checkAmount records.keyByte records.keyFrom records.amountOf
-    records.updateStep records.queryStep records.bodyOf records.updateBody records.queryBody carrying.outcomeOf carrying.carriedUpdate
-    carrying.queried carrying.carried carrying.carriedAfter carrying.recorded
+    records.updateStep records.queryStep records.bodyOf records.updateBody records.queryBody carrying.outcomeOf carrying.updateOutcome
+    carrying.queried carrying.openedOutcome carrying.recordOutcome carrying.updateMemory carrying.recordMemory carrying.finishRecord carrying.recorded
 computed =
     let other-is : Faithful 1 32 other = ((((tt, refl, took tt), refl, took tt), refl, took tt), refl, took (tt, refl, took tt)) in
     let mixed-is : Faithful 1 32 mixed

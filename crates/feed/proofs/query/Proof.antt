@@ -10,7 +10,8 @@ use Rattle.feed_keys.specs.Keys.{keyOf}
 use Rattle.feed_records.specs.Words.{queryBody}
 use Rattle.feed.specs.Record.{refusal, outcomeOf, queried}
 use Rattle.feed_records.proofs.Laws.{key-short, sound-answer}
-use Rattle.feed.proofs.Laws.{lent, call-passes, outcome-refused, outcome-accepted, query-refused, query-sound}
+use Rattle.feed.proofs.Cases.{outcome-refused, outcome-accepted}
+use Rattle.feed.proofs.Laws.{lent, call-passes, query-refused, query-sound}
 use Rattle.feed.proofs.query.Statement.{statement}
 use Rattle.feed.proofs.query.Tie as tie
 

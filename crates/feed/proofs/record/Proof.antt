@@ -4,7 +4,8 @@ use Rattle.feed.proofs.Laws.{record-good, record-bad}
 use mathlib.Core.Path.{_≡_, refl, sym, ap, _∙_}
 use lib.ListN.{length}
 use Rattle.geometry.specs.Checks.{badShape}
-use Rattle.feed.specs.Record.{carried, recorded}
+use Rattle.feed.specs.Record.{openedOutcome, recorded}
+use Rattle.feed.proofs.Cases.{carried, told}
 use borrow.Author.Needs.{needs}
 use Rattle.feed.proofs.record.Statement.{statement}
 use Rattle.feed.proofs.record.Tie as tie
@@ -63,31 +64,32 @@ same-length : tie.Need-same-length
 same-length c = search needs
 
 returns-2 : tie.Need-returns-2
-unfolding carried
+unfolding carried openedOutcome
 returns-2 c = let f = c .before .before .before .before .before .before .before in
     let a = f .before .before .before .before .before .args in
     let e = opened-is f ∙ ap (carried (a .d) (a .w) (a .memory .now) (a .words .now)) (c .before .before .before .before .before .first .given .1) in
-    all-of (a .d) (a .w) (a .memory .now) (a .before) (a .words .now) _ _ _ e (c .before .before .update .ensures .0) (c .before .before .update .ensures .1)
+    let u = told (a .d) (a .w) (a .memory .now) _ (a .words .now) _ _ (c .before .before .update .ensures) in
+    all-of (a .d) (a .w) (a .memory .now) (a .before) (a .words .now) _ _ _ e (u .0) (u .1)
 
 same-length-2 : tie.Need-same-length-2
 same-length-2 c = search needs
 
 returns-3 : tie.Need-returns-3
-unfolding carried
+unfolding carried openedOutcome
 returns-3 c = let f = c .before .before .before .before .before in
     let a = f .before .before .before .before .before .args in
     let e = opened-is f ∙ ap (carried (a .d) (a .w) (a .memory .now) (a .words .now)) (c .before .before .before .first2 .given .1) in
     all-of (a .d) (a .w) (a .memory .now) (a .before) (a .words .now) _ _ _ e (c .query .ensures) refl
 
 returns-4 : tie.Need-returns-4
-unfolding carried
+unfolding carried openedOutcome
 returns-4 c = let f = c .before .before in
     let a = f .before .before .before .before .before .args in
     let e = opened-is f ∙ ap (carried (a .d) (a .w) (a .memory .now) (a .words .now)) (is-end (f .first-word .result) (c .before .match .keys3)) in
     all-of (a .d) (a .w) (a .memory .now) (a .before) (a .words .now) _ _ _ e refl refl
 
 returns-5 : tie.Need-returns-5
-unfolding carried
+unfolding carried openedOutcome
 returns-5 c = let f = c .before .before .before in
     let a = f .before .before .before .before .before .args in
     let e = opened-is f ∙ ap (carried (a .d) (a .w) (a .memory .now) (a .words .now)) (c .before .first3 .given .1) in

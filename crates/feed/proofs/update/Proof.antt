@@ -11,9 +11,11 @@ use Rattle.feed.specs.declared.Recorded.the-variants as case
 use Rattle.feed_records.specs.Answers.{bodyAnswer}
 use Rattle.feed_keys.specs.Keys.{keyOf}
 use Rattle.feed_records.specs.Words.{updateBody}
-use Rattle.feed.specs.Record.{Carried, refusal, outcomeOf, carriedUpdate}
+use Rattle.feed.specs.declared.Recorded.{Recorded}
+use Rattle.feed.specs.Record.{Carried, refusal, outcomeOf, updateOutcome, updateMemory, finishRecord}
 use Rattle.feed_records.proofs.Laws.{key-short}
-use Rattle.feed.proofs.Laws.{lent, call-passes, outcome-refused, outcome-accepted, update-refused}
+use Rattle.feed.proofs.Cases.{carriedUpdate, outcome-refused, outcome-accepted, tell}
+use Rattle.feed.proofs.Laws.{lent, call-passes, update-refused}
 use Rattle.feed.proofs.update.Statement.{statement}
 use Rattle.feed.proofs.update.Tie as tie
 
@@ -50,10 +52,20 @@ called-is k =
     )
 
 meant-is : (k : tie.After-update-checked) → meant k ≡ record { outcome = outcomeOf (called k .answer) case.Updated; memory = called k .memory }
-unfolding carriedUpdate
+unfolding carriedUpdate updateOutcome
 meant-is k =
     let b = k .before .before .before .before .before in
     rw (sym (b .before .before .before .update-body .ensures .0) ∙ b .b .given .1)
+
+-- the contract, by the outcome and memory of that update
+told-as : (k : tie.After-update-checked) (r : Recorded) (m : List ℕ) → r ≡ outcomeOf (called k .answer) case.Updated → m ≡ called k .memory →
+    let a = k .before .before .before .before .before .before .before .before .before .before .before .before .args in
+    (r ≡ updateOutcome (a .d) (a .w) (a .memory .now) (a .n) (a .words .now) (updateBody (a .n) (a .words .now)))
+    × (m ≡ finishRecord r (updateMemory (a .d) (a .w) (a .memory .now) (a .n) (a .words .now)) (a .memory .now) .memory)
+told-as k r m e f =
+    let a = k .before .before .before .before .before .before .before .before .before .before .before .before .args in
+    let z = sym (meant-is k) in
+    tell (a .d) (a .w) (a .memory .now) (a .n) (a .words .now) r m (e ∙ ap (λ (c : Carried). c .outcome) z) (f ∙ ap (λ (c : Carried). c .memory) z)
 
 slice-aggregate-update-body : tie.Need-slice-aggregate-update-body
 slice-aggregate-update-body c = search needs
@@ -74,7 +86,8 @@ returns : tie.Need-returns
 returns c = let u = c .before .before .before .before .update-body in
     let a = c .before .before .before .before .before .before .before .before .args in
     let e = update-refused (a .d) (a .w) (a .memory .now) (a .n) (a .words .now) (u .result) (c .before .before .match .keys2) in
-    rw (← u .ensures .0, e) (c .refused .ensures, refl)
+    let b = u .ensures .0 in
+    tell (a .d) (a .w) (a .memory .now) (a .n) (a .words .now) _ _ (rw (← b, e) (c .refused .ensures)) (rw (← b, e))
 
 sub-update-checked : tie.Need-sub-update-checked
 sub-update-checked c = search needs
@@ -102,7 +115,7 @@ returns-2 : tie.Need-returns-2
 returns-2 c = let k = c .before .before .before .before .before in
     let z = called-is k in
     let t = outcome-refused (called k .answer) case.Updated (λ h. c .before .if1 .taken (ap (λ (x : Answer). x .status) (z .0) ∙ h)) in
-    rw (meant-is k) (c .refusal .ensures ∙ ap refusal (z .0) ∙ sym t, z .1)
+    told-as k _ _ (c .refusal .ensures ∙ ap refusal (z .0) ∙ sym t) (z .1)
 
 same-length-2 : tie.Need-same-length-2
 same-length-2 c = search needs
@@ -111,7 +124,7 @@ returns-3 : tie.Need-returns-3
 returns-3 c = let k = c .before .before .before .before in
     let z = called-is k in
     let t = outcome-accepted (called k .answer) case.Updated (ap (λ (x : Answer). x .status) (sym (z .0)) ∙ c .if1 .left) in
-    rw (meant-is k) (sym t, z .1)
+    told-as k _ _ (sym t) (z .1)
 
 pub update-spec : {M : Type 1} → statement M
 update-spec =
