@@ -1,7 +1,7 @@
 // A feed's run without its input and output: the head's line, a cleared meter, and one step for each record and the end.
+use answer::Answer;
 use feed::Recorded;
 use feed_text::Line;
-use answer::Answer;
 ghost use mathlib.Core.Path.{_≡_};
 ghost use Prim.Native.Nat.{_+_, _^_, _<_, _≤_};
 ghost use lib.ListN.{length, replicate};

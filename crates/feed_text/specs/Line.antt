@@ -1,4 +1,4 @@
--- The program's lines and their text; contracts and theorems cite them. Document 01, 'The program's lines'.
+-- The program's lines and their text. Document 01, 'The program's lines'. Cited by contracts and theorems.
 use Prim.Native.Nat.{ℕ}
 use mathlib.Core.Bool.{Bool, true, false, cond, _||_}
 use mathlib.Core.List.{List, [], _∷_, _++_}

@@ -1,4 +1,4 @@
--- A group's calls. Document 01, 'Rows, groups and blocks' and 'Updating, asking, uniting'.
+-- A group's calls. Document 01, 'Rows, groups and blocks' and 'Updating, asking, uniting'. Cited by contracts and theorems.
 use Prim.Native.Nat.{ℕ, _+_, _%_}
 use mathlib.Core.Bool.{Bool, cond, _&&_}
 use lib.Dec.{ltb}

@@ -32,9 +32,9 @@ Sane n w m = (w < cap n) × (valid n m ≡ true)
 abbrev pub Apt : ℕ → Summed → Type 0
 Apt n s = s .over ≡ false → Sane n (s .word) (s .merge)
 
--- the sum of the counters of two blocks
-abbrev pub bothTotal : ℕ → ℕ → ℕ → ℕ → ℕ → ℕ
-bothTotal n w m w′ m′ = total (block n w m) + total (block n w′ m′)
+-- the counters of two blocks sum up to a number of 64 bits
+abbrev pub SumFits : ℕ → ℕ → ℕ → ℕ → ℕ → Type 0
+SumFits n w m w′ m′ = total (block n w m) + total (block n w′ m′) < 2 ^ 64
 
 -- whether the count bytes of two blocks, taken as numbers, may be added for their union: they have one layout, and the union keeps it
 abbrev pub addsInPlace : ℕ → ℕ → ℕ → ℕ → ℕ → Bool

@@ -1,4 +1,4 @@
--- Document 01's group cases P1 to P12, as one table. The theorem cases-hold cites it.
+-- Document 01's group cases P1 to P12, as one table. Cited by theorems.
 use Prim.Native.Nat.{ℕ}
 use mathlib.Core.Path.{_≡_}
 use mathlib.Core.List.{List, [], _∷_}

@@ -1,4 +1,4 @@
--- The words of an image. Document 01, 'Images and feeds'. Contracts of writing and reading and the theorems cite it.
+-- The words of an image. Document 01, 'Images and feeds'. Cited by contracts and theorems.
 use Prim.Native.Nat.{ℕ, zero, suc, _+_, _*_, _/_, _%_, _^_}
 use mathlib.Core.Bool.{Bool, cond}
 use mathlib.Core.List.{List, [], _∷_, _++_}

@@ -1,4 +1,4 @@
--- Reading an image. Document 01, 'Images and feeds' and 'Turned away, in checking order'. The contract of reading and the theorems cite it.
+-- Reading an image. Document 01, 'Images and feeds' and 'Turned away, in checking order'. Cited by contracts and theorems.
 use Prim.Native.Nat.{ℕ, zero, suc, _+_, _-_, _*_, _/_, _%_, _^_}
 use mathlib.Core.Bool.{cond}
 use mathlib.Core.List.{List, [], _∷_, _++_}

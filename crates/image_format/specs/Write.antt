@@ -1,4 +1,4 @@
--- Writing an image. Document 01, 'Images and feeds' and 'Turned away, in checking order'. The contract of writing and the theorems cite it.
+-- Writing an image. Document 01, 'Images and feeds' and 'Turned away, in checking order'. Cited by contracts and theorems.
 use Prim.Native.Nat.{ℕ, zero, suc, _+_}
 use mathlib.Core.Bool.{Bool, true, cond, _&&_}
 use mathlib.Core.List.{List, [], _∷_, _++_}

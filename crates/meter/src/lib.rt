@@ -1,10 +1,10 @@
 // A meter in lent memory: clearing, updates, estimates, the widest level and unions. Every call takes any depth, width, memory and
 // key, and answers by document 01's number, place and figure. A refused call leaves the memory as it was. The two named `checked` are for
 // callers that have made the tests before them.
+use answer::Answer;
 use answer::answer_of;
 use geometry::bad_key;
 use geometry::bad_shape;
-use answer::Answer;
 use hash::Hash;
 use meter_keys::key_slots;
 use meter_keys::row_slot;

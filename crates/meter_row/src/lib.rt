@@ -1,8 +1,8 @@
 // What each call does in one row.
+use answer::Answer;
 use answer::earlier;
 use geometry::load;
 use geometry::store;
-use answer::Answer;
 use group::Group;
 use group::Outcome;
 use group::Reading;

@@ -1,8 +1,8 @@
 // The rows of a meter one after another: trying and storing an update by the slots of the rows, reading counters, the widest level and
 // unions. Every row is tried before any is written.
+use answer::Answer;
 use answer::earlier;
 use geometry::row_at;
-use answer::Answer;
 use group::Group;
 ghost use mathlib.Core.Path.{_≡_};
 ghost use mathlib.Core.Bool.{cond};
