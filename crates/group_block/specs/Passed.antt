@@ -5,13 +5,13 @@ use mathlib.Core.Path.{_≡_}
 use mathlib.Core.Bool.{Bool, true, false, cond, not, _&&_}
 use lib.Dec.{eqb}
 use Rattle.group_layout.specs.Layout.{marks, valid}
-use Rattle.group_block.specs.Block.{cap, shape, word, block, total}
+use Rattle.group_block.specs.Block.{cap, shape, numberOf, block, total}
 use Rattle.group_block.specs.Sum.{Sum, fits, over, unite}
 use Rattle.group_block.specs.declared.Summed.{Summed}
 
 -- a Sum: a block's count bytes as one number and its merge bits, or the sum
 unfoldable pub summed : {n : ℕ} → Sum n → Summed
-summed (fits b) = record { over = false; word = word b; merge = marks (shape b) }
+summed (fits b) = record { over = false; word = numberOf b; merge = marks (shape b) }
 summed (over s) = record { over = true; word = s; merge = 0 }
 
 unfoldable pub sumOf : (n : ℕ) → Summed → Sum n
