@@ -1,4 +1,4 @@
--- The call for one record or the end: cited by contracts. Document 01, 'Images and feeds', 'Turned away, in checking order'.
+-- The call for one record or the end. Document 01, 'Images and feeds', 'Turned away, in checking order'. Cited by contracts.
 use Prim.Native.Nat.{ℕ, zero, suc}
 use mathlib.Core.Bool.{cond}
 use mathlib.Core.List.{List}

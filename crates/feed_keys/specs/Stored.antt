@@ -1,4 +1,4 @@
--- The buffer that a key's bytes are taken into: the code's own term. No contract of a call of the product cites it.
+-- The buffer that a key's bytes are taken into. The code's own terms.
 use Prim.Native.Nat.{ℕ, _+_, _*_, _/_, _%_}
 use mathlib.Core.List.{List}
 use lib.ListN.{set}

@@ -1,4 +1,4 @@
--- Bounds that the code's functions pass on to each other: its own terms.
+-- Bounds that the code's functions pass on to each other. The code's own terms.
 use Prim.Native.Nat.{ℕ, _≤_}
 use mathlib.Core.Path.{_≡_}
 use mathlib.Core.Bool.{true}

@@ -1,4 +1,4 @@
--- Short feeds and their lines; the theorem that the definition gives them cites it.
+-- Short feeds and their lines by the definition. Cited by theorems.
 use Prim.Native.Nat.{ℕ}
 use mathlib.Core.Path.{_≡_}
 use mathlib.Core.List.{List, [], _∷_}

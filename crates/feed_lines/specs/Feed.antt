@@ -1,4 +1,4 @@
--- The lines of a whole feed, from its bytes; contracts and theorems cite them. Document 01, 'The program's lines'.
+-- The lines of a whole feed, from its bytes. Document 01, 'The program's lines'. Cited by contracts and theorems.
 use Prim.Native.Nat.{ℕ, zero, suc, _+_, _*_}
 use mathlib.Core.Bool.{cond}
 use mathlib.Core.List.{List, [], _∷_}

@@ -1,4 +1,4 @@
--- The line of a head's and of a record's answer; contracts and theorems cite them. Document 01, 'The program's lines'.
+-- The line of a head's and of a record's answer. Document 01, 'The program's lines'. Cited by contracts and theorems.
 use Prim.Native.Nat.{ℕ, _+_}
 use mathlib.Core.Bool.{cond}
 use lib.Dec.{eqb, leb}

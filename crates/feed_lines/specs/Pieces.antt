@@ -1,4 +1,4 @@
--- A feed that comes in pieces, one step after another as the program goes; the theorem that its lines are the whole feed's cites it.
+-- A feed that comes in pieces, one step after another as the program goes: its lines are the whole feed's. Cited by theorems.
 use Prim.Native.Nat.{ℕ, zero, suc, _*_}
 use mathlib.Core.Bool.{cond}
 use mathlib.Core.List.{List, [], _∷_, _++_}

@@ -1,4 +1,4 @@
--- One step of a run on the words lent, and the lines that are left; contracts and theorems cite it.
+-- One step of a run on the words lent, and the lines that are left. Cited by contracts and theorems.
 use Prim.Native.Nat.{ℕ, suc, _+_, _*_, _≤_}
 use mathlib.Core.Logic.{_⊎_}
 use mathlib.Core.Path.{_≡_}

@@ -17,7 +17,7 @@ use denote.Enum.Declared.{tagOf}
 use Rattle.feed_text.specs.declared.Line.{Line}
 use Rattle.feed_text.specs.declared.Line.the-variants as line
 use Rattle.feed_text.proofs.Line as the-line
-use Rattle.feed_text.specs.Line.{continues, isEnd, updatedWord, text}
+use Rattle.feed_text.specs.Line.{continues, isEnd, updatedLabel, text}
 use Rattle.feed_text.specs.Text.{digitsBefore, decimal, numberAfter}
 use Rattle.feed_text.specs.Words.{wordOf, wholeWords}
 
@@ -125,7 +125,7 @@ unfolding decimal numberAfter
 decimal-value n h = after-digits 20 n [] (omega arith) (omega arith)
 
 -- the second of the cases of a line
-pub text-updated : (l : Line) → OneOf (1 ∷ []) (tagOf the-line.the-type l) → text l ≡ updatedWord
+pub text-updated : (l : Line) → OneOf (1 ∷ []) (tagOf the-line.the-type l) → text l ≡ updatedLabel
 unfolding text
 text-updated (line.Geometry d w) h = absurd (omega arith)
 text-updated line.Updated h = refl

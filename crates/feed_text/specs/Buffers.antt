@@ -1,4 +1,4 @@
--- A number's digits as the code holds them: its own terms.
+-- A number's digits as the code holds them. The code's own terms.
 use Prim.Native.Nat.{ℕ}
 use mathlib.Core.List.{List}
 use lib.ListN.{drop}

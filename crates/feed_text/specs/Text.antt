@@ -1,4 +1,4 @@
--- A line's text and decimal numbers, in ASCII; contracts and theorems cite them. Document 01, 'The program's lines'.
+-- A line's text and decimal numbers, in ASCII. Document 01, 'The program's lines'. Cited by contracts and theorems.
 use Prim.Native.Nat.{ℕ, zero, suc, _+_, _-_, _*_, _/_, _%_}
 use mathlib.Core.Bool.{cond}
 use mathlib.Core.List.{List, [], _∷_}

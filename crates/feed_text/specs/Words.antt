@@ -1,4 +1,4 @@
--- Words from bytes, high byte first; contracts and theorems cite them. Document 01, 'The program's lines'.
+-- Words from bytes, high byte first. Document 01, 'The program's lines'. Cited by contracts and theorems.
 use Prim.Native.Nat.{ℕ, _+_, _*_, _^_}
 use mathlib.Core.List.{List, [], _∷_}
 

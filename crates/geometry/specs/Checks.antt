@@ -1,4 +1,4 @@
--- Lines 1 to 4 of document 01's list: the tests of a call's own arguments. Cited by contracts. Cited by contracts.
+-- Lines 1 to 4 of document 01's list: the tests of a call's own arguments. Cited by contracts.
 use Prim.Native.Nat.{ℕ}
 use mathlib.Core.Bool.{Bool, _&&_}
 use mathlib.Core.List.{[], _∷_}

@@ -8,7 +8,7 @@ use lib.ListN.{getD, replicate}
 use Rattle.group_bytes.specs.Bytes.{number, bytes}
 use Rattle.group_bytes.proofs.Bytes.{number-bytes, bytes-length}
 use Rattle.group_layout.specs.Layout.{layout, valid}
-use Rattle.group_block.specs.Block.{Block, cap, Fits, shape, word, block, counterAt}
+use Rattle.group_block.specs.Block.{Block, cap, Fits, shape, numberOf, block, counterAt}
 use Rattle.group_block.specs.Change.{change}
 use Rattle.group_block.proofs.Laws.{word-lt, shape-fill, fill-word, block-fits}
 use Rattle.group_block.proofs.Changing.{change-fits, change-shape}
@@ -40,16 +40,16 @@ unfolding decode block
 shape-decode g = shape-fill (layout 3 (g .merge)) (number (g .counts))
 
 -- another value in a counter
-changed-is : (g : Group) (k v : ℕ) → Good g → changed g k v .group ≡ record { counts = bytes 8 (word (change (decode g) (k % 8) v)); merge = g .merge }
+changed-is : (g : Group) (k v : ℕ) → Good g → changed g k v .group ≡ record { counts = bytes 8 (numberOf (change (decode g) (k % 8) v)); merge = g .merge }
 unfolding changed
 changed-is g k v o = rw (o .merges)
 
 pub good-changed : (g : Group) (k v : ℕ) → Good g → Good (changed g k v .group)
-good-changed g k v o = rw (changed-is g k v o) (record { merges = o .merges; eight = eight-bytes (word (change (decode g) (k % 8) v)) })
+good-changed g k v o = rw (changed-is g k v o) (record { merges = o .merges; eight = eight-bytes (numberOf (change (decode g) (k % 8) v)) })
 
-block-again : (b : Block 3) (m : ℕ) → Fits b → shape b ≡ layout 3 m → decode (record { counts = bytes 8 (word b); merge = m }) ≡ b
+block-again : (b : Block 3) (m : ℕ) → Fits b → shape b ≡ layout 3 m → decode (record { counts = bytes 8 (numberOf b); merge = m }) ≡ b
 unfolding decode block cap
-block-again b m f e = rw (number-bytes 8 (word b) (word-lt b f), ← e) (fill-word b f)
+block-again b m f e = rw (number-bytes 8 (numberOf b) (word-lt b f), ← e) (fill-word b f)
 
 pub decode-changed : (g : Group) (k v : ℕ) → Good g → decode (changed g k v .group) ≡ change (decode g) (k % 8) v
 decode-changed g k v o =

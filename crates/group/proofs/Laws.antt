@@ -14,7 +14,7 @@ use Rattle.group_bytes.proofs.Bytes.{number-lt, number-bytes, bytes-number}
 use Rattle.group_layout.specs.Layout.{valid}
 use Rattle.group_layout.proofs.Laws.{valid-marks}
 use Rattle.group_block.specs.declared.Summed.{Summed}
-use Rattle.group_block.specs.Block.{Block, cap, Fits, shape, word, block, counterAt, total}
+use Rattle.group_block.specs.Block.{Block, cap, Fits, shape, numberOf, block, counterAt, total}
 use Rattle.group_block.specs.Sum.{Sum, fits, over, add, unite, sumTotal}
 use Rattle.group_block.specs.Passed.{summed}
 use Rattle.group_block.proofs.Adding.{Sound}
@@ -24,7 +24,8 @@ use Rattle.group_block.proofs.Places.{add-in-place}
 use Rattle.group.specs.declared.Group.{Group}
 use Rattle.group.specs.declared.Kept.{Kept}
 use Rattle.group.specs.declared.Outcome.{Outcome}
-use Rattle.group.specs.Group.{decode, encode, stored, settle, unchanged, added, holds, united}
+use Rattle.group.specs.Group.{decode, encode, settle, unchanged, added, holds, unitedGroups}
+use Rattle.group.specs.Stored.{stored}
 use Rattle.answer.specs.Numbers.{invalidMerge, counterFull}
 
 -- a counter of level 3 holds 64 bits
@@ -51,7 +52,7 @@ encode-decode g e v =
 
 pub decode-encode : (b : Block 3) → Fits b → decode (encode b) ≡ b
 unfolding encode decode cap
-decode-encode b f = rw (number-bytes 8 (word b) (word-lt b f)) (block-is b f)
+decode-encode b f = rw (number-bytes 8 (numberOf b) (word-lt b f)) (block-is b f)
 
 pub encode-valid : (b : Block 3) → valid 3 (encode b .merge) ≡ true
 unfolding encode
@@ -119,19 +120,19 @@ module _ (g : Group) (slot amount : ℕ) where
       added-held (sym h ∙ t) ∙ ap (λ (l : List ℕ). record { status = 0; group = record { counts = l; merge = g .merge } }) (sym (rw t at e))
 
 module _ (g source : Group) where
-  pub united-invalid : valid 3 (g .merge) ≡ false → united g source ≡ unchanged invalidMerge g
-  unfolding united
+  pub united-invalid : valid 3 (g .merge) ≡ false → unitedGroups g source ≡ unchanged invalidMerge g
+  unfolding unitedGroups
   united-invalid v = rw v
 
-  pub united-source-invalid : valid 3 (g .merge) ≡ true → valid 3 (source .merge) ≡ false → united g source ≡ unchanged invalidMerge g
-  unfolding united
+  pub united-source-invalid : valid 3 (g .merge) ≡ true → valid 3 (source .merge) ≡ false → unitedGroups g source ≡ unchanged invalidMerge g
+  unfolding unitedGroups
   united-source-invalid v w = rw (v, w)
 
   -- a union that leaves the target's layout
   pub united-fits : (w : ℕ) → w < cap 3 → valid 3 (g .merge) ≡ true → valid 3 (source .merge) ≡ true
       → unite (decode g) (decode source) ≡ fits (block 3 w (g .merge))
-      → stored (record { over = false; word = w; merge = g .merge }) ≡ united g source
-  unfolding united settle stored encode
+      → stored (record { over = false; word = w; merge = g .merge }) ≡ unitedGroups g source
+  unfolding unitedGroups settle stored encode
   united-fits w h v v′ e = rw (v, v′, e, word-block 3 w (g .merge) h, marks-block 3 w (g .merge) v)
 
   module _ (h : number (g .counts) < cap 3) (k : number (source .counts) < cap 3) (v : valid 3 (g .merge) ≡ true) (w : valid 3 (source .merge) ≡ true) where
@@ -140,17 +141,17 @@ module _ (g source : Group) where
     unite-is-sound =
         unite-sound (decode g) (decode source) (block-fits 3 (number (g .counts)) (g .merge) h) (block-fits 3 (number (source .counts)) (source .merge) k)
 
-    pub united-full : 2 ^ 64 ≤ total (decode g) + total (decode source) → united g source ≡ unchanged counterFull g
-    unfolding united
+    pub united-full : 2 ^ 64 ≤ total (decode g) + total (decode source) → unitedGroups g source ≡ unchanged counterFull g
+    unfolding unitedGroups
     united-full k = rw (v, w) (settle-over g (unite (decode g) (decode source)) unite-is-sound (omega (arith, unite-total (decode g) (decode source))))
 
-    pub united-stored : total (decode g) + total (decode source) < 2 ^ 64 → united g source ≡ stored (summed (unite (decode g) (decode source)))
-    unfolding united
+    pub united-stored : total (decode g) + total (decode source) < 2 ^ 64 → unitedGroups g source ≡ stored (summed (unite (decode g) (decode source)))
+    unfolding unitedGroups
     united-stored k = rw (v, w) (settle-fits g (unite (decode g) (decode source)) unite-is-sound (omega (arith, unite-total (decode g) (decode source))))
 
   -- by its status alone a union is refused, or both groups are valid and one counter would hold all their counters
-  pub united-refused : (united g source .status ≡ 0 → ⊥) → united g source ≡ unchanged (united g source .status) g
-  unfolding united settle
+  pub united-refused : (unitedGroups g source .status ≡ 0 → ⊥) → unitedGroups g source ≡ unchanged (unitedGroups g source .status) g
+  unfolding unitedGroups settle
   united-refused = go (valid 3 (g .merge) && valid 3 (source .merge)) (unite (decode g) (decode source))
     where
       go : (t : Bool) (x : Sum 3) → (cond t (settle g x) (unchanged invalidMerge g) .status ≡ 0 → ⊥)
@@ -159,15 +160,15 @@ module _ (g source : Group) where
       go true (over s) n = refl
       go false x n = refl
 
-  both-valid : united g source .status ≡ 0 → (valid 3 (g .merge) && valid 3 (source .merge)) ≡ true
-  unfolding united
+  both-valid : unitedGroups g source .status ≡ 0 → (valid 3 (g .merge) && valid 3 (source .merge)) ≡ true
+  unfolding unitedGroups
   both-valid = go (valid 3 (g .merge) && valid 3 (source .merge))
     where
       go : (t : Bool) → cond t (settle g (unite (decode g) (decode source))) (unchanged invalidMerge g) .status ≡ 0 → t ≡ true
       go true e = refl
       go false e = absurd (omega arith)
 
-  pub united-taken : number (g .counts) < cap 3 → number (source .counts) < cap 3 → united g source .status ≡ 0
+  pub united-taken : number (g .counts) < cap 3 → number (source .counts) < cap 3 → unitedGroups g source .status ≡ 0
       → (valid 3 (g .merge) ≡ true) × (valid 3 (source .merge) ≡ true) × (total (decode g) + total (decode source) < 2 ^ 64)
   united-taken h k e =
       let v = and-eq-true-iff (valid 3 (g .merge)) (valid 3 (source .merge)) .0 (both-valid e) in

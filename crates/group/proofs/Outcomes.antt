@@ -6,16 +6,16 @@ use native.Mathlib.Omega.{arith}
 use lib.ListN.{length}
 use Rattle.group_bytes.proofs.Bytes.{bytes-length}
 use Rattle.group_layout.specs.Layout.{valid}
-use Rattle.group_block.specs.Block.{word}
+use Rattle.group_block.specs.Block.{numberOf}
 use Rattle.group_block.specs.Sum.{Sum, fits, over, add, unite}
 use Rattle.group.specs.declared.Group.{Group}
 use Rattle.answer.specs.Numbers.{invalidMerge}
-use Rattle.group.specs.Group.{decode, encode, settle, unchanged, added, united}
+use Rattle.group.specs.Group.{decode, encode, settle, unchanged, added, unitedGroups}
 use Rattle.group.proofs.Laws.{encode-valid}
 
 settle-eight : (g : Group) (x : Sum 3) → length (g .counts) ≡ 8 → length (settle g x .group .counts) ≡ 8
 unfolding settle encode
-settle-eight g (fits b) h = bytes-length 8 (word b)
+settle-eight g (fits b) h = bytes-length 8 (numberOf b)
 settle-eight g (over s) h = h
 
 settle-valid : (g : Group) (x : Sum 3) → settle g x .status ≡ 0 → valid 3 (settle g x .group .merge) ≡ true
@@ -40,10 +40,10 @@ pub added-valid : (g : Group) (slot amount : ℕ) → added g slot amount .statu
 unfolding added
 added-valid g slot amount e = either-valid (valid 3 (g .merge)) g (add (decode g) (slot % 8) amount) e
 
-pub united-eight : (target source : Group) → length (target .counts) ≡ 8 → length (united target source .group .counts) ≡ 8
-unfolding united
+pub united-eight : (target source : Group) → length (target .counts) ≡ 8 → length (unitedGroups target source .group .counts) ≡ 8
+unfolding unitedGroups
 united-eight target source h = either-eight (valid 3 (target .merge) && valid 3 (source .merge)) target (unite (decode target) (decode source)) h
 
-pub united-valid : (target source : Group) → united target source .status ≡ 0 → valid 3 (united target source .group .merge) ≡ true
-unfolding united
+pub united-valid : (target source : Group) → unitedGroups target source .status ≡ 0 → valid 3 (unitedGroups target source .group .merge) ≡ true
+unfolding unitedGroups
 united-valid target source e = either-valid (valid 3 (target .merge) && valid 3 (source .merge)) target (unite (decode target) (decode source)) e

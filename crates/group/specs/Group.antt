@@ -1,4 +1,4 @@
--- A group's calls. Document 01, 'Rows, groups and blocks' and 'Updating, asking, uniting'.
+-- A group's calls. Document 01, 'Rows, groups and blocks' and 'Updating, asking, uniting'. Cited by contracts and theorems.
 use Prim.Native.Nat.{ℕ, _+_, _%_}
 use mathlib.Core.Bool.{Bool, cond, _&&_}
 use lib.Dec.{ltb}
@@ -6,8 +6,7 @@ use Rattle.group_bytes.specs.Bytes.{number, bytes}
 use Rattle.group_layout.specs.Layout.{marks, layout, valid}
 use Rattle.group_layout.specs.Layout as layout-spec
 use Rattle.group_block.specs.declared.Counter.{Counter}
-use Rattle.group_block.specs.declared.Summed.{Summed}
-use Rattle.group_block.specs.Block.{Block, cap, shape, word, block, counterAt}
+use Rattle.group_block.specs.Block.{Block, cap, shape, numberOf, block, counterAt}
 use Rattle.group_block.specs.Change.{change}
 use Rattle.group_block.specs.Sum.{Sum, fits, over}
 use Rattle.group_block.specs.Sum as sum
@@ -27,7 +26,7 @@ unfoldable pub decode : Group → Block 3
 decode g = block 3 (number (g .counts)) (g .merge)
 
 unfoldable pub encode : Block 3 → Group
-encode b = record { counts = bytes 8 (word b); merge = marks (shape b) }
+encode b = record { counts = bytes 8 (numberOf b); merge = marks (shape b) }
 
 -- the counter of a slot; a slot number counts by its remainder by 8
 unfoldable pub reading : Counter → Reading
@@ -39,10 +38,6 @@ read g slot = cond (valid 3 (g .merge)) (reading (counterAt (decode g) (slot % 8
 -- a refused call leaves the group as it was
 abbrev pub unchanged : ℕ → Group → Outcome
 unchanged s g = record { status = s; group = g }
-
--- the group that the code makes of the count bytes and merge bits of a block
-unfoldable pub stored : Summed → Outcome
-stored s = record { status = 0; group = record { counts = bytes 8 (s .word); merge = s .merge } }
 
 unfoldable pub settle : Group → Sum 3 → Outcome
 settle g (fits b) = record { status = 0; group = encode b }
@@ -57,17 +52,17 @@ unfoldable pub holds : Group → ℕ → ℕ → Bool
 holds g slot amount = valid 3 (g .merge) && ltb (counterAt (decode g) (slot % 8) .value + amount) (cap (counterAt (decode g) (slot % 8) .level))
 
 -- a source group united with a target
-unfoldable pub united : Group → Group → Outcome
-united target source =
+unfoldable pub unitedGroups : Group → Group → Outcome
+unitedGroups target source =
     cond (valid 3 (target .merge) && valid 3 (source .merge)) (settle target (sum.unite (decode target) (decode source))) (unchanged invalidMerge target)
 
 -- the largest level of a group's counters
 unfoldable pub widestOf : ℕ → Answer
-widestOf m = cond (valid 3 m) (accepted (layout-spec.widest (layout 3 m))) (refused invalidMerge)
+widestOf m = cond (valid 3 m) (accepted (layout-spec.widestIn (layout 3 m))) (refused invalidMerge)
 
 -- another value in the counter of a slot; the layout stays
 unfoldable pub changed : Group → ℕ → ℕ → Outcome
 changed g slot value =
     cond (valid 3 (g .merge))
-    (record { status = 0; group = record { counts = bytes 8 (word (change (decode g) (slot % 8) value)); merge = g .merge } })
+    (record { status = 0; group = record { counts = bytes 8 (numberOf (change (decode g) (slot % 8) value)); merge = g .merge } })
     (unchanged invalidMerge g)

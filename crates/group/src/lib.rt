@@ -8,7 +8,8 @@ use group_sums::with_value;
 ghost use mathlib.Core.Path.{_≡_};
 ghost use mathlib.Core.Bool.{false, cond};
 ghost use Rattle.group_layout.specs.Layout.{valid};
-ghost use Rattle.group.specs.Group.{read, stored, holds, added, united, widestOf, changed};
+ghost use Rattle.group.specs.Group.{read, holds, added, unitedGroups, widestOf, changed};
+ghost use Rattle.group.specs.Stored.{stored};
 ghost use Rattle.group.specs.Group as spec;
 
 // Eight count bytes and their merge byte.
@@ -146,7 +147,7 @@ pub fn add(g: Group, slot: usize, amount: u32) -> Outcome
 
 // Whether a target takes a source.
 pub fn unite_status(target: Group, source: Group) -> u8
-    ensures { λ r. ⌜ r ≡ united target source .status ⌝ }
+    ensures { λ r. ⌜ r ≡ unitedGroups target source .status ⌝ }
 {
     let target_counts = target.counts;
     let source_counts = source.counts;
@@ -166,7 +167,7 @@ pub fn unite_status(target: Group, source: Group) -> u8
 
 // A source group united with a target.
 pub fn unite(target: Group, source: Group) -> Outcome
-    ensures { λ r. ⌜ r ≡ united target source ⌝ }
+    ensures { λ r. ⌜ r ≡ unitedGroups target source ⌝ }
 {
     let target_counts = target.counts;
     let source_counts = source.counts;

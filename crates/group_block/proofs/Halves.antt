@@ -9,7 +9,7 @@ use Rattle.group_layout.specs.Layout.{marks, layout, valid}
 use Rattle.group_layout.specs.Merged.{isMerged}
 use Rattle.group_layout.proofs.Laws.{above-slot, valid-marks, valid-apart}
 use Rattle.group_block.specs.declared.Summed.{Summed}
-use Rattle.group_block.specs.Block.{Block, split, cap, Fits, shape, word, block, total}
+use Rattle.group_block.specs.Block.{Block, split, cap, Fits, shape, numberOf, block, total}
 use Rattle.group_block.specs.Sum.{Sum, fits, over, held, join, sumTotal}
 use Rattle.group_block.specs.Passed.{summed, sumOf, leftHalf, rightHalf, Sane, Apt}
 use Rattle.group_block.proofs.Adding.{Sound}
@@ -34,7 +34,7 @@ join-right n l r e f = rw (add-one n, e, f)
 
 pub join-both : (n : ℕ) (l r : Summed) → l .over ≡ false → r .over ≡ false → Apt n l → Apt n r
     → record { over = false; word = r .word * cap n + l .word; merge = r .merge * 2 ^ (2 ^ n) + l .merge } ≡ summed (join (sumOf n l) (sumOf n r))
-unfolding sumOf summed join word shape marks
+unfolding sumOf summed join numberOf shape marks
 join-both n l r e f p q =
     rw (
       e,

@@ -14,7 +14,7 @@ use Rattle.group_layout.specs.Merged.{isMerged}
 use Rattle.group_layout.proofs.Laws.{layout-marks, marks-layout, is-merged, layout-suc}
 use Rattle.group_block.specs.Kind.{Kind, ordinary}
 use Rattle.group_block.proofs.Codes.{Codes, ordinary-codes}
-use Rattle.group_block.specs.Block.{BlockOf, Block, Clean, counter, split, cap, Fits, shape, word, fill, block, total}
+use Rattle.group_block.specs.Block.{BlockOf, Block, Clean, counter, split, cap, Fits, shape, numberOf, fill, block, total}
 
 pub cap-pos : (n : ℕ) → 0 < cap n
 unfolding cap
@@ -52,8 +52,8 @@ fill-fits-of C (halves {n} l r) w h = (fill-fits-of C l (w % cap n) (mod-lt w (c
 pub fill-fits : {n : ℕ} (L : Layout n) (w : ℕ) → w < cap n → Fits (fill {K = ordinary} L w)
 fill-fits L w h = fill-fits-of ordinary-codes L w h
 
-pub word-fill-of : {K : Kind} (C : Codes K) {n : ℕ} (L : Layout n) (w : ℕ) → w < cap n → Clean K L w → word (fill {K = K} L w) ≡ w
-unfolding fill word Clean
+pub word-fill-of : {K : Kind} (C : Codes K) {n : ℕ} (L : Layout n) (w : ℕ) → w < cap n → Clean K L w → numberOf (fill {K = K} L w) ≡ w
+unfolding fill numberOf Clean
 word-fill-of C {n} merged w h c = C .bits-read n w h c
 word-fill-of C (halves {n} l r) w h c =
     rw (word-fill-of C l (w % cap n) (mod-lt w (cap-pos n)) (c .0), word-fill-of C r (w / cap n) (high-lt n w h) (c .1)) (div-add-mod' w (cap n))
@@ -63,7 +63,7 @@ unfolding Clean
 all-clean merged w = refl
 all-clean (halves {n} l r) w = (all-clean l (w % cap n), all-clean r (w / cap n))
 
-pub word-fill : {n : ℕ} (L : Layout n) (w : ℕ) → w < cap n → word (fill {K = ordinary} L w) ≡ w
+pub word-fill : {n : ℕ} (L : Layout n) (w : ℕ) → w < cap n → numberOf (fill {K = ordinary} L w) ≡ w
 word-fill L w h = word-fill-of ordinary-codes L w h (all-clean L w)
 
 pub shape-fill-of : (K : Kind) {n : ℕ} (L : Layout n) (w : ℕ) → shape (fill {K = K} L w) ≡ L
@@ -74,41 +74,41 @@ shape-fill-of K (halves {n} l r) w = ap₂ halves (shape-fill-of K l (w % cap n)
 pub shape-fill : {n : ℕ} (L : Layout n) (w : ℕ) → shape (fill {K = ordinary} L w) ≡ L
 shape-fill L w = shape-fill-of ordinary L w
 
-pub word-lt-of : {K : Kind} (C : Codes K) {n : ℕ} (b : BlockOf K n) → Fits b → word b < cap n
-unfolding word Fits
+pub word-lt-of : {K : Kind} (C : Codes K) {n : ℕ} (b : BlockOf K n) → Fits b → numberOf b < cap n
+unfolding numberOf Fits
 word-lt-of C {n} (counter v) f = C .bits-lt n v f
 word-lt-of C (split {n} l r) f = rw (cap-square n) (digits-lt (word-lt-of C r (f .1)) (word-lt-of C l (f .0)))
 
-pub word-lt : {n : ℕ} (b : Block n) → Fits b → word b < cap n
+pub word-lt : {n : ℕ} (b : Block n) → Fits b → numberOf b < cap n
 word-lt b f = word-lt-of ordinary-codes b f
 
-pub fill-word-of : {K : Kind} (C : Codes K) {n : ℕ} (b : BlockOf K n) → Fits b → fill (shape b) (word b) ≡ b
-unfolding fill shape word Fits
+pub fill-word-of : {K : Kind} (C : Codes K) {n : ℕ} (b : BlockOf K n) → Fits b → fill (shape b) (numberOf b) ≡ b
+unfolding fill shape numberOf Fits
 fill-word-of C {n} (counter v) f = ap counter (C .read-bits n v f)
 fill-word-of C (split {n} l r) f =
     rw (
-      digits-mod (word r) (word-lt-of C l (f .0)),
-      digits-div (word r) (word-lt-of C l (f .0)),
+      digits-mod (numberOf r) (word-lt-of C l (f .0)),
+      digits-div (numberOf r) (word-lt-of C l (f .0)),
       fill-word-of C l (f .0),
       fill-word-of C r (f .1),
     )
 
-pub fill-word : {n : ℕ} (b : Block n) → Fits b → fill (shape b) (word b) ≡ b
+pub fill-word : {n : ℕ} (b : Block n) → Fits b → fill (shape b) (numberOf b) ≡ b
 fill-word b f = fill-word-of ordinary-codes b f
 
 -- a block whose counters hold their values has clean bits
-pub word-clean : {K : Kind} (C : Codes K) {n : ℕ} (b : BlockOf K n) → Fits b → Clean K (shape b) (word b)
-unfolding Clean shape word Fits
+pub word-clean : {K : Kind} (C : Codes K) {n : ℕ} (b : BlockOf K n) → Fits b → Clean K (shape b) (numberOf b)
+unfolding Clean shape numberOf Fits
 word-clean C {n} (counter v) f = C .bits-clean n v f
 word-clean {K} C (split {n} l r) f =
-    (rw (digits-mod (word r) (word-lt-of C l (f .0))) (word-clean C l (f .0)), rw (digits-div (word r) (word-lt-of C l (f .0))) (word-clean C r (f .1)))
+    (rw (digits-mod (numberOf r) (word-lt-of C l (f .0))) (word-clean C l (f .0)), rw (digits-div (numberOf r) (word-lt-of C l (f .0))) (word-clean C r (f .1)))
 
 -- count bytes and merge bits are those of the block that they stand for, and a block is the one that its bytes and bits stand for
-pub block-is : {n : ℕ} (b : Block n) → Fits b → block n (word b) (marks (shape b)) ≡ b
+pub block-is : {n : ℕ} (b : Block n) → Fits b → block n (numberOf b) (marks (shape b)) ≡ b
 unfolding block
 block-is b f = rw (layout-marks (shape b)) (fill-word b f)
 
-pub word-block : (n w m : ℕ) → w < cap n → word (block n w m) ≡ w
+pub word-block : (n w m : ℕ) → w < cap n → numberOf (block n w m) ≡ w
 unfolding block
 word-block n w m h = word-fill (layout n m) w h
 

@@ -11,7 +11,7 @@ use lib.Arith.{digits-div}
 use lib.Dec.{ltb}
 use lib.Pow.{pow-pos, pow-add, shr-shr}
 use Rattle.group_layout.specs.Layout.{Layout, halves}
-use Rattle.group_block.specs.Block.{Block, counter, split, cap, Fits, shape, word, counterAt}
+use Rattle.group_block.specs.Block.{Block, counter, split, cap, Fits, shape, numberOf, counterAt}
 use Rattle.group_block.specs.Change.{change}
 use Rattle.group_block.specs.Sum.{fits, held, join, add}
 use Rattle.group_block.proofs.Laws.{word-lt}
@@ -74,15 +74,15 @@ above a b i j x =
     (mul-add-mod-self-right (a * 2 ^ x) (2 ^ j) (b / 2 ^ i))
 
 -- a counter's value is a field of the number
-pub value-is : {n : ℕ} (b : Block n) (k : ℕ) → Fits b → word b / 2 ^ (8 * first b k) % cap (counterAt b k .level) ≡ counterAt b k .value
-unfolding first counterAt word Fits cap
+pub value-is : {n : ℕ} (b : Block n) (k : ℕ) → Fits b → numberOf b / 2 ^ (8 * first b k) % cap (counterAt b k .level) ≡ counterAt b k .value
+unfolding first counterAt numberOf Fits cap
 value-is {n} (counter v) k f = rw (div-one v) (mod-eq-of-lt {n = v} {m = 2 ^ (8 * 2 ^ n)} f)
 value-is (split {n} l r) k f = elim (decLt k (2 ^ n)) [
   | yes m ↦
       let i = 8 * first l k in
       let j = 8 * 2 ^ counterAt l k .level in
       let e : 8 * 2 ^ n ≡ 8 * 2 ^ n - (j + i) + j + i = omega (arith, first-in l k) in
-      rw (first-left l r k m, in-left l r k m, e) (above (word r) (word l) i j (8 * 2 ^ n - (j + i)) ∙ value-is l k (f .0))
+      rw (first-left l r k m, in-left l r k m, e) (above (numberOf r) (numberOf l) i j (8 * 2 ^ n - (j + i)) ∙ value-is l k (f .0))
   | no m′ ↦
       let m : 2 ^ n ≤ k = omega arith in
       let e : 8 * (2 ^ n + first r (k - 2 ^ n)) ≡ 8 * 2 ^ n + 8 * first r (k - 2 ^ n) = omega arith in
@@ -90,18 +90,18 @@ value-is (split {n} l r) k f = elim (decLt k (2 ^ n)) [
         first-right l r k m,
         in-right l r k m,
         e,
-        ← shr-shr (word r * 2 ^ (8 * 2 ^ n) + word l) (8 * 2 ^ n) (8 * first r (k - 2 ^ n)),
-        digits-div (word r) (word-lt l (f .0)),
+        ← shr-shr (numberOf r * 2 ^ (8 * 2 ^ n) + numberOf l) (8 * 2 ^ n) (8 * first r (k - 2 ^ n)),
+        digits-div (numberOf r) (word-lt l (f .0)),
       )
       (value-is r (k - 2 ^ n) (f .1))
 ]
 
 -- an addition that its counter can hold leaves the layout, and adds to the number at the counter's place
 abbrev pub InPlace : {n : ℕ} → Block n → ℕ → ℕ → Type 0
-InPlace {n} b k a = (b′ : Block n) × (add b k a ≡ fits b′) × (shape b′ ≡ shape b) × (word b′ ≡ word b + a * 2 ^ (8 * first b k))
+InPlace {n} b k a = (b′ : Block n) × (add b k a ≡ fits b′) × (shape b′ ≡ shape b) × (numberOf b′ ≡ numberOf b + a * 2 ^ (8 * first b k))
 
 pub add-in-place : {n : ℕ} (b : Block n) (k a : ℕ) → counterAt b k .value + a < cap (counterAt b k .level) → InPlace b k a
-unfolding add join shape word first counterAt held cap
+unfolding add join shape numberOf first counterAt held cap
 add-in-place {n} (counter v) k a h = (counter (v + a), rw (lt-ltb (v + a) (cap n) h), refl, omega arith)
 add-in-place (split {n} l r) k a h = elim (decLt k (2 ^ n)) [
   | yes m ↦
@@ -113,7 +113,7 @@ add-in-place (split {n} l r) k a h = elim (decLt k (2 ^ n)) [
         split l (s .0),
         rw (add-right l r k a m, s .1),
         ap (λ (L : Layout n). halves (shape l) L) (s .2),
-        rw (first-right l r k m, s .3) (higher (word r) (word l) a (2 ^ n) (first r (k - 2 ^ n))),
+        rw (first-right l r k m, s .3) (higher (numberOf r) (numberOf l) a (2 ^ n) (first r (k - 2 ^ n))),
       )
 ]
   where
@@ -137,13 +137,13 @@ higher-both i j a b y u v e =
 
 -- another value in the counter changes the number at the counter's place
 pub change-word : {n : ℕ} (b : Block n) (k x : ℕ)
-    → word (change b k x) + counterAt b k .value * 2 ^ (8 * first b k) ≡ word b + x % cap (counterAt b k .level) * 2 ^ (8 * first b k)
-unfolding change word first counterAt cap
+    → numberOf (change b k x) + counterAt b k .value * 2 ^ (8 * first b k) ≡ numberOf b + x % cap (counterAt b k .level) * 2 ^ (8 * first b k)
+unfolding change numberOf first counterAt cap
 change-word (counter v) k x = omega arith
 change-word (split {n} l r) k x = elim (decLt k (2 ^ n)) [
   | yes m ↦ rw (change-left l r k x m, first-left l r k m, in-left l r k m) (omega (arith, change-word l k x))
   | no m′ ↦
       let m : 2 ^ n ≤ k = omega arith in
       rw (change-right l r k x m, first-right l r k m, in-right l r k m)
-      (higher-both (2 ^ n) (first r (k - 2 ^ n)) (word (change r (k - 2 ^ n) x)) (word r) (word l) (counterAt r (k - 2 ^ n) .value) (x % cap (counterAt r (k - 2 ^ n) .level)) (change-word r (k - 2 ^ n) x))
+      (higher-both (2 ^ n) (first r (k - 2 ^ n)) (numberOf (change r (k - 2 ^ n) x)) (numberOf r) (numberOf l) (counterAt r (k - 2 ^ n) .value) (x % cap (counterAt r (k - 2 ^ n) .level)) (change-word r (k - 2 ^ n) x))
 ]

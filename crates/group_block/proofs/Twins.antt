@@ -11,7 +11,7 @@ use lib.Dec.{ltb}
 use lib.Pow.{pow-pos, pow-add}
 use Rattle.group_layout.specs.Layout.{ones, marks}
 use Rattle.group_layout.proofs.Laws.{twice, double}
-use Rattle.group_block.specs.Block.{Block, counter, split, cap, shape, word, counterAt, total}
+use Rattle.group_block.specs.Block.{Block, counter, split, cap, shape, numberOf, counterAt, total}
 use Rattle.group_block.specs.Sum.{Sum, fits, held, join, add, sumTotal}
 use Rattle.group_block.proofs.Slots.{in-left, in-right, level-le}
 use Rattle.group_block.proofs.Places.{add-left, add-right, higher-both}
@@ -25,7 +25,7 @@ abbrev pub Widened : {n : ℕ} → Block n → (k a L p u v : ℕ) → Type 0
 Widened {n} b k a L p u v =
     (b′ : Block n)
     × (add b k a ≡ fits b′)
-    × (word b′ + (v * cap L + u) * 2 ^ (8 * p) ≡ word b + (u + v + a) * 2 ^ (8 * p))
+    × (numberOf b′ + (v * cap L + u) * 2 ^ (8 * p) ≡ numberOf b + (u + v + a) * 2 ^ (8 * p))
     × (marks (shape b′) ≡ marks (shape b) + 2 ^ (2 ^ L - 1) * 2 ^ p)
 
 -- a counter of the block's own level is the whole block
@@ -73,7 +73,7 @@ module _ {n : ℕ} (k a u v : ℕ) (i : u + v + a < cap (suc n)) where
   ]
 
   widened-whole : cap n ≤ counterAt pair k .value + a → Widened pair k a n 0 u v
-  unfolding word shape marks
+  unfolding numberOf shape marks
   widened-whole h = (counter (u + v + a), whole-added h, omega arith, omega (arith, ones-twice n))
 
 widen-top : {n : ℕ} (l r : Block n) (k a u v : ℕ) → Twins (split l r) n 0 u v → cap n ≤ counterAt (split l r) k .value + a → u + v + a < cap (suc n)
@@ -105,13 +105,13 @@ module _ {n : ℕ} (l r : Block n) (k a L p u v : ℕ) where
       }
 
   widen-left : k < 2 ^ n → Widened l k a L p u v → Widened (split l r) k a L p u v
-  unfolding word shape marks join
+  unfolding numberOf shape marks join
   widen-left m w = (split (w .0) r, add-left l r k a m ∙ ap (λ (x : Sum n). join x (fits r)) (w .1), omega (arith, w .2), omega (arith, w .3))
 
-  word-right : (x : Block n) → word x + (v * cap L + u) * 2 ^ (8 * p) ≡ word r + (u + v + a) * 2 ^ (8 * p)
-      → word (split l x) + (v * cap L + u) * 2 ^ (8 * (2 ^ n + p)) ≡ word (split l r) + (u + v + a) * 2 ^ (8 * (2 ^ n + p))
-  unfolding word cap
-  word-right x e = higher-both (2 ^ n) p (word x) (word r) (word l) (v * cap L + u) (u + v + a) e
+  word-right : (x : Block n) → numberOf x + (v * cap L + u) * 2 ^ (8 * p) ≡ numberOf r + (u + v + a) * 2 ^ (8 * p)
+      → numberOf (split l x) + (v * cap L + u) * 2 ^ (8 * (2 ^ n + p)) ≡ numberOf (split l r) + (u + v + a) * 2 ^ (8 * (2 ^ n + p))
+  unfolding numberOf cap
+  word-right x e = higher-both (2 ^ n) p (numberOf x) (numberOf r) (numberOf l) (v * cap L + u) (u + v + a) e
 
   marks-right : (x : Block n) → marks (shape x) ≡ marks (shape r) + 2 ^ (2 ^ L - 1) * 2 ^ p
       → marks (shape (split l x)) ≡ marks (shape (split l r)) + 2 ^ (2 ^ L - 1) * 2 ^ (2 ^ n + p)

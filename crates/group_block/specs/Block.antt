@@ -28,9 +28,9 @@ shape (counter v) = merged
 shape (split l r) = halves (shape l) (shape r)
 
 -- the count bytes of a block taken as one number, the lowest slot least significant; of a counter, its value
-unfoldable pub word : {K : Kind} {n : ℕ} → BlockOf K n → ℕ
-word {K} {n} (counter v) = K .bits n v
-word (split {n} l r) = word r * cap n + word l
+unfoldable pub numberOf : {K : Kind} {n : ℕ} → BlockOf K n → ℕ
+numberOf {K} {n} (counter v) = K .bits n v
+numberOf (split {n} l r) = numberOf r * cap n + numberOf l
 
 -- the block that a layout and the count bytes, taken as one number, stand for
 unfoldable pub fill : {K : Kind} {n : ℕ} → Layout n → ℕ → BlockOf K n

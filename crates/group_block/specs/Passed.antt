@@ -5,13 +5,13 @@ use mathlib.Core.Path.{_≡_}
 use mathlib.Core.Bool.{Bool, true, false, cond, not, _&&_}
 use lib.Dec.{eqb}
 use Rattle.group_layout.specs.Layout.{marks, valid}
-use Rattle.group_block.specs.Block.{cap, shape, word, block, total}
+use Rattle.group_block.specs.Block.{cap, shape, numberOf, block, total}
 use Rattle.group_block.specs.Sum.{Sum, fits, over, unite}
 use Rattle.group_block.specs.declared.Summed.{Summed}
 
 -- a Sum: a block's count bytes as one number and its merge bits, or the sum
 unfoldable pub summed : {n : ℕ} → Sum n → Summed
-summed (fits b) = record { over = false; word = word b; merge = marks (shape b) }
+summed (fits b) = record { over = false; word = numberOf b; merge = marks (shape b) }
 summed (over s) = record { over = true; word = s; merge = 0 }
 
 unfoldable pub sumOf : (n : ℕ) → Summed → Sum n
@@ -32,9 +32,9 @@ Sane n w m = (w < cap n) × (valid n m ≡ true)
 abbrev pub Apt : ℕ → Summed → Type 0
 Apt n s = s .over ≡ false → Sane n (s .word) (s .merge)
 
--- the sum of the counters of two blocks
-abbrev pub bothTotal : ℕ → ℕ → ℕ → ℕ → ℕ → ℕ
-bothTotal n w m w′ m′ = total (block n w m) + total (block n w′ m′)
+-- the counters of two blocks sum up to a number of 64 bits
+abbrev pub SumFits : ℕ → ℕ → ℕ → ℕ → ℕ → Type 0
+SumFits n w m w′ m′ = total (block n w m) + total (block n w′ m′) < 2 ^ 64
 
 -- whether the count bytes of two blocks, taken as numbers, may be added for their union: they have one layout, and the union keeps it
 abbrev pub addsInPlace : ℕ → ℕ → ℕ → ℕ → ℕ → Bool

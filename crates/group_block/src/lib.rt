@@ -14,7 +14,7 @@ ghost use Rattle.group_block.specs.Block.{cap, block};
 ghost use Rattle.group_block.specs.Block as spec;
 ghost use Rattle.group_block.specs.Sum as sum_spec;
 ghost use Rattle.group_block.specs.Sum.{sumTotal};
-ghost use Rattle.group_block.specs.Passed.{summed, sumOf, leftHalf, rightHalf, Sane, Apt, bothTotal, addsInPlace};
+ghost use Rattle.group_block.specs.Passed.{summed, sumOf, leftHalf, rightHalf, Sane, Apt, SumFits, addsInPlace};
 
 // A counter that was read.
 pub struct Counter {
@@ -217,7 +217,7 @@ fn pair_sum(half: u32, word: u64) -> u64
 // Two blocks united. Where both have the same layout and each counter holds its sum, the layout stays. Where both are two counters
 // and one does not hold its sum, they become one counter.
 pub fn unite(level: u32, word: u64, merge: u8, other_word: u64, other_merge: u8) -> Summed
-    requires { ⌜ level ≤ 3 ⌝ ∗ ⌜ Sane level word merge ⌝ ∗ ⌜ Sane level «other_word» «other_merge» ⌝ ∗ ⌜ bothTotal level word merge «other_word» «other_merge» < 2 ^ 64 ⌝ }
+    requires { ⌜ level ≤ 3 ⌝ ∗ ⌜ Sane level word merge ⌝ ∗ ⌜ Sane level «other_word» «other_merge» ⌝ ∗ ⌜ SumFits level word merge «other_word» «other_merge» ⌝ }
     ensures { λ r. ⌜ r ≡ summed (sum_spec.unite (block level word merge) (block level «other_word» «other_merge»)) ⌝ }
 {
     if may_add(word, merge, other_word, other_merge) {

@@ -1,4 +1,4 @@
--- An addition as a climb from the slot. Document 01, 'Updating, asking, uniting'. Cited by the theorems `add-climbs` and `form-bits`.
+-- An addition as a climb from the slot. Document 01, 'Updating, asking, uniting'. Cited by theorems.
 -- Block i of level n has the slots i * 2 ^ n to i * 2 ^ n + 2 ^ n - 1, counted from the first of the block of level m that it is in. A climb
 -- starts at a counter, so it meets no block inside one; what is said of such a block is said of the counter.
 use Prim.Native.Nat.{ℕ, zero, suc, _+_, _-_, _*_, _/_, _%_, _^_}

@@ -1,5 +1,4 @@
--- What the counters of a union are. Document 01, 'Updating, asking, uniting': each block's total from both. Cited by the theorems
--- `unite-of-both` and `union-only`.
+-- What the counters of a union are. Document 01, 'Updating, asking, uniting': each block's total from both. Cited by theorems.
 use mathlib.Core.Path.{_≡_}
 use Prim.Native.Nat.{ℕ}
 use Rattle.group_block.specs.Kind.{Kind}

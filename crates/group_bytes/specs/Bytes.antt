@@ -1,4 +1,4 @@
--- Bytes and the number that they make. Document 01, 'Rows, groups and blocks'.
+-- Bytes and the number that they make. Document 01, 'Rows, groups and blocks'. Cited by contracts and theorems.
 use Prim.Native.Nat.{ℕ, zero, suc, _+_, _*_, _/_, _%_}
 use mathlib.Core.List.{List, [], _∷_}
 

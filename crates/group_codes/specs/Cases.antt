@@ -1,4 +1,4 @@
--- Document 01's group cases P1 to P12, as one table. The theorem cases-hold cites it.
+-- Document 01's group cases P1 to P12, as one table. Cited by theorems.
 use Prim.Native.Nat.{ℕ}
 use mathlib.Core.Path.{_≡_}
 use mathlib.Core.List.{List, [], _∷_}
@@ -7,7 +7,7 @@ use Rattle.group.specs.declared.Group.{Group}
 use Rattle.group.specs.declared.Outcome.{Outcome}
 use Rattle.answer.specs.Answers.{accepted, refused}
 use Rattle.answer.specs.Numbers.{invalidMerge, counterFull}
-use Rattle.group.specs.Group.{unchanged, added, united}
+use Rattle.group.specs.Group.{unchanged, added, unitedGroups}
 use Rattle.group_codes.specs.Pack.{groupCode, packed}
 
 -- a call and its answer
@@ -19,7 +19,7 @@ pub data Case : Type 0 where
 
 abbrev pub Holds : Case → Type 0
 Holds (adds g slot amount o) = added g slot amount ≡ o
-Holds (unites g source o) = united g source ≡ o
+Holds (unites g source o) = unitedGroups g source ≡ o
 Holds (codes m a) = groupCode m ≡ a
 Holds (packs a b c d r) = packed a b c d ≡ r
 

@@ -1,4 +1,4 @@
--- Layout codes of a group and of four groups. Document 01, 'Layout codes'. Contracts of packing and unpacking cite it.
+-- Layout codes of a group and of four groups. Document 01, 'Layout codes'. Cited by contracts.
 use Prim.Native.Nat.{ℕ, _+_, _*_, _/_, _%_, _^_}
 use mathlib.Core.Bool.{cond, _&&_}
 use mathlib.Core.List.{List, [], _∷_}

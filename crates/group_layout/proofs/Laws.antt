@@ -11,7 +11,7 @@ use lib.Arith.{digits-lt}
 use lib.Dec.{eqb, ltb}
 use lib.Pow.{pow-pos, pow-add, ones-lt, ones-split, high, low, split}
 use Rattle.laws.proofs.Tests.{or-cases}
-use Rattle.group_layout.specs.Layout.{Layout, merged, halves, bit, ones, marks, layout, valid, widest, levelOf}
+use Rattle.group_layout.specs.Layout.{Layout, merged, halves, bit, ones, marks, layout, valid, widestIn, levelOf}
 use Rattle.group_layout.specs.Merged.{isMerged}
 
 -- the bits of two halves and the bit between them
@@ -102,8 +102,8 @@ valid-halves n m v b = go (valid-is (suc n) m v .0) (valid-is (suc n) m v .1)
     go merged e = absurd (true≢false (sym (bit-ones n) ∙ ap (λ (x : ℕ). bit x (2 ^ n - 1)) e ∙ b))
     go (halves l r) e = (rw (← e, low-half l r) (valid-marks l), rw (← e, high-half l r) (valid-marks r))
 
-pub widest-le : {n : ℕ} (L : Layout n) → widest L ≤ n
-unfolding widest
+pub widest-le : {n : ℕ} (L : Layout n) → widestIn L ≤ n
+unfolding widestIn
 widest-le merged = omega arith
 widest-le (halves l r) = omega (arith, widest-le l, widest-le r)
 

@@ -35,9 +35,9 @@ valid zero m = eqb m 0
 valid (suc n) m = eqb m (ones (suc n)) || (valid n (m % 2 ^ (2 ^ n)) && valid n (m / 2 ^ (2 ^ n)))
 
 -- the largest level of any counter
-unfoldable pub widest : {n : ℕ} → Layout n → ℕ
-widest {n} merged = n
-widest (halves l r) = max (widest l) (widest r)
+unfoldable pub widestIn : {n : ℕ} → Layout n → ℕ
+widestIn {n} merged = n
+widestIn (halves l r) = max (widestIn l) (widestIn r)
 
 -- the level of the counter that slot k, counted from the block's first, is in
 unfoldable pub levelOf : {n : ℕ} → Layout n → ℕ → ℕ

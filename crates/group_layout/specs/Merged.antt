@@ -1,4 +1,4 @@
--- Whether a block is merged, as the code tests it. The code's own term; no public contract cites it.
+-- Whether a block is merged, as the code tests it. The code's own terms.
 use Prim.Native.Nat.{ℕ}
 use mathlib.Core.Bool.{Bool, true, false}
 use Rattle.group_layout.specs.Layout.{Layout, merged, halves}

@@ -9,7 +9,7 @@ use lib.Bits.{bitAnd, bitOr, and-mask, and-high, or-step, or-disjoint}
 use lib.Dec.{eqb}
 use lib.Pow.{pow-pos, pow-add}
 use Rattle.laws.proofs.Tests.{every, every-at}
-use Rattle.group_layout.specs.Layout.{layout, valid, ones, widest, levelOf}
+use Rattle.group_layout.specs.Layout.{layout, valid, ones, widestIn, levelOf}
 use Rattle.group_layout.proofs.Laws.{marks-layout}
 use Rattle.group_levels.specs.Levels.{ownBit, mergedAround, someOwn, mergedLevels}
 use Rattle.group_levels.proofs.Levels.{level-valid, widest-valid, own-clear}
@@ -86,7 +86,7 @@ pub any-level : (m : ℕ) → anyPairHalf m + bitAnd (m / 8) 1 ≡ mergedLevels 
 unfolding mergedLevels
 any-level m = ap₂ (λ (x y : ℕ). x + y) (any-pair-half m) (and-mask (m / 8) 1 ∙ some-first 2 m)
 
-pub bits-widest : (m : ℕ) → valid 3 m ≡ true → anyPairHalf m + bitAnd (m / 8) 1 ≡ widest (layout 3 m)
+pub bits-widest : (m : ℕ) → valid 3 m ≡ true → anyPairHalf m + bitAnd (m / 8) 1 ≡ widestIn (layout 3 m)
 bits-widest m v = any-level m ∙ sym (widest-valid 3 m v)
 
 -- The own bit of a block whose left half is a counter is clear, so that setting it adds it. For a block of any level.

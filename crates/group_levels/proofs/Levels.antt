@@ -9,7 +9,7 @@ use native.Mathlib.Omega.{arith}
 use borrow.Author.Tests.{lt-ltb, le-ltb, eqb-false}
 use lib.Dec.{ltb}
 use lib.Pow.{pow-pos}
-use Rattle.group_layout.specs.Layout.{Layout, merged, halves, bit, ones, marks, layout, valid, widest, levelOf}
+use Rattle.group_layout.specs.Layout.{Layout, merged, halves, bit, ones, marks, layout, valid, widestIn, levelOf}
 use Rattle.group_layout.proofs.Laws.{marks-in, bit-halves, marks-layout, widest-le, level-le}
 use Rattle.group_block.specs.Block.{block, counterAt}
 use Rattle.group_block.proofs.Bits.{ones-bit, low-bit, high-bit}
@@ -178,27 +178,27 @@ unfolding someOwn
 some-split l r = omega (arith, own-split l r)
 
 -- some block of level j + 1 is merged, or inside a merged one, if the widest level is higher than j
-pub some-widest : {n : ℕ} (L : Layout n) (j : ℕ) → j < n → someOwn j (marks L) (2 ^ (n - suc j)) ≡ over j (widest L)
-unfolding marks widest
+pub some-widest : {n : ℕ} (L : Layout n) (j : ℕ) → j < n → someOwn j (marks L) (2 ^ (n - suc j)) ≡ over j (widestIn L)
+unfolding marks widestIn
 some-widest {n} merged j g = some-ones n j g ∙ sym (over-yes j n g)
 some-widest (halves {n} l r) j g = elim (decLt j n) [
-  | yes i ↦ some-both n j (marks r) (marks l) i (marks-in l) ∙ ap₂ max (some-widest l j i) (some-widest r j i) ∙ over-max j (widest l) (widest r)
+  | yes i ↦ some-both n j (marks r) (marks l) i (marks-in l) ∙ ap₂ max (some-widest l j i) (some-widest r j i) ∙ over-max j (widestIn l) (widestIn r)
   | no i ↦
       let e : j ≡ n = omega arith in
       let f : suc n - suc n ≡ 0 = omega arith in
-      rw (e, f) (some-split l r ∙ sym (over-no n (max (widest l) (widest r)) (omega (arith, widest-le l, widest-le r))))
+      rw (e, f) (some-split l r ∙ sym (over-no n (max (widestIn l) (widestIn r)) (omega (arith, widest-le l, widest-le r))))
 ]
 
 -- The widest level is the number of levels with a merged block.
-levels-up : {n : ℕ} (L : Layout n) (i : ℕ) → i ≤ n → mergedLevels n (marks L) i ≡ min i (widest L)
+levels-up : {n : ℕ} (L : Layout n) (i : ℕ) → i ≤ n → mergedLevels n (marks L) i ≡ min i (widestIn L)
 unfolding mergedLevels
 levels-up L zero g = omega arith
-levels-up L (suc i) g = omega (arith, levels-up L i (omega arith), some-widest L i g, over-more i (widest L))
+levels-up L (suc i) g = omega (arith, levels-up L i (omega arith), some-widest L i g, over-more i (widestIn L))
 
-pub widest-levels : {n : ℕ} (L : Layout n) → mergedLevels n (marks L) n ≡ widest L
+pub widest-levels : {n : ℕ} (L : Layout n) → mergedLevels n (marks L) n ≡ widestIn L
 widest-levels {n} L = omega (arith, levels-up L n (omega arith), widest-le L)
 
-pub widest-valid : (n m : ℕ) → valid n m ≡ true → widest (layout n m) ≡ mergedLevels n m n
+pub widest-valid : (n m : ℕ) → valid n m ≡ true → widestIn (layout n m) ≡ mergedLevels n m n
 widest-valid n m v = sym (rw (marks-layout n m v) at (widest-levels (layout n m)))
 
 pub levels-le : (n m i : ℕ) → mergedLevels n m i ≤ i

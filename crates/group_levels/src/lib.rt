@@ -36,7 +36,7 @@ pub fn level_at(merge: u8, slot: usize) -> u32
 // The largest level of a valid group's counters: one if a pair is merged, one if a half is, one if the group is.
 pub fn widest_level(merge: u8) -> u32
     requires { ⌜ valid 3 merge ≡ true ⌝ }
-    ensures { λ r. ⌜ r ≡ layout_spec.widest (layout 3 merge) ⌝ }
+    ensures { λ r. ⌜ r ≡ layout_spec.widestIn (layout 3 merge) ⌝ }
 {
     let any_pair = (merge | (merge >> 2) | (merge >> 4) | (merge >> 6)) & 1;
     let any_half = ((merge >> 1) | (merge >> 5)) & 1;

@@ -18,7 +18,7 @@ use Rattle.group_layout.specs.Layout.{ones, marks, layout}
 use Rattle.group_block.specs.Block.{counter, cap, shape, fill, block, total}
 use Rattle.group_block.specs.Sum.{Sum, fits, over, held, join, unite, sumTotal}
 use Rattle.group.specs.declared.Group.{Group}
-use Rattle.group.specs.Group.{decode, encode, settle, united}
+use Rattle.group.specs.Group.{decode, encode, settle, unitedGroups}
 use Rattle.group.proofs.Laws.{Eight}
 use Rattle.group_side.specs.Side.{fit, unmerged, stayUnmerged}
 use Rattle.group_side.proofs.Bytes.{fit-split}
@@ -102,20 +102,20 @@ settle-marks g (fits b) e = refl
 settle-marks g (over s) e = absurd (omega arith)
 
 module _ (counts source : List ℕ) (e : Eight counts) (f : Eight source) where
-  united-is : united (unmerged counts) (unmerged source) ≡ settle (unmerged counts) (unite (decode (unmerged counts)) (decode (unmerged source)))
-  unfolding united
+  united-is : unitedGroups (unmerged counts) (unmerged source) ≡ settle (unmerged counts) (unite (decode (unmerged counts)) (decode (unmerged source)))
+  unfolding unitedGroups
   united-is = rw unmerged-valid
 
-  merged-fit : united (unmerged counts) (unmerged source) .group .merge ≡ 0 → fit counts source ≡ true
+  merged-fit : unitedGroups (unmerged counts) (unmerged source) .group .merge ≡ 0 → fit counts source ≡ true
   unfolding decode block
   merged-fit z =
       let s = rw united-is at (unmerged-status counts source e f) in
       unite-fit 3 counts source (e .long) (f .long) (e .small) (f .small)
       (sym (settle-marks (unmerged counts) (unite (decode (unmerged counts)) (decode (unmerged source))) s) ∙ rw united-is at z)
 
-  pub fit-exact : fit counts source ≡ eqb (united (unmerged counts) (unmerged source) .group .merge) 0
+  pub fit-exact : fit counts source ≡ eqb (unitedGroups (unmerged counts) (unmerged source) .group .merge) 0
   fit-exact =
-      both-ways (fit counts source) (eqb (united (unmerged counts) (unmerged source) .group .merge) 0)
+      both-ways (fit counts source) (eqb (unitedGroups (unmerged counts) (unmerged source) .group .merge) 0)
       (λ t. eq-eqb _ 0 (ap (λ (g : Group). g .merge) (fit-united counts source (e .long) (f .long) t)))
       (λ t. merged-fit (eqb-true _ 0 t))
 

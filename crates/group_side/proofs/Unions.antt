@@ -20,7 +20,8 @@ use Rattle.group_block.specs.Sum.{fits, held, join, unite}
 use Rattle.group_block.proofs.Laws.{fill-fits, total-lt}
 use Rattle.group.specs.declared.Group.{Group}
 use Rattle.group.specs.declared.Outcome.{Outcome}
-use Rattle.group.specs.Group.{decode, stored, united, validMerge}
+use Rattle.group.specs.Group.{decode, unitedGroups, validMerge}
+use Rattle.group.specs.Stored.{stored}
 use Rattle.group.proofs.Laws.{Eight, number-in, united-stored, united-fits}
 use Rattle.group_side.proofs.Bytes.{fit-split}
 use Rattle.group_side.specs.Side.{fit, sums, unmerged, unitedSide}
@@ -58,7 +59,7 @@ below-64 : cap 2 + cap 2 + (cap 2 + cap 2) ≤ 2 ^ 64
 unfolding cap
 below-64 = omega arith
 
-pub unmerged-status : (counts source : List ℕ) → Eight counts → Eight source → united (unmerged counts) (unmerged source) .status ≡ 0
+pub unmerged-status : (counts source : List ℕ) → Eight counts → Eight source → unitedGroups (unmerged counts) (unmerged source) .status ≡ 0
 unfolding stored
 unmerged-status counts source e f =
     let h = number-in counts e in
@@ -143,7 +144,7 @@ unite-sums (halves {n} l r) {xs} {ys} {zs} long s =
     rw (x .0, x .1, y .0, y .1, z .0, z .1, unite-sums l low-long low, unite-sums r high-long high)
 
 -- two groups
-sums-united : (counts source zs : List ℕ) → length counts ≡ 8 → Sums counts source zs → united (unmerged counts) (unmerged source) .group ≡ unmerged zs
+sums-united : (counts source zs : List ℕ) → length counts ≡ 8 → Sums counts source zs → unitedGroups (unmerged counts) (unmerged source) .group ≡ unmerged zs
 unfolding decode block stored
 sums-united counts source zs long s =
     let u : unite (decode (unmerged counts)) (decode (unmerged source)) ≡ fits (block 3 (number zs) 0) = unite-sums (layout 3 0) long s in
@@ -151,7 +152,7 @@ sums-united counts source zs long s =
     ap (λ (o : Outcome). o .group) (sym (united-fits (unmerged counts) (unmerged source) (number zs) (sums-lt 3 long s) unmerged-valid unmerged-valid u)) ∙ rw back
 
 pub fit-united : (counts source : List ℕ) → length counts ≡ 8 → length source ≡ 8 → fit counts source ≡ true
-    → united (unmerged counts) (unmerged source) .group ≡ unmerged (sums counts source)
+    → unitedGroups (unmerged counts) (unmerged source) .group ≡ unmerged (sums counts source)
 fit-united counts source l m e = sums-united counts source (sums counts source) l (fit-sums counts source (l ∙ sym m) e)
 
 -- and n of them side by side

@@ -5,7 +5,7 @@ use mathlib.Core.List.{List, [], _∷_, _++_}
 use lib.Dec.{eqb, ltb}
 use lib.ListN.{take, drop}
 use Rattle.group.specs.declared.Group.{Group}
-use Rattle.group.specs.Group.{united}
+use Rattle.group.specs.Group.{unitedGroups}
 
 -- whether some merge byte is not 0
 unfoldable pub anyMerged : List ℕ → Bool
@@ -32,10 +32,10 @@ unmerged counts = record { counts = counts; merge = 0 }
 unfoldable pub unitedSide : ℕ → List ℕ → List ℕ → List ℕ
 unitedSide zero counts source = counts
 unitedSide (suc n) counts source =
-    united (unmerged (take 8 counts)) (unmerged (take 8 source)) .group .counts ++ unitedSide n (drop 8 counts) (drop 8 source)
+    unitedGroups (unmerged (take 8 counts)) (unmerged (take 8 source)) .group .counts ++ unitedSide n (drop 8 counts) (drop 8 source)
 
 -- whether each of those unions is unmerged again
 unfoldable pub stayUnmerged : ℕ → List ℕ → List ℕ → Bool
 stayUnmerged zero counts source = true
 stayUnmerged (suc n) counts source =
-    eqb (united (unmerged (take 8 counts)) (unmerged (take 8 source)) .group .merge) 0 && stayUnmerged n (drop 8 counts) (drop 8 source)
+    eqb (unitedGroups (unmerged (take 8 counts)) (unmerged (take 8 source)) .group .merge) 0 && stayUnmerged n (drop 8 counts) (drop 8 source)

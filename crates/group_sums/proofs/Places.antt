@@ -10,7 +10,7 @@ use lib.Bits.{bitAnd, bitOr, and-mask, or-shr, or-step}
 use Rattle.group_layout.specs.Layout.{bit, layout, valid, levelOf}
 use Rattle.group_layout.specs.Merged.{isMerged}
 use Rattle.group_layout.proofs.Laws.{own-bit}
-use Rattle.group_block.specs.Block.{cap, word, block, counterAt, total}
+use Rattle.group_block.specs.Block.{cap, numberOf, block, counterAt, total}
 use Rattle.group_block.specs.Change.{change}
 use Rattle.group_block.specs.Sum.{add}
 use Rattle.group_block.specs.Passed.{summed}
@@ -41,7 +41,7 @@ module _ (w m k L q : ℕ) (h : w < cap 3) (i : k < 8) (e : counterAt (block 3 w
     stays : InPlace (block 3 w m) k a
     stays = add-in-place (block 3 w m) k a (rw (value-place, e) small)
 
-    word-is : word (stays .0) ≡ w + a * 2 ^ q
+    word-is : numberOf (stays .0) ≡ w + a * 2 ^ q
     word-is = stays .3 ∙ rw (word-block 3 w m h, place-is)
 
     pub sum-in : w + a * 2 ^ q < 2 ^ 64
@@ -55,7 +55,7 @@ module _ (w m k L q : ℕ) (h : w < cap 3) (i : k < 8) (e : counterAt (block 3 w
   -- another value in the counter
   module _ (x n : ℕ) (n-is : n ≡ x % cap L) where
     abbrev t : ℕ
-    t = word (change (block 3 w m) k x)
+    t = numberOf (change (block 3 w m) k x)
 
     new-word : t + w / 2 ^ q % cap L * 2 ^ q ≡ w + n * 2 ^ q
     new-word = rw n-is (rw (value-place, place-is, e, word-block 3 w m h) at (change-word (block 3 w m) k x))

@@ -7,7 +7,7 @@ use native.Mathlib.Numerals.{add-one}
 use native.Mathlib.Omega.{arith}
 use lib.Pow.{pow-pos, field, shr-shr, mod-mod-pow}
 use Rattle.group_layout.specs.Layout.{valid, marks}
-use Rattle.group_block.specs.Block.{Block, cap, shape, word, block, counterAt}
+use Rattle.group_block.specs.Block.{Block, cap, shape, numberOf, block, counterAt}
 use Rattle.group_block.specs.Sum.{add}
 use Rattle.group_block.specs.Passed.{summed}
 use Rattle.group_block.proofs.Adding.{Sound}
@@ -81,12 +81,12 @@ module _ (w m k a L p : ℕ) (h : w < cap 3) (v : valid 3 m ≡ true) (k-lt : k 
         let t : Twins (block 3 w m) L p (both % cap L) (both / cap L) = record { first = first-is; second = second-is } in
         widen-at (block 3 w m) k a L p (both % cap L) (both / cap L) p-is (omega arith) k-lt t over small
 
-    new-lt : word (result .0) < 2 ^ 64
+    new-lt : numberOf (result .0) < 2 ^ 64
     unfolding Sound cap
     new-lt = word-lt (result .0) (rw (result .1) at (add-sound (block 3 w m) k a (block-fits 3 w m h)))
 
     -- the number and the merge byte that are left
-    pub word-is : word (result .0) + both * 2 ^ (8 * p) ≡ w + (both % cap L + both / cap L + a) * 2 ^ (8 * p)
+    pub word-is : numberOf (result .0) + both * 2 ^ (8 * p) ≡ w + (both % cap L + both / cap L + a) * 2 ^ (8 * p)
     word-is = rw (div-add-mod' both (cap L), word-block 3 w m h) at (result .2)
 
     pub sum-in : w + (both % cap L + both / cap L + a) * 2 ^ (8 * p) < 2 ^ 64 + both * 2 ^ (8 * p)
@@ -96,7 +96,7 @@ module _ (w m k a L p : ℕ) (h : w < cap 3) (v : valid 3 m ≡ true) (k-lt : k 
         → record { over = false; word = x; merge = m + 2 ^ (2 ^ L - 1) * 2 ^ p } ≡ summed (add (block 3 w m) k a)
     unfolding summed
     sum-is x e =
-        let f : x ≡ word (result .0) = omega (arith, word-is) in
+        let f : x ≡ numberOf (result .0) = omega (arith, word-is) in
         let g : m + 2 ^ (2 ^ L - 1) * 2 ^ p ≡ marks (shape (result .0)) = sym (rw (marks-block 3 w m v) at (result .3)) in
         rw (f, g) (sym (ap summed (result .1)))
 

@@ -124,7 +124,7 @@ pub fn sum_fits(word: u64, merge: u8, other_word: u64, other_merge: u8) -> bool
 // The count bytes, taken as one number, with another value in the counter that a slot is in.
 pub fn with_value(word: u64, merge: u8, slot: usize, value: u64) -> u64
     requires { ⌜ valid 3 merge ≡ true ⌝ ∗ ⌜ slot < 8 ⌝ }
-    ensures { λ r. ⌜ r ≡ block_spec.word (change_spec.change (block 3 word merge) slot value) ⌝ }
+    ensures { λ r. ⌜ r ≡ block_spec.numberOf (change_spec.change (block 3 word merge) slot value) ⌝ }
 {
     let level = level_at(merge, slot);
     let at = place(level, slot);

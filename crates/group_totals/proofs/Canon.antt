@@ -9,7 +9,7 @@ use native.Mathlib.Omega.{arith}
 use borrow.Table.Steps.{cases}
 use borrow.Author.Tests.{lt-ltb, le-ltb, ltb-true, eq-eqb, ne-eqb}
 use lib.Dec.{ltb, eqb}
-use Rattle.group_layout.specs.Layout.{widest}
+use Rattle.group_layout.specs.Layout.{widestIn}
 use Rattle.group_block.specs.Kind.{ordinary}
 use Rattle.group_block.specs.Block.{Block, counter, split, cap, Fits, shape, counterAt, total}
 use Rattle.group_block.specs.Sum.{Sum, fits, over, sumTotal, held, join, add, unite}
@@ -191,16 +191,16 @@ module _ (t : ℕ → ℕ → ℕ) where
     pub inside : (index + 1) * 2 ^ j ≤ w
     pub large : cap j ≤ t j index
 
-  pub widest-cause : (n i j w : ℕ) → (i + 1) * 2 ^ n ≤ w → widest (shape (canon t n i)) ≡ suc j → Cause w j
-  unfolding canon shape widest
+  pub widest-cause : (n i j w : ℕ) → (i + 1) * 2 ^ n ≤ w → widestIn (shape (canon t n i)) ≡ suc j → Cause w j
+  unfolding canon shape widestIn
   widest-cause zero i j w b = λ e. absurd (omega arith)
   widest-cause (suc n) i j w b =
       let double : 2 ^ suc n ≡ 2 * 2 ^ n = omega arith in
       let twice : (i + 1) * 2 ^ suc n ≡ 2 * ((i + 1) * 2 ^ n) = ap (λ (x : ℕ). (i + 1) * x) double ∙ omega arith in
       let lb : (2 * i + 1) * 2 ^ n ≤ w = omega arith in
       let rb : (2 * i + 1 + 1) * 2 ^ n ≤ w = omega arith in
-      canon-cases t n i (λ x. widest (shape x) ≡ suc j → Cause w j)
-      (λ p q e. elim (ℕ-discrete (widest (shape (canon t n (2 * i)))) (suc j)) [
+      canon-cases t n i (λ x. widestIn (shape x) ≡ suc j → Cause w j)
+      (λ p q e. elim (ℕ-discrete (widestIn (shape (canon t n (2 * i)))) (suc j)) [
         | yes f ↦ widest-cause n (2 * i) j w lb f
         | no f ↦ widest-cause n (2 * i + 1) j w rb (omega arith)
       ])
@@ -213,11 +213,11 @@ module _ (t : ℕ → ℕ → ℕ) where
       ]))
 
   -- a block that is too large for its level has a wider counter around it
-  pub wider : (n s j : ℕ) → j < n → cap j ≤ t j (s / 2 ^ j) → suc j ≤ widest (shape (canon t n (s / 2 ^ n)))
-  unfolding shape widest
+  pub wider : (n s j : ℕ) → j < n → cap j ≤ t j (s / 2 ^ j) → suc j ≤ widestIn (shape (canon t n (s / 2 ^ n)))
+  unfolding shape widestIn
   wider zero s j h l = absurd (omega arith)
   wider (suc n) s j h l =
-      canon-cases t n (s / 2 ^ suc n) (λ x. suc j ≤ widest (shape x))
+      canon-cases t n (s / 2 ^ suc n) (λ x. suc j ≤ widestIn (shape x))
       (λ p q.
       elim (ℕ-discrete j n) [
         | yes e ↦ ⊎-elim
@@ -232,8 +232,8 @@ module _ (t : ℕ → ℕ → ℕ) where
       (λ l. h)
 
 -- a counter's level is at most the widest
-pub level-le : {n : ℕ} (b : Block n) (k : ℕ) → counterAt b k .level ≤ widest (shape b)
-unfolding counterAt shape widest
+pub level-le : {n : ℕ} (b : Block n) (k : ℕ) → counterAt b k .level ≤ widestIn (shape b)
+unfolding counterAt shape widestIn
 level-le (counter v) k = omega arith
 level-le (split {n} l r) k =
     cases (ltb k (2 ^ n)) (λ e. rw e (omega (arith, level-le l k))) (λ e. rw e (omega (arith, level-le r (k - 2 ^ n))))

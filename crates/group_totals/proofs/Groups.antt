@@ -11,14 +11,14 @@ use Rattle.group_layout.specs.Layout.{valid, marks, ones}
 use Rattle.group_layout.specs.Layout as layouts
 use Rattle.group_layout.proofs.Laws.{layout-marks, marks-in, widest-le}
 use Rattle.group_block.specs.Kind.{ordinary}
-use Rattle.group_block.specs.Block.{cap, shape, word, counterAt}
+use Rattle.group_block.specs.Block.{cap, shape, numberOf, counterAt}
 use Rattle.group_block.specs.Counts.{Adds}
 use Rattle.answer.specs.declared.Answer.{Answer}
 use Rattle.group.specs.declared.Group.{Group}
 use Rattle.group.specs.declared.Outcome.{Outcome}
 use Rattle.group.specs.declared.Reading.{Reading}
 use Rattle.answer.specs.Answers.{accepted}
-use Rattle.group.specs.Group.{encode, read, reading, settle, added, united, widestOf}
+use Rattle.group.specs.Group.{encode, read, reading, settle, added, unitedGroups, widestOf}
 use Rattle.group.proofs.Laws.{decode-encode, encode-valid}
 use Rattle.group_totals.proofs.Canon.{small, canon, canonSum, canon-same, canon-fits, sum-cases, plus-off, canon-off, add-canon, unite-canon, counter-is, Cause, level-le}
 use Rattle.group_totals.proofs.Canon as blocks
@@ -33,7 +33,7 @@ unfolding groupOf
 group-same t u e g = ap encode (canon-same t u e 3 g)
 
 clear-group : (g : ℕ) → groupOf (λ n i. 0) g ≡ record { counts = replicate 8 0; merge = 0 }
-unfolding groupOf encode canon small bytes word shape marks ones cap
+unfolding groupOf encode canon small bytes numberOf shape marks ones cap
 clear-group g = refl
 
 pub group-clear : (t : ℕ → ℕ → ℕ) → ((n i : ℕ) → t n i ≡ 0) → (g : ℕ) → groupOf t g ≡ record { counts = replicate 8 0; merge = 0 }
@@ -49,7 +49,7 @@ byte-lt (suc n) v (suc i) = byte-lt n (v / 256) i
 module _ (t : ℕ → ℕ → ℕ) (g : ℕ) where
   pub count-lt : (i : ℕ) → getD (groupOf t g .counts) i 0 < 256
   unfolding groupOf encode
-  count-lt i = byte-lt 8 (word (canon t 3 g)) i
+  count-lt i = byte-lt 8 (numberOf (canon t 3 g)) i
 
   pub merge-lt : groupOf t g .merge < 256
   unfolding groupOf encode
@@ -60,11 +60,11 @@ module _ (t : ℕ → ℕ → ℕ) (g : ℕ) where
   merge-valid = encode-valid (canon t 3 g)
 
   -- its widest level
-  widest-is : widestOf (groupOf t g .merge) ≡ accepted (layouts.widest (shape (canon t 3 g)))
+  widest-is : widestOf (groupOf t g .merge) ≡ accepted (layouts.widestIn (shape (canon t 3 g)))
   unfolding widestOf groupOf encode
   widest-is = rw (encode-valid (canon t 3 g), layout-marks (shape (canon t 3 g)))
 
-  widest-value : widestOf (groupOf t g .merge) .value ≡ layouts.widest (shape (canon t 3 g))
+  widest-value : widestOf (groupOf t g .merge) .value ≡ layouts.widestIn (shape (canon t 3 g))
   widest-value = ap (λ (x : Answer). x .value) widest-is
 
   pub widest-status : widestOf (groupOf t g .merge) .status ≡ 0
@@ -128,8 +128,8 @@ module _ (t t′ : ℕ → ℕ → ℕ) (adds′ : Adds ordinary t′) (s a : �
 
 -- the sums of two totals
 pub united-left : (t u v : ℕ → ℕ → ℕ) → Adds ordinary t → Adds ordinary u → Adds ordinary v → ((n i : ℕ) → v n i ≡ t n i + u n i)
-    → (g : ℕ) → t 3 g < cap 3 → u 3 g < cap 3 → united (groupOf t g) (groupOf u g) .status ≡ 0 → Left v g (united (groupOf t g) (groupOf u g))
-unfolding united groupOf
+    → (g : ℕ) → t 3 g < cap 3 → u 3 g < cap 3 → unitedGroups (groupOf t g) (groupOf u g) .status ≡ 0 → Left v g (unitedGroups (groupOf t g) (groupOf u g))
+unfolding unitedGroups groupOf
 united-left t u v at au av sum g p q =
     rw (
       encode-valid (canon t 3 g),

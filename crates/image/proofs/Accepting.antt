@@ -18,7 +18,7 @@ use Rattle.group_fields.proofs.Readings.{level-most, changed-at, changed-before
 use Rattle.word.specs.declared.Step.{Step}
 use Rattle.word.specs.Word.{go, payload, below}
 use Rattle.word.proofs.Passed.{passed, below-is}
-use Rattle.image_format.specs.Image.{word, countKind, parts, wordsOf, levelAt, isFirst, slotWords, slotsWords, groupWords}
+use Rattle.image_format.specs.Image.{word, countKind, parts, wordCount, levelAt, isFirst, slotWords, slotsWords, groupWords}
 use Rattle.image_format.specs.Write.{slotSize, slotsSize, groupSize}
 use Rattle.image_format.specs.Read.{firstBits, checkParts, checkSlot, checkSlots, valueFrom, readSlot, readSlots, readGroup}
 use Rattle.image_format.proofs.Laws.{slot-none, slot-some, size-first, size-other}
@@ -70,14 +70,14 @@ first-low n words p bits q l e =
     rw (pow-add 2 bits (24 * n)) (digits-lt (ltb-true (payload words p) (2 ^ bits) (b .true-of)) (r .small))
 
 pub record Value (level : ℕ) (words : List ℕ) (p q : ℕ) : Type 0 where
-  pub fits : valueFrom (wordsOf level) 0 words p < 2 ^ (8 * 2 ^ level)
-  pub position : q ≡ p + wordsOf level
-  pub is : drop p words ≡ parts (wordsOf level) (valueFrom (wordsOf level) 0 words p) ++ drop q words
+  pub fits : valueFrom (wordCount level) 0 words p < 2 ^ (8 * 2 ^ level)
+  pub position : q ≡ p + wordCount level
+  pub is : drop p words ≡ parts (wordCount level) (valueFrom (wordCount level) 0 words p) ++ drop q words
 
-pub value-is : (level : ℕ) (words : List ℕ) (p q : ℕ) → level ≤ 3 → checkParts (wordsOf level) words p (2 ^ firstBits level) ≡ go q → Value level words p q
+pub value-is : (level : ℕ) (words : List ℕ) (p q : ℕ) → level ≤ 3 → checkParts (wordCount level) words p (2 ^ firstBits level) ≡ go q → Value level words p q
 value-is level words p q l e =
     let b = words-bits level in
-    let n = wordsOf level in
+    let n = wordCount level in
     let bits : firstBits level ≤ 24 = b .3 in
     let s : n ≡ suc (n - 1) = omega arith in
     let d = digits-are n words p (2 ^ firstBits level) q (pow-mono {i = firstBits level} {j = 24} bits) e in
@@ -112,7 +112,7 @@ module _ (k : ℕ) (h : Group) (words : List ℕ) (p q : ℕ) (o : Good h) (i : 
   unfolding checkSlot
   slot-first t =
       let L = levelAt (h .merge) k in
-      let n = wordsOf L in
+      let n = wordCount L in
       let v = valueFrom n 0 words p in
       let l = read-level h k in
       let three : L ≤ 3 = rw (← l) (level-most h k) in

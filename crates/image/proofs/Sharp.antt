@@ -16,7 +16,7 @@ use Rattle.word.proofs.Laws.{due-in}
 use Rattle.word.proofs.Passed.{goes, below-is}
 use Rattle.word.proofs.Places.{tested-at}
 use Rattle.word.proofs.Before.{Cut, cut-go, next-cut, next-same, payload-same, due-same, none-due, tested-same, below-same, below-cut}
-use Rattle.image_format.specs.Image.{headPayload, layoutKind, countKind, wordsOf, levelAt, isFirst}
+use Rattle.image_format.specs.Image.{headPayload, layoutKind, countKind, wordCount, levelAt, isFirst}
 use Rattle.image_format.specs.Read.{checkHead, checkEnd, checked, firstBits, checkParts, checkSlot, checkSlots, checkGroups, mergesAt, checkFour, checkFours}
 
 module _ (words : List ℕ) (q : ℕ) where
@@ -32,7 +32,7 @@ module _ (words : List ℕ) (q : ℕ) where
 
   slot-cut : (m k p : ℕ) → Cut (length words) q p (checkSlot m k words p) (checkSlot m k front p)
   unfolding checkSlot
-  slot-cut m k p = cases (isFirst m k) (λ t. rw t (parts-cut (wordsOf (levelAt m k)) p (2 ^ firstBits (levelAt m k)))) (λ t. rw t (cut-go (length words) q p))
+  slot-cut m k p = cases (isFirst m k) (λ t. rw t (parts-cut (wordCount (levelAt m k)) p (2 ^ firstBits (levelAt m k)))) (λ t. rw t (cut-go (length words) q p))
 
   slots-cut : (n k m p : ℕ) → Cut (length words) q p (checkSlots n k m words p) (checkSlots n k m front p)
   unfolding checkSlots

@@ -1,4 +1,4 @@
--- Which words are the image of a meter. Document 01, 'Images and feeds'. Cited by the theorem on accepted images.
+-- Which words are the image of a meter. Document 01, 'Images and feeds'. Cited by theorems.
 use Prim.Native.Nat.{ℕ, _<_}
 use mathlib.Core.Path.{_≡_}
 use mathlib.Core.Bool.{true}

@@ -10,7 +10,7 @@ use lib.ListN.{length, getD, drop, length-drop}
 use lib.Pow.{shr-lt}
 use lib.Seq.{getD-drop, drop-drop}
 use Rattle.word.specs.Word.{go, next, payload, isDue, tested, below}
-use Rattle.image_format.specs.Image.{word, countKind, parts, wordsOf}
+use Rattle.image_format.specs.Image.{word, countKind, parts, wordCount}
 use Rattle.image_format.proofs.Fields.{words-bits}
 use Rattle.image_format.specs.Read.{checkParts, firstBits}
 
@@ -64,11 +64,11 @@ check-value n v words p rest limit e l =
     rw (below-here words p countKind x (parts n v ++ rest) e (omega (arith, digit-lt v n)) limit l)
     (check-digits n v words (p + 1) rest (here words p (word countKind x) (parts n v ++ rest) e .after) ∙ ap go (omega arith))
 
-pub check-counter : (level v : ℕ) (words : List ℕ) (p : ℕ) (rest : List ℕ) → v < 2 ^ (8 * 2 ^ level) → drop p words ≡ parts (wordsOf level) v ++ rest
-    → checkParts (wordsOf level) words p (2 ^ firstBits level) ≡ go (p + wordsOf level)
+pub check-counter : (level v : ℕ) (words : List ℕ) (p : ℕ) (rest : List ℕ) → v < 2 ^ (8 * 2 ^ level) → drop p words ≡ parts (wordCount level) v ++ rest
+    → checkParts (wordCount level) words p (2 ^ firstBits level) ≡ go (p + wordCount level)
 check-counter level v words p rest h e =
     let b = words-bits level in
-    let n = wordsOf level - 1 in
-    let s : wordsOf level ≡ suc n = omega arith in
+    let n = wordCount level - 1 in
+    let s : wordCount level ≡ suc n = omega arith in
     let l : v / 2 ^ (24 * n) < 2 ^ firstBits level = shr-lt (firstBits level) (24 * n) (rw (b .1) h) in
     rw s (check-value n v words p rest (2 ^ firstBits level) (rw s at e) (omega (arith, l, mod-le (v / 2 ^ (24 * n)) (2 ^ 24))))

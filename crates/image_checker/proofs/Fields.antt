@@ -12,7 +12,7 @@ use lib.ListN.{length, getD}
 use lib.Pow.{pow-pos, pow-add, pow-mono, split, shl-shr}
 use Rattle.word.specs.declared.Step.{Step}
 use Rattle.word.specs.Word.{go, next, payload, isDue, tested, below}
-use Rattle.image_format.specs.Image.{countKind, wordsOf, levelAt, isFirst}
+use Rattle.image_format.specs.Image.{countKind, wordCount, levelAt, isFirst}
 use Rattle.image_format.specs.Write.{groupSize}
 use Rattle.image_format.specs.Read.{checkParts, checkSlot, checkSlots, firstBits}
 use Rattle.image_format.specs.Fields.{Field, partFields, slotFields, slotsFields, groupFields, fieldAt, Described}
@@ -53,7 +53,7 @@ check-slot-fields : (m k : ℕ) (words : List ℕ) (p : ℕ) → checkSlot m k w
 unfolding checkSlot slotFields checkFields
 check-slot-fields m k words p =
     by-test (isFirst m k)
-    (λ t. rw t (check-parts-fields (wordsOf (levelAt m k)) (8 * k) (firstBits (levelAt m k)) words p))
+    (λ t. rw t (check-parts-fields (wordCount (levelAt m k)) (8 * k) (firstBits (levelAt m k)) words p))
     (λ t. rw t)
 
 check-slots-fields : (n k m : ℕ) (words : List ℕ) (p : ℕ) → checkSlots n k m words p ≡ checkFields (slotsFields n k m) words p

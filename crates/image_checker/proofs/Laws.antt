@@ -10,7 +10,7 @@ use native.Mathlib.Omega.{arith}
 use lib.ListN.{length, getD, drop, drop-of-length-le}
 use lib.Seq.{drop-cons}
 use Rattle.word.specs.Word.{next, below}
-use Rattle.image_format.specs.Image.{countKind, wordsOf, levelAt, isFirst}
+use Rattle.image_format.specs.Image.{countKind, wordCount, levelAt, isFirst}
 use Rattle.image_format.specs.Read.{checkParts, checkSlot, checkSlots, checkGroups, checkFour, checkFours, firstBits}
 use Rattle.image_format.proofs.Laws.{small-shl}
 
@@ -44,7 +44,7 @@ pub check-slot-other : (m k : ℕ) (words : List ℕ) (p : ℕ) → isFirst m k 
 unfolding checkSlot
 check-slot-other m k words p e = rw e
 
-pub check-slot-first : (m k level n bits : ℕ) (words : List ℕ) (p : ℕ) → level ≡ levelAt m k → isFirst m k ≡ true → n ≡ wordsOf level → bits ≡ firstBits level → bits ≤ 24
+pub check-slot-first : (m k level n bits : ℕ) (words : List ℕ) (p : ℕ) → level ≡ levelAt m k → isFirst m k ≡ true → n ≡ wordCount level → bits ≡ firstBits level → bits ≤ 24
     → checkParts n words p (1 * 2 ^ bits % 2 ^ 32) ≡ checkSlot m k words p
 unfolding checkSlot
 check-slot-first m k level n bits words p e f h i j = rw (small-shl 1 bits (omega arith) j, one-mul (2 ^ bits), f, ← e, h, i)

@@ -12,7 +12,7 @@ use lib.Seq.{drop-cons}
 use Rattle.group_codes.specs.Pack.{layoutsOf, fourMerges, unpacked}
 use Rattle.group_codes.proofs.Packing.{merge-none}
 use Rattle.word.specs.Word.{go, next, payload}
-use Rattle.image_format.specs.Image.{word, layoutKind, countKind, wordsOf, isFirst}
+use Rattle.image_format.specs.Image.{word, layoutKind, countKind, wordCount, isFirst}
 use Rattle.image_format.specs.Read.{firstBits, checkParts, checkSlot, checkSlots, checkGroups, checkFour, mergesAt}
 use Rattle.image_format.proofs.Sizes.{plain-level}
 use Rattle.image_checker.specs.Checker.{Counts}
@@ -24,7 +24,7 @@ unfolding word
 count-is x e = omega arith
 
 plain-slot : (k : ℕ) (words : List ℕ) (p : ℕ) → k < 8 → Counts words p 1 → checkSlot 0 k words p ≡ go (p + 1)
-unfolding checkSlot checkParts isFirst wordsOf firstBits next
+unfolding checkSlot checkParts isFirst wordCount firstBits next
 plain-slot k words p h c =
     let x = getD words p 0 in
     let e : x ≡ word countKind (x % 256) = count-is x (rw (add-zero p) at (c .1 0 (omega arith))) in

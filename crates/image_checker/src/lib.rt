@@ -94,7 +94,7 @@ fn check_group(words: &[u32], p: usize, merge: u8) -> Step
         let s = check_parts(
             words,
             at,
-            image_format::words_of(level),
+            image_format::word_count(level),
             1 << image_format::first_bits(level),
         );
         if s.status != 0 {

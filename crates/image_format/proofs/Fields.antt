@@ -11,7 +11,7 @@ use lib.ListN.{length, getD, drop, set, length-append, length-set, List·getD-ap
 use lib.Pow.{pow-pos}
 use lib.Seq.{getD-append-add, getD-drop, getD-set-same, getD-set-other, drop-drop, drop-at}
 use Rattle.image_format.specs.Fields.{Field, partFields, slotFields, slotsFields, groupFields, fieldAt, Told, Described}
-use Rattle.image_format.specs.Image.{wordsOf, levelAt, isFirst}
+use Rattle.image_format.specs.Image.{wordCount, levelAt, isFirst}
 use Rattle.image_format.specs.Read.{firstBits}
 use Rattle.image_format.specs.Write.{slotSize, slotsSize, groupSize}
 use Rattle.image_format.proofs.Laws.{by-test, size-first, sizes-none}
@@ -26,7 +26,7 @@ parts-size (suc n) place bits = ap suc (parts-size n place 24)
 
 slot-size : (m k : ℕ) → length (slotFields m k) ≡ slotSize m k
 unfolding slotFields slotSize
-slot-size m k = by-test (isFirst m k) (λ t. rw t (parts-size (wordsOf (levelAt m k)) (8 * k) (firstBits (levelAt m k)))) (λ t. rw t)
+slot-size m k = by-test (isFirst m k) (λ t. rw t (parts-size (wordCount (levelAt m k)) (8 * k) (firstBits (levelAt m k)))) (λ t. rw t)
 
 slots-size : (n k m : ℕ) → length (slotsFields n k m) ≡ slotsSize n k m
 unfolding slotsFields slotsSize
@@ -38,8 +38,8 @@ unfolding groupFields groupSize
 fields-size m = slots-size 8 0 m
 
 -- a counter has at most as many words as slots
-pub words-most : (level : ℕ) → wordsOf level ≤ 2 ^ level
-unfolding wordsOf
+pub words-most : (level : ℕ) → wordCount level ≤ 2 ^ level
+unfolding wordCount
 words-most level = omega (arith, pow-pos level)
 
 -- from counter to counter: f counters at most are left
@@ -48,7 +48,7 @@ sizes-most zero k m h t = omega (arith, sizes-none (8 - k) k m (omega arith))
 sizes-most (suc f) k m h t = elim (decLt k 8) [
   | yes l ↦
       let L = levelAt m k in
-      let e = size-first m k L (wordsOf L) refl (t l) refl in
+      let e = size-first m k L (wordCount L) refl (t l) refl in
       omega (arith, sizes-turn k m l (t l), e, words-most L, counter-end m k l (t l), sizes-most f (k + 2 ^ L) m (omega (arith, pow-pos L)) (next-first m k l (t l)))
   | no l ↦ omega (arith, sizes-none (8 - k) k m (omega arith))
 ]
@@ -58,8 +58,8 @@ unfolding groupSize
 size-most m = sizes-most 8 0 m (omega arith) (λ l. first-zero m)
 
 -- the words of a counter have all of its bits
-pub words-bits : (level : ℕ) → (1 ≤ wordsOf level) × (firstBits level + 24 * (wordsOf level - 1) ≡ 8 * 2 ^ level) × (1 ≤ firstBits level) × (firstBits level ≤ 24)
-unfolding wordsOf firstBits
+pub words-bits : (level : ℕ) → (1 ≤ wordCount level) × (firstBits level + 24 * (wordCount level - 1) ≡ 8 * 2 ^ level) × (1 ≤ firstBits level) × (firstBits level ≤ 24)
+unfolding wordCount firstBits
 words-bits level = (omega (arith, pow-pos level), omega (arith, pow-pos level), omega (arith, pow-pos level), omega (arith, pow-pos level))
 
 abbrev In : Field → Type 0
@@ -83,7 +83,7 @@ slot-in m k i l h =
     (λ t.
     let L = levelAt m k in
     let b = words-bits L in
-    rw t (parts-in (wordsOf L) (8 * k) (firstBits L) i (rw t at n) (b .3) (omega (arith, counter-end m k l t)) (b .2)))
+    rw t (parts-in (wordCount L) (8 * k) (firstBits L) i (rw t at n) (b .3) (omega (arith, counter-end m k l t)) (b .2)))
     (λ t. let z : i < 0 = rw t at n in absurd (omega arith))
 
 slots-in : (n k m i : ℕ) → k + n ≤ 8 → i < length (slotsFields n k m) → In (getD (slotsFields n k m) i none)
@@ -133,12 +133,12 @@ module _ (fs : List Field) (t : List ℕ) (at j : ℕ) (long : at + 17 ≤ lengt
       )
 
 -- the words from the first slot of a counter on: those of the counter, and those behind it
-pub fields-turn : (m k level n bits : ℕ) → k < 8 → isFirst m k ≡ true → level ≡ levelAt m k → n ≡ wordsOf level → bits ≡ firstBits level
+pub fields-turn : (m k level n bits : ℕ) → k < 8 → isFirst m k ≡ true → level ≡ levelAt m k → n ≡ wordCount level → bits ≡ firstBits level
     → slotsFields (8 - k) k m ≡ partFields n (8 * k) bits ++ slotsFields (8 - (k + 2 ^ levelAt m k)) (k + 2 ^ levelAt m k) m
 unfolding slotsFields slotFields
 fields-turn m k level n bits h t e f g =
     let z : 8 - k ≡ suc (8 - (k + 1)) = omega arith in
-    rw (f, g, e, z, t) (ap (λ (l : List Field). partFields (wordsOf (levelAt m k)) (8 * k) (firstBits (levelAt m k)) ++ l) (behind (λ n i. slotsFields n i m) m (λ n i o. rw o) k h t))
+    rw (f, g, e, z, t) (ap (λ (l : List Field). partFields (wordCount (levelAt m k)) (8 * k) (firstBits (levelAt m k)) ++ l) (behind (λ n i. slotsFields n i m) m (λ n i o. rw o) k h t))
 
 -- what is behind the words of a counter
 pub past-parts : (fs rest : List Field) (i n place bits : ℕ) → drop i fs ≡ partFields n place bits ++ rest → drop (i + n) fs ≡ rest

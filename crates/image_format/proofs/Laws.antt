@@ -16,7 +16,7 @@ use Rattle.group.specs.declared.Reading.{Reading}
 use Rattle.group.specs.Group.{read}
 use Rattle.geometry.specs.Geometry.{validWidth}
 use Rattle.geometry.proofs.Widths.{width-is}
-use Rattle.image_format.specs.Image.{parts, wordsOf, levelAt, isFirst, slotWords, logFrom, logWidth}
+use Rattle.image_format.specs.Image.{parts, wordCount, levelAt, isFirst, slotWords, logFrom, logWidth}
 use Rattle.image_format.specs.Write.{slotSize, slotsSize}
 
 pub by-test : (b : Bool) {A : Type 0} → (b ≡ true → A) → (b ≡ false → A) → A
@@ -65,9 +65,9 @@ unfolding logWidth
 log-width-most w = omega (arith, log-most 17 w (omega arith))
 
 -- sizes
-pub size-first : (m k level n : ℕ) → level ≡ levelAt m k → isFirst m k ≡ true → n ≡ wordsOf level → n ≡ slotSize m k
+pub size-first : (m k level n : ℕ) → level ≡ levelAt m k → isFirst m k ≡ true → n ≡ wordCount level → n ≡ slotSize m k
 unfolding slotSize
-size-first m k level n e f g = rw f (g ∙ ap wordsOf e)
+size-first m k level n e f g = rw f (g ∙ ap wordCount e)
 
 pub size-other : (m k : ℕ) → isFirst m k ≡ false → 0 ≡ slotSize m k
 unfolding slotSize
@@ -93,7 +93,7 @@ pub slot-none : (g : Group) (k : ℕ) → isFirst (g .merge) k ≡ false → slo
 unfolding slotWords
 slot-none g k e = rw e
 
-pub slot-some : (g : Group) (k level n : ℕ) (r : Reading) → level ≡ levelAt (g .merge) k → isFirst (g .merge) k ≡ true → n ≡ wordsOf level → r ≡ read g k
+pub slot-some : (g : Group) (k level n : ℕ) (r : Reading) → level ≡ levelAt (g .merge) k → isFirst (g .merge) k ≡ true → n ≡ wordCount level → r ≡ read g k
     → parts n (r .value) ≡ slotWords g k
 unfolding slotWords
 slot-some g k level n r e f h i = rw (f, ← e, h, i)

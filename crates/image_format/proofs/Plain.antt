@@ -12,7 +12,7 @@ use Rattle.group.specs.declared.Reading.{Reading}
 use Rattle.group.specs.Group.{read}
 use Rattle.group.proofs.Laws.{Eight}
 use Rattle.group_fields.proofs.Readings.{plain-reading}
-use Rattle.image_format.specs.Image.{word, countKind, parts, wordsOf, isFirst, slotWords, slotsWords, groupWords}
+use Rattle.image_format.specs.Image.{word, countKind, parts, wordCount, isFirst, slotWords, slotsWords, groupWords}
 use Rattle.image_format.proofs.Sizes.{plain-level}
 
 -- one word and those after it
@@ -21,7 +21,7 @@ more e f = ap₂ (λ (x : ℕ) (l : List ℕ). word countKind x ∷ l) e f
 
 -- a slot that is a counter of its own
 plain-slot : (xs : List ℕ) (k : ℕ) → Eight xs → k < 8 → slotWords (record { counts = xs; merge = 0 }) k ≡ word countKind (getD xs k 0) ∷ []
-unfolding slotWords isFirst wordsOf parts
+unfolding slotWords isFirst wordCount parts
 plain-slot xs k o h =
     let e : read (record { counts = xs; merge = 0 }) k .value ≡ getD xs k 0 = ap (λ (r : Reading). r .value) (plain-reading xs k o h) in
     let b : getD xs k 0 / 2 ^ 0 % 2 ^ 24 ≡ getD xs k 0 = omega (arith, o .small k, div-one (getD xs k 0)) in

@@ -11,7 +11,7 @@ use Rattle.group.specs.declared.Reading.{Reading}
 use Rattle.group.specs.Group.{validMerge, read}
 use Rattle.group.proofs.Changing.{zero-good}
 use Rattle.group_fields.proofs.Readings.{none-merged, level-most, level-by-merge, invalid-reading, plain-reading}
-use Rattle.image_format.specs.Image.{wordsOf, levelAt, isFirst}
+use Rattle.image_format.specs.Image.{wordCount, levelAt, isFirst}
 use Rattle.image_format.specs.Write.{slotSize, slotsSize, groupSize}
 use Rattle.laws.proofs.Shifts.{one-shl}
 
@@ -47,7 +47,7 @@ unfolding levelAt
 plain-level k h = ap (λ (r : Reading). r .level) (plain-reading (replicate 8 0) k (zero-good 0 none-merged .eight) h)
 
 single-sizes : (n k m : ℕ) → k + n ≤ 8 → ((i : ℕ) → i < 8 → levelAt m i ≡ 0) → slotsSize n k m ≡ n
-unfolding slotsSize slotSize isFirst wordsOf
+unfolding slotsSize slotSize isFirst wordCount
 single-sizes zero k m h e = refl
 single-sizes (suc n) k m h e = rw (e k (omega arith), eq-eqb (k % 1) 0 (mod-one k), single-sizes n (k + 1) m (omega arith) e) (omega arith)
 

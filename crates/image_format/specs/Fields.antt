@@ -4,7 +4,7 @@ use mathlib.Core.Path.{_≡_}
 use mathlib.Core.Bool.{cond}
 use mathlib.Core.List.{List, [], _∷_, _++_}
 use lib.ListN.{length, getD, drop}
-use Rattle.image_format.specs.Image.{wordsOf, levelAt, isFirst}
+use Rattle.image_format.specs.Image.{wordCount, levelAt, isFirst}
 use Rattle.image_format.specs.Write.{groupSize}
 use Rattle.image_format.specs.Read.{firstBits}
 
@@ -20,7 +20,7 @@ partFields (suc n) place bits = record { place = place + 24 * n; bits = bits } �
 
 -- the words of the counter that starts at slot k, if one does
 unfoldable pub slotFields : ℕ → ℕ → List Field
-slotFields merge k = cond (isFirst merge k) (partFields (wordsOf (levelAt merge k)) (8 * k) (firstBits (levelAt merge k))) []
+slotFields merge k = cond (isFirst merge k) (partFields (wordCount (levelAt merge k)) (8 * k) (firstBits (levelAt merge k))) []
 
 unfoldable pub slotsFields : ℕ → ℕ → ℕ → List Field
 slotsFields zero k merge = []

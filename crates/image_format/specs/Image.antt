@@ -1,4 +1,4 @@
--- The words of an image. Document 01, 'Images and feeds'. Contracts of writing and reading and the theorems cite it.
+-- The words of an image. Document 01, 'Images and feeds'. Cited by contracts and theorems.
 use Prim.Native.Nat.{ℕ, zero, suc, _+_, _*_, _/_, _%_, _^_}
 use mathlib.Core.Bool.{Bool, cond}
 use mathlib.Core.List.{List, [], _∷_, _++_}
@@ -35,8 +35,8 @@ unfoldable pub headPayload : ℕ → ℕ → ℕ
 headPayload d w = logWidth w * 16 + d
 
 -- A counter of a level holds 8 × 2 ^ level bits, and a word 24 of them.
-unfoldable pub wordsOf : ℕ → ℕ
-wordsOf level = (8 * 2 ^ level + 23) / 24
+unfoldable pub wordCount : ℕ → ℕ
+wordCount level = (8 * 2 ^ level + 23) / 24
 
 -- the n words of a counter's value, high part first
 unfoldable pub parts : ℕ → ℕ → List ℕ
@@ -53,7 +53,7 @@ isFirst merge k = eqb (k % 2 ^ levelAt merge k) 0
 
 -- the words of the counter that starts at slot k, if one does
 unfoldable pub slotWords : Group → ℕ → List ℕ
-slotWords g k = cond (isFirst (g .merge) k) (parts (wordsOf (levelAt (g .merge) k)) (read g k .value)) []
+slotWords g k = cond (isFirst (g .merge) k) (parts (wordCount (levelAt (g .merge) k)) (read g k .value)) []
 
 -- the counters of n slots in slot order, the first of which is slot k
 unfoldable pub slotsWords : ℕ → ℕ → Group → List ℕ

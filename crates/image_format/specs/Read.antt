@@ -1,4 +1,4 @@
--- Reading an image. Document 01, 'Images and feeds' and 'Turned away, in checking order'. The contract of reading and the theorems cite it.
+-- Reading an image. Document 01, 'Images and feeds' and 'Turned away, in checking order'. Cited by contracts and theorems.
 use Prim.Native.Nat.{ℕ, zero, suc, _+_, _-_, _*_, _/_, _%_, _^_}
 use mathlib.Core.Bool.{cond}
 use mathlib.Core.List.{List, [], _∷_, _++_}
@@ -14,7 +14,7 @@ use Rattle.geometry.specs.Geometry.{stride}
 use Rattle.geometry.specs.Checks.{badShape}
 use Rattle.geometry.specs.Rows.{withGroup}
 use Rattle.word.specs.Word.{headKind, endKind, go, stop, next, payload, tested, below}
-use Rattle.image_format.specs.Image.{layoutKind, countKind, headPayload, wordsOf, levelAt, isFirst}
+use Rattle.image_format.specs.Image.{layoutKind, countKind, headPayload, wordCount, levelAt, isFirst}
 use Rattle.image_format.specs.Write.{slotSize, groupSize}
 use Rattle.word.specs.declared.Step.{Step}
 
@@ -25,7 +25,7 @@ checkHead d w words =
 
 -- The words of a counter have 24 bits. The value fits its level if the first word has at most the bits that the others leave.
 unfoldable pub firstBits : ℕ → ℕ
-firstBits level = 8 * 2 ^ level - 24 * (wordsOf level - 1)
+firstBits level = 8 * 2 ^ level - 24 * (wordCount level - 1)
 
 unfoldable pub checkParts : ℕ → List ℕ → ℕ → ℕ → Step
 checkParts zero words p limit = go p
@@ -33,7 +33,7 @@ checkParts (suc n) words p limit = next (below words p countKind limit) (λ q. c
 
 unfoldable pub checkSlot : ℕ → ℕ → List ℕ → ℕ → Step
 checkSlot merge k words p =
-    cond (isFirst merge k) (checkParts (wordsOf (levelAt merge k)) words p (2 ^ firstBits (levelAt merge k))) (go p)
+    cond (isFirst merge k) (checkParts (wordCount (levelAt merge k)) words p (2 ^ firstBits (levelAt merge k))) (go p)
 
 unfoldable pub checkSlots : ℕ → ℕ → ℕ → List ℕ → ℕ → Step
 checkSlots zero k merge words p = go p
@@ -74,7 +74,7 @@ valueFrom (suc n) v words p = valueFrom n (v % 2 ^ 40 * 2 ^ 24 + payload words p
 -- the group with the counter that starts at slot k, if one does, from the words at a position
 unfoldable pub readSlot : ℕ → Group → List ℕ → ℕ → Group
 readSlot k g words p =
-    cond (isFirst (g .merge) k) (changed g k (valueFrom (wordsOf (levelAt (g .merge) k)) 0 words p) .group) g
+    cond (isFirst (g .merge) k) (changed g k (valueFrom (wordCount (levelAt (g .merge) k)) 0 words p) .group) g
 
 unfoldable pub readSlots : ℕ → ℕ → Group → List ℕ → ℕ → Group
 readSlots zero k g words p = g

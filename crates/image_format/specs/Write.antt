@@ -1,4 +1,4 @@
--- Writing an image. Document 01, 'Images and feeds' and 'Turned away, in checking order'. The contract of writing and the theorems cite it.
+-- Writing an image. Document 01, 'Images and feeds' and 'Turned away, in checking order'. Cited by contracts and theorems.
 use Prim.Native.Nat.{ℕ, zero, suc, _+_}
 use mathlib.Core.Bool.{Bool, true, cond, _&&_}
 use mathlib.Core.List.{List, [], _∷_, _++_}
@@ -11,7 +11,7 @@ use Rattle.answer.specs.Numbers.{invalidMerge, tooFewWords}
 use Rattle.geometry.specs.Geometry.{stride}
 use Rattle.answer.specs.Order.{unless, firstOf}
 use Rattle.geometry.specs.Checks.{badShape}
-use Rattle.image_format.specs.Image.{wordsOf, levelAt, isFirst, image}
+use Rattle.image_format.specs.Image.{wordCount, levelAt, isFirst, image}
 
 -- whether all of these merge bytes are valid
 unfoldable pub allValid : List ℕ → Bool
@@ -25,7 +25,7 @@ validRows (suc n) w memory = allValid (drop w (take (stride w) memory)) && valid
 
 -- the number of words that n slots of a group with this merge byte take, the first of which is slot k
 unfoldable pub slotSize : ℕ → ℕ → ℕ
-slotSize merge k = cond (isFirst merge k) (wordsOf (levelAt merge k)) 0
+slotSize merge k = cond (isFirst merge k) (wordCount (levelAt merge k)) 0
 
 unfoldable pub slotsSize : ℕ → ℕ → ℕ → ℕ
 slotsSize zero k merge = 0

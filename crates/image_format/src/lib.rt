@@ -6,7 +6,7 @@ ghost use lib.ListN.{length, take};
 ghost use Rattle.group_codes.specs.Pack.{layoutsOf};
 ghost use Rattle.group_codes.specs.Codes.{codeOf};
 ghost use Rattle.image_format.specs.Image as spec;
-ghost use Rattle.image_format.specs.Image.{countKind, logWidth, wordsOf, levelAt};
+ghost use Rattle.image_format.specs.Image.{countKind, logWidth, wordCount, levelAt};
 ghost use Rattle.image_format.specs.Write.{groupSize};
 ghost use Rattle.image_format.specs.Read.{firstBits};
 ghost use Rattle.image_format.specs.Fields.{partFields, ToldMore, Described};
@@ -48,9 +48,9 @@ pub fn level_at(merge: u8, k: usize) -> u32
 }
 
 // The number of words of a counter.
-pub fn words_of(level: u32) -> u32
+pub fn word_count(level: u32) -> u32
     requires { ⌜ level ≤ 3 ⌝ }
-    ensures { λ r. ⌜ r ≡ wordsOf level ⌝ }
+    ensures { λ r. ⌜ r ≡ wordCount level ⌝ }
     ensures { λ r. ⌜ (1 ≤ r) × (r ≤ 3) ⌝ }
 {
     ((8 << level) + 23) / 24
@@ -62,7 +62,7 @@ pub fn first_bits(level: u32) -> u32
     ensures { λ r. ⌜ r ≡ firstBits level ⌝ }
     ensures { λ r. ⌜ r ≤ 24 ⌝ }
 {
-    (8 << level) - 24 * (words_of(level) - 1)
+    (8 << level) - 24 * (word_count(level) - 1)
 }
 
 // The number of words of a group's counters. Each slot of an invalid group is a counter of its own.
@@ -77,7 +77,7 @@ fn group_size(merge: u8) -> usize
     let mut k = 0;
     while k < 8 {
         let level = level_at(merge, k);
-        n += words_of(level) as usize;
+        n += word_count(level) as usize;
         k += 1 << level;
     }
     n
@@ -179,7 +179,7 @@ fn describe(t: &mut [u8], at: usize, merge: u8)
     let mut k = 0;
     while k < 8 {
         let level = level_at(merge, k);
-        i = describe_parts(t, at, i, 8 * k as u32, words_of(level), first_bits(level));
+        i = describe_parts(t, at, i, 8 * k as u32, word_count(level), first_bits(level));
         k += 1 << level;
     }
     t[at] = i as u8;

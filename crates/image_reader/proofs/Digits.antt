@@ -8,7 +8,7 @@ use lib.ListN.{drop}
 use lib.Pow.{pow-add, pow-mono, pow-pos, mod-pow-add}
 use lib.Seq.{drop-drop, drop-at}
 use Rattle.word.specs.Word.{payload}
-use Rattle.image_format.specs.Image.{word, countKind, parts, wordsOf}
+use Rattle.image_format.specs.Image.{word, countKind, parts, wordCount}
 use Rattle.image_format.specs.Read.{valueFrom}
 use Rattle.image_format.proofs.Laws.{parts-length}
 use Rattle.image_format.proofs.Fields.{words-bits}
@@ -39,10 +39,10 @@ value-digits (suc n) u v words p rest h e =
     (value-digits n (u * 2 ^ 24 + x) v words (p + 1) rest (omega (arith, whole, h)) (here words p (word countKind x) (parts n v ++ rest) e .after)
     ∙ whole)
 
-pub value-counter : (level v : ℕ) (words : List ℕ) (p : ℕ) (rest : List ℕ) → level ≤ 3 → v < 2 ^ (8 * 2 ^ level) → drop p words ≡ parts (wordsOf level) v ++ rest
-    → valueFrom (wordsOf level) 0 words p ≡ v
+pub value-counter : (level v : ℕ) (words : List ℕ) (p : ℕ) (rest : List ℕ) → level ≤ 3 → v < 2 ^ (8 * 2 ^ level) → drop p words ≡ parts (wordCount level) v ++ rest
+    → valueFrom (wordCount level) 0 words p ≡ v
 value-counter level v words p rest l h e =
-    let n = wordsOf level in
+    let n = wordCount level in
     let w = words-bits level in
     let b : v < 2 ^ (24 * n) = omega (arith, h, pow-mono {i = 8 * 2 ^ level} {j = 24 * n} (omega arith)) in
     let s : v < 2 ^ 64 = omega (arith, h, pow-mono {i = 8 * 2 ^ level} {j = 64} (omega (arith, pow-mono {i = level} {j = 3} l))) in

@@ -15,7 +15,7 @@ use Rattle.group.specs.Group.{validMerge, read, changed}
 use Rattle.group_fields.specs.Fields.{groupOf}
 use Rattle.group_fields.proofs.Counters.{counts-none, put-below, changed-put}
 use Rattle.word.specs.Word.{payload}
-use Rattle.image_format.specs.Image.{wordsOf, levelAt, isFirst}
+use Rattle.image_format.specs.Image.{wordCount, levelAt, isFirst}
 use Rattle.image_format.specs.Write.{groupSize}
 use Rattle.image_format.specs.Read.{firstBits, valueFrom, readSlots, readGroup}
 use Rattle.image_format.specs.Fields.{Field, partFields, slotsFields, groupFields, fieldAt, Described}
@@ -89,17 +89,17 @@ value-mod (suc n) v c words p h =
 
 -- the value of a counter's words, as far as the counter holds it
 value-cut : (level : ℕ) (words : List ℕ) (p : ℕ) → level ≤ 3
-    → valueFrom (wordsOf level) 0 words p % 2 ^ (8 * 2 ^ level) ≡ fieldsSum (partFields (wordsOf level) 0 (firstBits level)) words p
+    → valueFrom (wordCount level) 0 words p % 2 ^ (8 * 2 ^ level) ≡ fieldsSum (partFields (wordCount level) 0 (firstBits level)) words p
 value-cut level words p h =
     let w = words-bits level in
-    let n = wordsOf level - 1 in
+    let n = wordCount level - 1 in
     let bits = firstBits level in
     let x = payload words p in
     let d = x % 2 ^ 24 in
     let q = 2 ^ (24 * n) in
     let r = digits n words (p + 1) in
     let small = digits-small n words (p + 1) in
-    let s : wordsOf level ≡ suc n = omega arith in
+    let s : wordCount level ≡ suc n = omega arith in
     let c : 8 * 2 ^ level ≡ bits + 24 * n = sym (w .1) in
     let most : 8 * 2 ^ level ≤ 64 = omega (arith, pow-mono {i = level} {j = 3} h) in
     let b : 24 - bits + bits ≡ 24 = omega arith in
@@ -140,10 +140,10 @@ module _ (m : ℕ) (v : validMerge m ≡ true) (words : List ℕ) where
   reads-none k w p e l = rw (e, add-zero w) (refl, rw e at l)
 
   reads-one : (k w p : ℕ) (h : k < 8) (t : isFirst m k ≡ true) (l : w < 2 ^ (8 * k)) → let L = levelAt m k in
-      Reads (k + 2 ^ L) (new m k w (valueFrom (wordsOf L) 0 words p) v h l) (p + wordsOf L) → Reads k w p
+      Reads (k + 2 ^ L) (new m k w (valueFrom (wordCount L) 0 words p) v h l) (p + wordCount L) → Reads k w p
   reads-one k w p h t l r =
       let L = levelAt m k in
-      let n = wordsOf L in
+      let n = wordCount L in
       let x = valueFrom n 0 words p in
       let y = new m k w x v h l in
       let fs = partFields n (8 * k) (firstBits L) in
@@ -162,9 +162,9 @@ module _ (m : ℕ) (v : validMerge m ≡ true) (words : List ℕ) where
     | yes i ↦
         let t = s .1 i in
         let L = levelAt m k in
-        let x = valueFrom (wordsOf L) 0 words p in
+        let x = valueFrom (wordCount L) 0 words p in
         reads-one k w p i t l
-        (reads-from f (k + 2 ^ L) (new m k w x v i l) (p + wordsOf L) (omega (arith, pow-pos L)) (stands-next m k i t) (new-in m k w x v i l))
+        (reads-from f (k + 2 ^ L) (new m k w x v i l) (p + wordCount L) (omega (arith, pow-pos L)) (stands-next m k i t) (new-in m k w x v i l))
     | no i ↦ reads-none k w p (omega (arith, s .0)) l
   ]
 

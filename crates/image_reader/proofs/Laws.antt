@@ -15,7 +15,7 @@ use Rattle.group_fields.proofs.Readings.{changed-merge}
 use Rattle.geometry.specs.Geometry.{stride}
 use Rattle.geometry.specs.Rows.{withGroup}
 use Rattle.word.specs.Word.{payload}
-use Rattle.image_format.specs.Image.{wordsOf, levelAt, isFirst}
+use Rattle.image_format.specs.Image.{wordCount, levelAt, isFirst}
 use Rattle.image_format.specs.Write.{slotSize, groupSize}
 use Rattle.image_format.proofs.Rows.{rows-turn}
 use Rattle.image_format.specs.Read.{valueFrom, readSlot, readSlots, mergesAt, readGroup, readGroups, afterGroups, afterFours, readFours, readRows}
@@ -35,7 +35,7 @@ pub read-slot-other : (k : ℕ) (g : Group) (words : List ℕ) (p : ℕ) → isF
 unfolding readSlot
 read-slot-other k g words p e = rw e
 
-pub read-slot-first : (k : ℕ) (g : Group) (level n v : ℕ) (words : List ℕ) (p : ℕ) → level ≡ levelAt (g .merge) k → isFirst (g .merge) k ≡ true → n ≡ wordsOf level → v ≡ valueFrom n 0 words p
+pub read-slot-first : (k : ℕ) (g : Group) (level n v : ℕ) (words : List ℕ) (p : ℕ) → level ≡ levelAt (g .merge) k → isFirst (g .merge) k ≡ true → n ≡ wordCount level → v ≡ valueFrom n 0 words p
     → changed g k v .group ≡ readSlot k g words p
 unfolding readSlot
 read-slot-first k g level n v words p e f h i = rw (f, ← e, ← h, i)
@@ -44,8 +44,8 @@ pub read-slot-merge : (k : ℕ) (g : Group) (words : List ℕ) (p : ℕ) → rea
 unfolding readSlot
 read-slot-merge k g words p = go (isFirst (g .merge) k)
   where
-    go : (t : Bool) → cond t (changed g k (valueFrom (wordsOf (levelAt (g .merge) k)) 0 words p) .group) g .merge ≡ g .merge
-    go true = changed-merge g k (valueFrom (wordsOf (levelAt (g .merge) k)) 0 words p)
+    go : (t : Bool) → cond t (changed g k (valueFrom (wordCount (levelAt (g .merge) k)) 0 words p) .group) g .merge ≡ g .merge
+    go true = changed-merge g k (valueFrom (wordCount (levelAt (g .merge) k)) 0 words p)
     go false = refl
 
 pub read-slots-step : (n k : ℕ) (g : Group) (words : List ℕ) (p : ℕ) → k < n

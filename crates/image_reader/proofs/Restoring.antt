@@ -11,7 +11,7 @@ use Rattle.group.specs.Group.{read, changed}
 use Rattle.group.proofs.Changing.{Good, good-changed, zero-good}
 use Rattle.group_fields.proofs.Readings.{level-by-merge, value-below, same-before, changed-at, changed-before, readings-ext, accepted-reading}
 use Rattle.word.specs.Word.{go, next}
-use Rattle.image_format.specs.Image.{parts, wordsOf, levelAt, isFirst, slotWords, slotsWords, groupWords}
+use Rattle.image_format.specs.Image.{parts, wordCount, levelAt, isFirst, slotWords, slotsWords, groupWords}
 use Rattle.image_format.specs.Write.{slotSize, slotsSize, groupSize}
 use Rattle.image_format.specs.Read.{checkSlot, checkSlots, readSlot, readSlots, readGroup}
 use Rattle.image_format.proofs.Laws.{slot-none, slot-some, size-first, size-other, by-test}
@@ -42,7 +42,7 @@ module _ (k : ℕ) (g h : Group) (words : List ℕ) (p : ℕ) (rest : List ℕ) 
   unfolding checkSlot
   slot-first t =
       let L = levelAt (g .merge) k in
-      let n = wordsOf L in
+      let n = wordCount L in
       let v = read g k .value in
       let l = read-level g k in
       let d : drop p words ≡ parts n v ++ rest = e ∙ ap (λ (l : List ℕ). l ++ rest) (sym (slot-some g k L n (read g k) refl t refl refl)) in

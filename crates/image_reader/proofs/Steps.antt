@@ -6,7 +6,7 @@ use Prim.Native.Nat.{ℕ, _+_, _-_, _^_, _<_}
 use native.Mathlib.Nat.{add-zero}
 use Rattle.group.specs.declared.Group.{Group}
 use Rattle.group.specs.Group.{changed}
-use Rattle.image_format.specs.Image.{levelAt, isFirst, wordsOf}
+use Rattle.image_format.specs.Image.{levelAt, isFirst, wordCount}
 use Rattle.image_format.specs.Write.{slotSize}
 use Rattle.image_format.specs.Read.{readSlot, readSlots, valueFrom}
 use Rattle.image_format.proofs.Laws.{size-other, size-first}
@@ -31,7 +31,7 @@ reads-turn k g words p h t =
     k h t
 
 -- a group's counters read from slot k on, and the size of their words
-pub reads-step : (m k : ℕ) (g x : Group) (level n v : ℕ) (words : List ℕ) (p : ℕ) → g .merge ≡ m → k < 8 → isFirst m k ≡ true → level ≡ levelAt m k → n ≡ wordsOf level
+pub reads-step : (m k : ℕ) (g x : Group) (level n v : ℕ) (words : List ℕ) (p : ℕ) → g .merge ≡ m → k < 8 → isFirst m k ≡ true → level ≡ levelAt m k → n ≡ wordCount level
     → v ≡ valueFrom n 0 words p → x ≡ changed g k v .group
     → (x .merge ≡ m) × (readSlots (8 - (k + 2 ^ levelAt m k)) (k + 2 ^ levelAt m k) x words (p + n) ≡ readSlots (8 - k) k g words p)
 reads-step m k g x level n v words p o h t e f i y =

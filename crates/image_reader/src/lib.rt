@@ -58,7 +58,7 @@ fn read_group(merge: u8, words: &[u32], p: usize) -> Taken
     let mut k = 0;
     while k < 8 {
         let level = image_format::level_at(merge, k);
-        let n = image_format::words_of(level);
+        let n = image_format::word_count(level);
         let o = group::change(g, k, value_at(words, at, n));
         g = o.group;
         at += n as usize;

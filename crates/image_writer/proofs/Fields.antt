@@ -16,7 +16,7 @@ use Rattle.group_fields.specs.declared.Fields as fields
 use Rattle.group_fields.specs.Fields.{fieldsOf, bitsAt}
 use Rattle.group_fields.proofs.Readings.{value-below}
 use Rattle.group_fields.proofs.Counters.{counter-bits}
-use Rattle.image_format.specs.Image.{word, countKind, parts, wordsOf, levelAt, isFirst, slotWords, slotsWords, groupWords}
+use Rattle.image_format.specs.Image.{word, countKind, parts, wordCount, levelAt, isFirst, slotWords, slotsWords, groupWords}
 use Rattle.image_format.specs.Write.{groupSize}
 use Rattle.image_format.specs.Read.{firstBits}
 use Rattle.image_format.specs.Fields.{Field, partFields, slotFields, slotsFields, groupFields, fieldAt, Described}
@@ -45,14 +45,14 @@ module _ (g : Group) (k : ℕ) (o : Good g) (h : k < 8) (t : isFirst (g .merge) 
   parts-fields (suc n) l = more (part-bits (24 * n) 24 (omega arith)) (parts-fields n (omega arith))
 
   -- the first word, which may have fewer bits than the others
-  counter-fields : let L = levelAt (g .merge) k in parts (wordsOf L) (read g k .value) ≡ map (fieldWord all) (partFields (wordsOf L) (8 * k) (firstBits L))
+  counter-fields : let L = levelAt (g .merge) k in parts (wordCount L) (read g k .value) ≡ map (fieldWord all) (partFields (wordCount L) (8 * k) (firstBits L))
   unfolding parts partFields
   counter-fields =
       let L = levelAt (g .merge) k in
       let v = read g k .value in
       let b = words-bits L in
-      let n = wordsOf L - 1 in
-      let s : wordsOf L ≡ suc n = omega arith in
+      let n = wordCount L - 1 in
+      let s : wordCount L ≡ suc n = omega arith in
       let bits = firstBits L in
       let low : v / 2 ^ (24 * n) < 2 ^ bits = shr-lt bits (24 * n) (rw (b .1, ← read-level g k) (value-below g k o h)) in
       let small : v / 2 ^ (24 * n) < 2 ^ 24 = omega (arith, low, pow-mono {i = bits} {j = 24} (b .3)) in

@@ -15,7 +15,7 @@ use Rattle.group_codes.proofs.Packing.{packed-lt}
 use Rattle.geometry.specs.Geometry.{stride}
 use Rattle.geometry.specs.Rows.{groupAt}
 use Rattle.word.specs.Word.{headKind}
-use Rattle.image_format.specs.Image.{word, countKind, parts, wordsOf, levelAt, isFirst, slotWords, slotsWords, groupWords, groupsWords, fourWords, rowWords, rowsWords, layoutAt, headPayload, body, endWord, image}
+use Rattle.image_format.specs.Image.{word, countKind, parts, wordCount, levelAt, isFirst, slotWords, slotsWords, groupWords, groupsWords, fourWords, rowWords, rowsWords, layoutAt, headPayload, body, endWord, image}
 use Rattle.image_format.specs.Write.{allValid, validRows, slotSize, slotsSize, groupSize}
 use Rattle.image_format.proofs.Laws.{slot-none, parts-length}
 use Rattle.image_format.proofs.Rows.{rows-turn}
@@ -71,8 +71,8 @@ pub slot-length : (g : Group) (k : ℕ) → length (slotWords g k) ≡ slotSize 
 unfolding slotWords slotSize
 slot-length g k = go (isFirst (g .merge) k)
   where
-    go : (t : Bool) → length (cond t (parts (wordsOf (levelAt (g .merge) k)) (read g k .value)) []) ≡ cond t (wordsOf (levelAt (g .merge) k)) 0
-    go true = parts-length (wordsOf (levelAt (g .merge) k)) (read g k .value)
+    go : (t : Bool) → length (cond t (parts (wordCount (levelAt (g .merge) k)) (read g k .value)) []) ≡ cond t (wordCount (levelAt (g .merge) k)) 0
+    go true = parts-length (wordCount (levelAt (g .merge) k)) (read g k .value)
     go false = refl
 
 pub slots-length : (n k : ℕ) (g : Group) → length (slotsWords n k g) ≡ slotsSize n k (g .merge)

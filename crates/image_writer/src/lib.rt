@@ -164,7 +164,7 @@ fn put_group(words: &mut [u32], p: usize, g: Group) -> usize
     let mut k = 0;
     while k < 8 {
         let c = group::counter(g, k);
-        at = put_parts(words, at, image_format::words_of(c.level), c.value);
+        at = put_parts(words, at, image_format::word_count(c.level), c.value);
         k += 1 << c.level;
     }
     at

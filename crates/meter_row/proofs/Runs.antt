@@ -12,7 +12,7 @@ use lib.ListN.{length, getD, take, drop, length-append, length-drop, take-append
 use lib.Seq.{length-take-le, take-nil, take-at, drop-at, drop-drop, getD-take, getD-drop, take-take, take-add}
 use Rattle.laws.proofs.Lists.{Bytes, bytes-drop, bytes-take}
 use Rattle.group.specs.declared.Group.{Group}
-use Rattle.group.specs.Group.{united}
+use Rattle.group.specs.Group.{unitedGroups}
 use Rattle.group.proofs.Laws.{Eight}
 use Rattle.group.proofs.Outcomes.{united-eight}
 use Rattle.group_side.specs.Side.{anyMerged, unmerged, unitedSide, stayUnmerged}
@@ -70,7 +70,7 @@ status-none w row source v l m b c e =
     groups-none (unitedStatus w source row) (w / 8) 0
     (λ g h k.
     let i = group-in w g v (omega arith) in
-    ap₂ (λ (x y : Group). united x y .status) (group-none w g row (row-none w (w / 8) 0 row source e g h k))
+    ap₂ (λ (x y : Group). unitedGroups x y .status) (group-none w g row (row-none w (w / 8) 0 row source e g h k))
     (group-none w g source (source-none w (w / 8) 0 row source e g h k))
     ∙ unmerged-status (take 8 (drop (8 * g) row)) (take 8 (drop (8 * g) source)) (eight-of w g row b (i .0) (omega (arith, stride-is w)))
     (eight-of w g source c (i .0) (omega (arith, stride-is w))))
@@ -108,7 +108,7 @@ module _ (w : ℕ) (source : List ℕ) where
 
   -- one of them
   united-at : (g : ℕ) (row : List ℕ) → getD row (w + g) 0 ≡ 0 → getD source (w + g) 0 ≡ 0 → (zs : List ℕ)
-      → united (unmerged (take 8 (drop (8 * g) row))) (unmerged (take 8 (drop (8 * g) source))) .group ≡ unmerged zs → length zs ≡ 8
+      → unitedGroups (unmerged (take 8 (drop (8 * g) row))) (unmerged (take 8 (drop (8 * g) source))) .group ≡ unmerged zs → length zs ≡ 8
       → 8 * g + 8 ≤ w → w + g < length row → withGroup w row g (unitedAt w source row g .group) ≡ take (8 * g) row ++ zs ++ drop (8 * g + 8) row
   unfolding unitedAt
   united-at g row p q zs u eight h l =
@@ -124,17 +124,17 @@ module _ (w : ℕ) (source : List ℕ) where
   unite-side (suc n) g row h l m p q e =
       let xs = take 8 (drop (8 * g) row) in
       let ys = take 8 (drop (8 * g) source) in
-      let zs = united (unmerged xs) (unmerged ys) .group .counts in
+      let zs = unitedGroups (unmerged xs) (unmerged ys) .group .counts in
       let a = 8 * g + 8 in
       let next = take (8 * g) row ++ zs ++ drop a row in
       let counts = countsOf n (g + 1) row in
       let others = countsOf n (g + 1) source in
       let row-eight : length xs ≡ 8 = length-take-le 8 (drop (8 * g) row) (rw (length-drop (8 * g) row) (omega arith)) in
-      let merge = united (unmerged (take 8 (countsOf (suc n) g row))) (unmerged (take 8 (countsOf (suc n) g source))) .group .merge in
+      let merge = unitedGroups (unmerged (take 8 (countsOf (suc n) g row))) (unmerged (take 8 (countsOf (suc n) g source))) .group .merge in
       let both = and-eq-true-iff (eqb merge 0) (stayUnmerged n (drop 8 (countsOf (suc n) g row)) (drop 8 (countsOf (suc n) g source))) .0 e in
-      let stays : united (unmerged xs) (unmerged ys) .group .merge ≡ 0 = rw (counts-first n g row, counts-first n g source) at (eqb-true merge 0 (both .0)) in
+      let stays : unitedGroups (unmerged xs) (unmerged ys) .group .merge ≡ 0 = rw (counts-first n g row, counts-first n g source) at (eqb-true merge 0 (both .0)) in
       let rest : stayUnmerged n counts others ≡ true = rw (counts-rest n g row, counts-rest n g source) at (both .1) in
-      let u : united (unmerged xs) (unmerged ys) .group ≡ unmerged zs = ap (λ (m : ℕ). record { counts = zs; merge = m }) stays in
+      let u : unitedGroups (unmerged xs) (unmerged ys) .group ≡ unmerged zs = ap (λ (m : ℕ). record { counts = zs; merge = m }) stays in
       let eight = united-eight (unmerged xs) (unmerged ys) row-eight in
       let front : length (take (8 * g) row ++ zs) ≡ a = rw (length-append (take (8 * g) row) zs, length-take-le (8 * g) row (omega arith), eight) in
       let fit-in : a ≤ length row = omega arith in

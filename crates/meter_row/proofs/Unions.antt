@@ -6,7 +6,7 @@ use native.Mathlib.Decide.{decLt}
 use native.Mathlib.Omega.{arith}
 use lib.ListN.{length}
 use Rattle.group.specs.declared.Group.{Group}
-use Rattle.group.specs.Group.{united}
+use Rattle.group.specs.Group.{unitedGroups}
 use Rattle.group.proofs.Outcomes.{united-eight}
 use Rattle.geometry.specs.Rows.{groupAt, withGroup}
 use Rattle.meter_row.specs.Row.{unitedAt, uniteGroups}
@@ -68,7 +68,7 @@ module _ (w : ℕ) (source : List ℕ) where
       elim (decLt g k) [
         | yes m ↦
             united-from n (g + 1) next (omega arith) (omega (arith, e)) k (omega arith) (omega arith)
-            ∙ ap (λ (y : Group). united y (groupAt w source k) .group) (group-other w row g x eight (omega arith) (omega arith) k (omega arith) (λ z. omega arith))
+            ∙ ap (λ (y : Group). unitedGroups y (groupAt w source k) .group) (group-other w row g x eight (omega arith) (omega arith) k (omega arith) (λ z. omega arith))
         | no m ↦
             let z : k ≡ g = omega arith in
             rw z (united-before n (g + 1) next (omega arith) (omega (arith, e)) g (omega arith) ∙ group-same w row g x eight (omega arith) (omega arith))

@@ -3,7 +3,7 @@ use Prim.Native.Nat.{ℕ, zero, suc, _+_, _/_}
 use mathlib.Core.List.{List}
 use Rattle.group.specs.declared.Outcome.{Outcome}
 use Rattle.group.specs.declared.Reading.{Reading}
-use Rattle.group.specs.Group.{read, added, united, widestOf}
+use Rattle.group.specs.Group.{read, added, unitedGroups, widestOf}
 use Rattle.meter_keys.specs.Keys.{keySlot}
 use Rattle.answer.specs.Order.{earliest}
 use Rattle.geometry.specs.Rows.{rowOf, groupAt, withGroup, ofGroups, largest}
@@ -29,14 +29,14 @@ readRow state w key r row = read (groupAt w row (keySlot state w key r / 8)) (ke
 unfoldable pub levelStatus : ℕ → List ℕ → ℕ → ℕ
 levelStatus w row g = widestOf (groupAt w row g .merge) .status
 
-unfoldable pub levelAt : ℕ → List ℕ → ℕ → ℕ
-levelAt w row g = widestOf (groupAt w row g .merge) .value
+unfoldable pub groupLevel : ℕ → List ℕ → ℕ → ℕ
+groupLevel w row g = widestOf (groupAt w row g .merge) .value
 
 unfoldable pub widestStatus : ℕ → List ℕ → ℕ
 widestStatus w row = earliest (ofGroups (levelStatus w row) (w / 8) 0)
 
 unfoldable pub widestRow : ℕ → List ℕ → ℕ
-widestRow w row = largest (ofGroups (levelAt w row) (w / 8) 0)
+widestRow w row = largest (ofGroups (groupLevel w row) (w / 8) 0)
 
 abbrev pub rowStatus : ℕ → ℕ → List ℕ → ℕ
 rowStatus w r row = widestStatus w row
@@ -46,7 +46,7 @@ rowLevel w r row = widestRow w row
 
 -- a union adds each group of a source row to the same group of the row
 unfoldable pub unitedAt : ℕ → List ℕ → List ℕ → ℕ → Outcome
-unitedAt w source row g = united (groupAt w row g) (groupAt w source g)
+unitedAt w source row g = unitedGroups (groupAt w row g) (groupAt w source g)
 
 unfoldable pub unitedStatus : ℕ → List ℕ → List ℕ → ℕ → ℕ
 unitedStatus w source row g = unitedAt w source row g .status

@@ -1,4 +1,4 @@
--- What the program's buffers hold: the code's own terms.
+-- What the program's buffers hold. The code's own terms.
 use Prim.Native.Nat.{ℕ, _+_, _-_, _≤_}
 use mathlib.Core.Logic.{_⊎_}
 use mathlib.Core.Path.{_≡_}

@@ -1,4 +1,4 @@
--- What a part of a run prints, by the definition of a feed's lines: the code's own terms.
+-- What a part of a run prints, by the definition of a feed's lines. The code's own terms.
 -- No contract can say what a read brings or where a written byte goes. So `read` and `sent` are some bytes: those that the part's reads
 -- brought and its writes took.
 use Prim.Native.Nat.{ℕ, _+_, _*_, _^_, _<_}

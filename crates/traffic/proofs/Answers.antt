@@ -19,7 +19,7 @@ use Rattle.answer.specs.Order.{firstOf, earliest}
 use Rattle.geometry.specs.Checks.{badShape, badKey}
 use Rattle.geometry.specs.Rows.{ofRows, ofGroups, least, largest}
 use Rattle.meter_keys.specs.Keys.{keySlot}
-use Rattle.meter_row.specs.Row.{readRow, levelStatus, levelAt, widestStatus, widestRow}
+use Rattle.meter_row.specs.Row.{readRow, levelStatus, groupLevel, widestStatus, widestRow}
 use Rattle.geometry.proofs.Widths.{depth-in, slot-in, group-in}
 use Rattle.meter.specs.Meter.{rowOf, readStatus, readValue, estimated, rowStatus, rowLevel, widest}
 use Rattle.meter.proofs.Calls.{call-key, estimated-good, widest-good}
@@ -38,8 +38,8 @@ pub good-key : (n : ℕ) → 1 ≤ n → n ≤ 64 → badKey n ≡ 0
 good-key n p q = rw (le-leb 1 n p, le-leb n 64 q)
 
 module _ (d w : ℕ) (vd : validDepth d ≡ true) (vw : validWidth w ≡ true) (memory : List ℕ) (ps : List Pair) (holds : Holds d w memory ps) where
-  row-level : (r : ℕ) → r < d → (g : ℕ) → g < w / 8 → levelAt w (rowOf w memory r) g ≡ widestOf (groupOf (blockTotal w r ps) g .merge) .value
-  unfolding levelAt
+  row-level : (r : ℕ) → r < d → (g : ℕ) → g < w / 8 → groupLevel w (rowOf w memory r) g ≡ widestOf (groupOf (blockTotal w r ps) g .merge) .value
+  unfolding groupLevel
   row-level r p g q = ap (λ (x : Group). widestOf (x .merge) .value) (holds .groups r g p q)
 
   -- the widest level of each group is at most L, and of some group it is L
@@ -64,7 +64,7 @@ module _ (d w : ℕ) (vd : validDepth d ≡ true) (vw : validWidth w ≡ true) (
   rows-le : (r : ℕ) → r < d → rowLevel w r (rowOf w memory r) ≤ level d w ps
   unfolding widestRow
   rows-le r p =
-      largest-le (levelAt w (rowOf w memory r)) (level d w ps) (w / 8) 0
+      largest-le (groupLevel w (rowOf w memory r)) (level d w ps) (w / 8) 0
       (λ g h q. rw (row-level r p g (omega arith)) (group-le r g p (omega arith)))
 
   le-rows : (n : ℕ) → level d w ps ≡ n → n ≤ largest (ofGroups (λ r. rowLevel w r (rowOf w memory r)) d 0)
@@ -78,7 +78,7 @@ module _ (d w : ℕ) (vd : validDepth d ≡ true) (vw : validWidth w ≡ true) (
       let whole : suc (o .index) * 2 ^ j ≤ w = le-div-iff-mul-le {k = 2 ^ j} {x = suc (o .index)} {y = w} (pow-pos j) .0 (o .index-in) in
       let g : s / 8 < w / 8 = slot-in w s vw (omega (arith, whole, pow-pos j)) in
       let wide = wider (blockTotal w r ps) s j (c .0) (rw (shl-shr (o .index) j) (o .large)) in
-      let in-row = le-largest (levelAt w (rowOf w memory r)) (w / 8) 0 (s / 8) (omega arith) (omega arith) in
+      let in-row = le-largest (groupLevel w (rowOf w memory r)) (w / 8) 0 (s / 8) (omega arith) (omega arith) in
       let in-rows = le-largest (λ r. rowLevel w r (rowOf w memory r)) d 0 r (omega arith) (omega (arith, o .row-in)) in
       omega (arith, wide, row-level r (o .row-in) (s / 8) g, in-row, in-rows)
 

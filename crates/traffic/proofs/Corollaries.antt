@@ -14,7 +14,7 @@ use Rattle.feed.specs.declared.Recorded.{Recorded}
 use Rattle.feed.specs.declared.Recorded.the-variants as case
 use Rattle.feed.specs.Answers.{recordAnswer}
 use Rattle.feed.specs.Record.{recorded}
-use Rattle.traffic.specs.Traffic.{Pair, sumOf, blockOf, blockTotal}
+use Rattle.traffic.specs.Traffic.{Pair, amountSum, blockOf, blockTotal}
 use Rattle.traffic.specs.Calls.{Call, clear, update, estimate, widest, unite, write, read, feed, Source, from, raw, Calls, none, then, traffic, run, done, Faithful, Listed, LeftBy}
 use Rattle.traffic.specs.Claim.{Between, Claim}
 use Rattle.traffic.specs.Corollaries.{EveryAnswer, Answered, EveryBehind, Within, Reordered, AnyOrder}
@@ -68,8 +68,8 @@ abbrev counted : (List ℕ → Bool) → Pair → ℕ
 counted f p = cond (f (p .key)) (p .amount) 0
 
 -- a sum over pairs does not depend on their order
-pub sum-reordered : (f : List ℕ → Bool) {ps qs : List Pair} → Reordered ps qs → sumOf f ps ≡ sumOf f qs
-unfolding sumOf
+pub sum-reordered : (f : List ℕ → Bool) {ps qs : List Pair} → Reordered ps qs → amountSum f ps ≡ amountSum f qs
+unfolding amountSum
 sum-reordered f List·Permᴰ·nil = refl
 sum-reordered f (List·Permᴰ·cons e p) = omega (arith, ap (counted f) e, sum-reordered f p)
 sum-reordered f (List·Permᴰ·swap e g) = omega (arith, ap (counted f) e, ap (counted f) g)

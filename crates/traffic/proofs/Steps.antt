@@ -19,7 +19,7 @@ use Rattle.geometry.proofs.Widths.{depth-in, group-in}
 use Rattle.geometry.proofs.Lists.{row-in}
 use Rattle.meter.specs.Meter.{rowOf, updated, united}
 use Rattle.meter.proofs.Memory.{Updated, update-accepted, update-group, update-other, United, unite-accepted, unite-group, rows-long}
-use Rattle.traffic.specs.Traffic.{Pair, sumOf, blockTotal}
+use Rattle.traffic.specs.Traffic.{Pair, amountSum, blockTotal}
 use Rattle.traffic.proofs.Holds.{Holds}
 use Rattle.traffic.proofs.Totals.{totals-add, totals-more, totals-append}
 
@@ -36,7 +36,7 @@ drop-zeros (suc k) (suc n) = drop-zeros k n ∙ ap (λ (m : ℕ). replicate m 0)
 
 -- no traffic has totals of 0
 no-total : (w r n i : ℕ) → blockTotal w r [] n i ≡ 0
-unfolding blockTotal sumOf
+unfolding blockTotal amountSum
 no-total w r n i = refl
 
 module _ (d w : ℕ) (vw : validWidth w ≡ true) where

@@ -16,23 +16,23 @@ use Rattle.group_block.specs.Counts.{Adds}
 use Rattle.group_block.proofs.Sides.{half}
 use Rattle.hash.specs.Hash.{basis}
 use Rattle.meter_keys.specs.Keys.{keySlot}
-use Rattle.traffic.specs.Traffic.{Pair, sumOf, sameKey, keyTotal, blockOf, blockTotal, anyBelow, overflows, levelUpTo}
+use Rattle.traffic.specs.Traffic.{Pair, amountSum, sameKey, keyTotal, blockOf, blockTotal, anyBelow, overflows, levelUpTo}
 
-pub sum-append : (f : List ℕ → Bool) (xs ys : List Pair) → sumOf f (xs ++ ys) ≡ sumOf f xs + sumOf f ys
-unfolding sumOf
+pub sum-append : (f : List ℕ → Bool) (xs ys : List Pair) → amountSum f (xs ++ ys) ≡ amountSum f xs + amountSum f ys
+unfolding amountSum
 sum-append f [] ys = omega arith
 sum-append f (p ∷ xs) ys = omega (arith, sum-append f xs ys)
 
 -- a test that is two others, never both
 sum-split : (f g h : List ℕ → Bool) → ((key : List ℕ) (a : ℕ) → cond (f key) a 0 ≡ cond (g key) a 0 + cond (h key) a 0)
-    → (ps : List Pair) → sumOf f ps ≡ sumOf g ps + sumOf h ps
-unfolding sumOf
+    → (ps : List Pair) → amountSum f ps ≡ amountSum g ps + amountSum h ps
+unfolding amountSum
 sum-split f g h e [] = refl
 sum-split f g h e (p ∷ ps) = omega (arith, e (p .key) (p .amount), sum-split f g h e ps)
 
 -- a test that passes more
-sum-mono : (f g : List ℕ → Bool) → ((key : List ℕ) → f key ≡ true → g key ≡ true) → (ps : List Pair) → sumOf f ps ≤ sumOf g ps
-unfolding sumOf
+sum-mono : (f g : List ℕ → Bool) → ((key : List ℕ) → f key ≡ true → g key ≡ true) → (ps : List Pair) → amountSum f ps ≤ amountSum g ps
+unfolding amountSum
 sum-mono f g h [] = omega arith
 sum-mono f g h (p ∷ ps) = omega (arith, one (f (p .key)) (g (p .key)) (h (p .key)), sum-mono f g h ps)
   where
@@ -76,7 +76,7 @@ module _ (w r : ℕ) where
 
   -- one pair more, and two traffics together
   pub totals-more : (p : Pair) (ps : List Pair) (n i : ℕ) → blockTotal w r (p ∷ ps) n i ≡ cond (eqb (keySlot basis w (p .key) r / 2 ^ n) i) (p .amount) 0 + blockTotal w r ps n i
-  unfolding blockTotal blockOf sumOf
+  unfolding blockTotal blockOf amountSum
   totals-more p ps n i = refl
 
   pub totals-append : (ps qs : List Pair) (n i : ℕ) → blockTotal w r (ps ++ qs) n i ≡ blockTotal w r ps n i + blockTotal w r qs n i

@@ -14,9 +14,9 @@ pub record Pair : Type 0 where
   pub amount : ℕ
 
 -- the sum of the amounts of the pairs whose keys pass a test
-unfoldable pub sumOf : (List ℕ → Bool) → List Pair → ℕ
-sumOf test [] = 0
-sumOf test (p ∷ ps) = cond (test (p .key)) (p .amount) 0 + sumOf test ps
+unfoldable pub amountSum : (List ℕ → Bool) → List Pair → ℕ
+amountSum test [] = 0
+amountSum test (p ∷ ps) = cond (test (p .key)) (p .amount) 0 + amountSum test ps
 
 unfoldable pub sameKey : List ℕ → List ℕ → Bool
 sameKey [] [] = true
@@ -26,7 +26,7 @@ sameKey (b ∷ bs) (c ∷ cs) = eqb b c && sameKey bs cs
 
 -- a key's total: the sum of its pairs' amounts
 unfoldable pub keyTotal : List ℕ → List Pair → ℕ
-keyTotal key pairs = sumOf (sameKey key) pairs
+keyTotal key pairs = amountSum (sameKey key) pairs
 
 -- The block of level n that a key lands in, in row r of w slots, counted from the row's first: block i of level n is the slots s with
 -- s / 2 ^ n = i.
@@ -35,7 +35,7 @@ blockOf w r n key = keySlot basis w key r / 2 ^ n
 
 -- a block's total: the sum of all pairs whose key lands in it in its row
 unfoldable pub blockTotal : ℕ → ℕ → List Pair → ℕ → ℕ → ℕ
-blockTotal w r pairs n i = sumOf (λ key. eqb (blockOf w r n key) i) pairs
+blockTotal w r pairs n i = amountSum (λ key. eqb (blockOf w r n key) i) pairs
 
 -- whether some number below n passes a test
 unfoldable pub anyBelow : ℕ → (ℕ → Bool) → Bool

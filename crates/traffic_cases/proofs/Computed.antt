@@ -94,19 +94,19 @@ a & b = (a, b)
 
 pub computed : Computed
 unfolding numbers allRefuse allFit twice calls.recordPair calls.traffic calls.after calls.behind calls.run calls.done calls.bytesOf
-    calls.wordsOf calls.Faithful calls.Listed calls.LeftBy totals.sumOf totals.sameKey totals.keyTotal totals.blockOf totals.blockTotal
+    calls.wordsOf calls.Faithful calls.Listed calls.LeftBy totals.amountSum totals.sameKey totals.keyTotal totals.blockOf totals.blockTotal
     totals.anyBelow totals.overflows totals.levelUpTo totals.level totals.lower totals.leastBelow totals.landingTotal totals.upper
-    layouts.bit layouts.ones layouts.marks layouts.layout layouts.valid layouts.widest codes.layouts codes.mergedCode codes.code
-    codes.uncode blocks.cap blocks.shape blocks.word blocks.fill blocks.block blocks.counterAt blocks.total changes.change sums.sumTotal
+    layouts.bit layouts.ones layouts.marks layouts.layout layouts.valid layouts.widestIn codes.layouts codes.mergedCode codes.code
+    codes.uncode blocks.cap blocks.shape blocks.numberOf blocks.fill blocks.block blocks.counterAt blocks.total changes.change sums.sumTotal
     sums.held sums.join sums.add sums.unite hashes.fnvStep hashes.fnv hashes.slotOf bytes.number bytes.bytes groups.decode groups.encode
-    groups.reading groups.read groups.settle groups.added groups.united groups.widestOf groups.changed packs.fourCode packs.packed
+    groups.reading groups.read groups.settle groups.added groups.unitedGroups groups.widestOf groups.changed packs.fourCode packs.packed
     packs.fourMerges packs.unpacked geometry.validDepth geometry.oneOfPowers geometry.validWidth geometry.stride geometry.size
     order.firstOf order.placeIn order.earlier order.earliest answers.answerOf answers.leaves answers.finish rows.mapRows rows.ofRows rows.groupAt rows.withGroup
     rows.ofGroups rows.leastOr rows.least rows.largest keys.keySlot row.addedIn row.updateStatus row.updateRow row.readRow
-    row.levelStatus row.levelAt row.widestStatus row.widestRow row.unitedAt row.unitedStatus row.uniteStatus row.uniteGroups
+    row.levelStatus row.groupLevel row.widestStatus row.widestRow row.unitedAt row.unitedStatus row.uniteStatus row.uniteGroups
     row.uniteRow meter.cleared meter.badCall meter.updated meter.readStatus meter.readValue meter.estimated meter.widest meter.rowOf
     meter.sourceStatus meter.sourceAdded meter.united image.word words.next words.payload words.isDue words.tested words.below
-    image.logFrom image.logWidth image.headPayload image.wordsOf image.parts image.levelAt image.isFirst image.slotWords
+    image.logFrom image.logWidth image.headPayload image.wordCount image.parts image.levelAt image.isFirst image.slotWords
     image.slotsWords image.groupWords image.groupsWords image.layoutAt image.fourWords image.rowWords image.rowsWords image.body
     image.endWord image.image writing.allValid writing.validRows writing.slotSize writing.slotsSize writing.groupSize
     writing.writeStatus writing.finishWrite writing.written reading.checkHead reading.firstBits reading.checkParts reading.checkSlot

@@ -8,7 +8,7 @@ use native.Mathlib.Omega.{arith}
 use lib.Dec.{eqb}
 use Rattle.answer.specs.Answers.{Done}
 use Rattle.meter.specs.Meter.{united, updated}
-use Rattle.traffic.specs.Traffic.{sameKey, keyTotal, lower, sumOf}
+use Rattle.traffic.specs.Traffic.{sameKey, keyTotal, lower, amountSum}
 use Rattle.traffic.specs.Calls.{Call, Calls, none, update, estimate, unite, feed, from, traffic, after, behind, run, done, bytesOf, Faithful, Listed, LeftBy}
 use Rattle.traffic.proofs.Totals.{sum-append}
 use Rattle.traffic_cases.specs.Cases.{at-10, at-11, _▸_, updateWords}
@@ -39,16 +39,16 @@ unfolding lower keyTotal traffic after behind doubled
 doubled-total zero calls key = omega arith
 doubled-total (suc n) calls key =
     let t = traffic calls in
-    let x = sumOf (sameKey key) t in
+    let x = amountSum (sameKey key) t in
     let e : 2 ^ suc n ≡ 2 * 2 ^ n = omega arith in
     doubled-total n (calls ▸ unite (from calls)) key ∙ rw (sum-append (sameKey key) t t, e, mul-assoc 2 (2 ^ n) x) (omega (arith, mul-add (2 ^ n) x x))
 
 total-more : (calls : Calls) (amount : ℕ) → lower (traffic (calls ▸ update at-10 amount)) at-10 ≡ amount + lower (traffic calls) at-10
-unfolding lower keyTotal traffic after sumOf sameKey
+unfolding lower keyTotal traffic after amountSum sameKey
 total-more calls amount = refl
 
 start-total : lower (traffic (none ▸ update at-10 4294967295)) at-10 ≡ 4294967295
-unfolding lower keyTotal traffic after sumOf sameKey
+unfolding lower keyTotal traffic after amountSum sameKey
 start-total = refl
 
 full-total : lower (traffic full) at-10 ≡ 2 ^ 64 - 1

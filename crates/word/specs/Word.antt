@@ -1,4 +1,5 @@
--- Words of images and feeds, and the first faulty one: cited by contracts. Document 01, 'Images and feeds', 'Turned away, in checking order'.
+-- Words of images and feeds, and the first faulty one. Cited by contracts. Document 01, 'Images and feeds' and 'Turned away, in checking
+-- order'.
 use Prim.Native.Nat.{ℕ, _+_, _/_, _%_, _^_}
 use mathlib.Core.Bool.{Bool, cond, _&&_}
 use mathlib.Core.List.{List}

@@ -6,7 +6,8 @@ use borrow.Author.Tests.{not-true, not-false}
 use Rattle.group_layout.specs.Layout.{valid}
 use Rattle.group_sums.specs.Sums.{holdsAt}
 use Rattle.group.specs.declared.Outcome.{Outcome}
-use Rattle.group.specs.Group.{decode, stored, added, holds}
+use Rattle.group.specs.Group.{decode, added, holds}
+use Rattle.group.specs.Stored.{stored}
 use Rattle.group.proofs.Laws.{added-summed, holds-invalid, holds-valid}
 use borrow.Author.Needs.{needs}
 use Rattle.group.proofs.add_in_place.Statement.{statement}

@@ -1,7 +1,7 @@
 use mathlib.Core.Path.{ap}
 use mathlib.Core.List.{List}
 use Prim.Native.Nat.{ℕ}
-use Rattle.group.specs.Group.{stored}
+use Rattle.group.specs.Stored.{stored}
 use borrow.Author.Needs.{needs}
 use Rattle.group.proofs.settled.Statement.{statement}
 use Rattle.group.proofs.settled.Tie as tie

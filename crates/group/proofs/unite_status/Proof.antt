@@ -7,7 +7,8 @@ use Rattle.group_bytes.specs.Bytes.{number}
 use Rattle.group_layout.specs.Layout.{valid}
 use Rattle.group_block.specs.Block.{cap}
 use Rattle.group.specs.declared.Outcome.{Outcome}
-use Rattle.group.specs.Group.{decode, stored}
+use Rattle.group.specs.Group.{decode}
+use Rattle.group.specs.Stored.{stored}
 use Rattle.group.proofs.Laws.{united-invalid, united-source-invalid, united-full, united-stored}
 use borrow.Author.Needs.{needs}
 use Rattle.group.proofs.unite_status.Statement.{statement}

@@ -1,6 +1,6 @@
 use mathlib.Core.Path.{_≡_, sym, ap, _∙_}
 use Prim.Native.Nat.{ℕ}
-use Rattle.group_block.specs.Block.{cap, shape, word}
+use Rattle.group_block.specs.Block.{cap, shape, numberOf}
 use mathlib.Core.Bool.{true, false}
 use lib.Dec.{ltb}
 use Rattle.group_block.specs.Sum.{held}
@@ -17,7 +17,7 @@ ones-requires : tie.Need-ones-requires
 ones-requires c κs = search needs
 
 returns : tie.Need-returns
-unfolding held summed word shape marks
+unfolding held summed numberOf shape marks
 returns c = let a = c .before .before .before .args in
     let e : ltb (a .sum) (cap (a .level)) ≡ true = sym (c .before .before .holds .ensures) ∙ c .before .if1 .taken in
     rw e (ap (λ (m : ℕ). record { over = false; word = a .sum; merge = m }) (c .ones .ensures))

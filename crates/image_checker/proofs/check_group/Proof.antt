@@ -23,8 +23,8 @@ loop-holds c = (stands-first _, refl)
 level-at-requires : tie.Need-level-at-requires Inv-loop μ-loop
 level-at-requires c κs = search needs
 
-words-of-requires : tie.Need-words-of-requires Inv-loop μ-loop
-words-of-requires c κs = search needs
+word-count-requires : tie.Need-word-count-requires Inv-loop μ-loop
+word-count-requires c κs = search needs
 
 first-bits-requires : tie.Need-first-bits-requires Inv-loop μ-loop
 first-bits-requires c κs = search needs
@@ -42,7 +42,7 @@ slot-is : (c : tie.After-check-parts Inv-loop μ-loop) → let l = c .before .be
 slot-is c = let l = c .before .before .before .before .before .loop in
     let a = c .before .before .before .before .before .before .before .args in
     let v = c .before .before .before .level-at in
-    let n = c .before .before .words-of in
+    let n = c .before .before .word-count in
     let b = c .before .first-bits in
     c .check-parts .ensures
     ∙ check-slot-first (a .merge) (l .k) (v .result) (n .result) (b .result) (a .words .now) (l .at) (v .ensures .0) (l .inv .0 .1 (omega arith)) (n .ensures .0) (b .ensures .0) (b .ensures .1)
@@ -96,7 +96,7 @@ check-group-spec =
     μ-loop
     loop-holds
     level-at-requires
-    words-of-requires
+    word-count-requires
     first-bits-requires
     shl-check-parts
     check-parts-requires

@@ -39,8 +39,8 @@ cast-describe-parts c = search needs
 mul-describe-parts : tie.Need-mul-describe-parts Inv-loop μ-loop
 mul-describe-parts c = search needs
 
-words-of-requires : tie.Need-words-of-requires Inv-loop μ-loop
-words-of-requires c κs = c .before .level-at .ensures .1
+word-count-requires : tie.Need-word-count-requires Inv-loop μ-loop
+word-count-requires c κs = c .before .level-at .ensures .1
 
 first-bits-requires : tie.Need-first-bits-requires Inv-loop μ-loop
 first-bits-requires c κs = search needs
@@ -51,7 +51,7 @@ describe-parts-requires c κs = let l = c .before .before .before .before .befor
     let h = c .before .before .before .before .loop-test .taken in
     let f = l .inv .1 h in
     let v = c .before .before .before .level-at in
-    let n = size-first m (l .k) (v .result) (c .before .words-of .result) (v .ensures .0) f (c .before .words-of .ensures .0) in
+    let n = size-first m (l .k) (v .result) (c .before .word-count .result) (v .ensures .0) f (c .before .word-count .ensures .0) in
     (omega arith, (omega (arith, n, sizes-turn (l .k) m h f, size-most m), (omega arith, c .first-bits .ensures .1)))
 
 cast-k : tie.Need-cast-k Inv-loop μ-loop
@@ -81,7 +81,7 @@ loop-again c = let l = c .before .before .before .before .before .before .before
     let h = c .before .before .before .before .before .before .before .loop-test .taken in
     let f = l .inv .1 h in
     let v = c .before .before .before .before .before .before .level-at in
-    let n = c .before .before .before .before .words-of in
+    let n = c .before .before .before .before .word-count in
     let b = c .before .before .before .first-bits in
     let p = c .before .before .describe-parts in
     let L = levelAt m (l .k) in
@@ -124,7 +124,7 @@ describe-spec =
     level-at-requires
     cast-describe-parts
     mul-describe-parts
-    words-of-requires
+    word-count-requires
     first-bits-requires
     describe-parts-requires
     cast-k

@@ -1,6 +1,6 @@
 use mathlib.Core.Path.{refl}
 use native.Mathlib.Omega.{arith}
-use Rattle.image_format.specs.Image.{wordsOf}
+use Rattle.image_format.specs.Image.{wordCount}
 use Rattle.image_format.specs.Read.{firstBits}
 use Rattle.image_format.proofs.Laws.{small-shl}
 use lib.Pow.{pow-pos}
@@ -11,8 +11,8 @@ use Rattle.image_format.proofs.first_bits.Tie as tie
 shl-result : tie.Need-shl-result
 shl-result c = search needs
 
-words-of-requires : tie.Need-words-of-requires
-words-of-requires c κs = search needs
+word-count-requires : tie.Need-word-count-requires
+word-count-requires c κs = search needs
 
 sub-result : tie.Need-sub-result
 sub-result c = search needs
@@ -21,15 +21,15 @@ mul-result : tie.Need-mul-result
 mul-result c = search needs
 
 sub-result-2 : tie.Need-sub-result-2
-unfolding wordsOf
+unfolding wordCount
 sub-result-2 c = let l = c .before .args .level in
-    omega (arith, c .words-of .ensures .0, small-shl 8 l (omega arith) (omega arith), pow-pos l)
+    omega (arith, c .word-count .ensures .0, small-shl 8 l (omega arith) (omega arith), pow-pos l)
 
 returns : tie.Need-returns
-unfolding firstBits wordsOf
+unfolding firstBits wordCount
 returns c = let l = c .before .args .level in
-    rw (small-shl 8 l (omega arith) (omega arith), c .words-of .ensures .0) (refl, omega (arith, pow-pos l))
+    rw (small-shl 8 l (omega arith) (omega arith), c .word-count .ensures .0) (refl, omega (arith, pow-pos l))
 
 pub first-bits-spec : {M : Type 1} → statement M
 first-bits-spec =
-    tie.close (tie.spec shl-result words-of-requires sub-result mul-result sub-result-2 returns)
+    tie.close (tie.spec shl-result word-count-requires sub-result mul-result sub-result-2 returns)

@@ -34,8 +34,8 @@ loop-holds c = let m = c .before .before .args .merge in
 level-at-requires : tie.Need-level-at-requires Inv-loop μ-loop
 level-at-requires c κs = search needs
 
-words-of-requires : tie.Need-words-of-requires Inv-loop μ-loop
-words-of-requires c κs = search needs
+word-count-requires : tie.Need-word-count-requires Inv-loop μ-loop
+word-count-requires c κs = search needs
 
 cast-n : tie.Need-cast-n Inv-loop μ-loop
 cast-n c = search needs
@@ -70,7 +70,7 @@ loop-again c = let l = c .before .before .before .loop in
       counter-end m (l .k) h f,
       next-first m (l .k) h f,
       omega (arith, pow-pos (levelAt m (l .k))),
-      omega (arith, sizes-turn (l .k) m h f, size-first m (l .k) (c .before .level-at .result) (c .words-of .result) e f (c .words-of .ensures .0)),
+      omega (arith, sizes-turn (l .k) m h f, size-first m (l .k) (c .before .level-at .result) (c .word-count .result) e f (c .word-count .ensures .0)),
     )
 
 returns-2 : tie.Need-returns-2 Inv-loop μ-loop
@@ -88,7 +88,7 @@ group-size-spec =
     returns
     loop-holds
     level-at-requires
-    words-of-requires
+    word-count-requires
     cast-n
     add-n
     cast-k

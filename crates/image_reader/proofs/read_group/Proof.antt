@@ -29,8 +29,8 @@ loop-holds c = (stands-first _, omega arith, refl, refl, refl)
 level-at-requires : tie.Need-level-at-requires Inv-loop μ-loop
 level-at-requires c κs = search needs
 
-words-of-requires : tie.Need-words-of-requires Inv-loop μ-loop
-words-of-requires c κs = search needs
+word-count-requires : tie.Need-word-count-requires Inv-loop μ-loop
+word-count-requires c κs = search needs
 
 value-at-requires : tie.Need-value-at-requires Inv-loop μ-loop
 value-at-requires c κs = search needs
@@ -62,7 +62,7 @@ loop-again : tie.Need-loop-again Inv-loop μ-loop
 loop-again c = let l = c .before .before .before .before .before .before .loop in
     let a = c .before .before .before .before .before .before .before .before .args in
     let v = c .before .before .before .before .level-at in
-    let n = c .before .before .before .words-of in
+    let n = c .before .before .before .word-count in
     let x = c .before .before .value-at in
     let k : l .k < 8 = omega arith in
     let f = l .inv .0 .1 k in
@@ -94,7 +94,7 @@ read-group-spec =
     μ-loop
     loop-holds
     level-at-requires
-    words-of-requires
+    word-count-requires
     value-at-requires
     change-requires
     cast-at

@@ -33,15 +33,15 @@ counter-requires c κs = search needs
 level-is : (c : tie.After-counter Inv-loop μ-loop) → c .counter .result .level ≡ levelAt (c .before .before .before .before .args .g .merge) (c .before .before .loop .k)
 level-is c = ap (λ (x : Reading). x .level) (c .counter .ensures) ∙ read-level (c .before .before .before .before .args .g) (c .before .before .loop .k)
 
-words-of-requires : tie.Need-words-of-requires Inv-loop μ-loop
-words-of-requires c κs = rw (level-is (c .before)) (level-at-le (c .before .before .before .before .before .args .g .merge) (c .before .before .before .loop .k))
+word-count-requires : tie.Need-word-count-requires Inv-loop μ-loop
+word-count-requires c κs = rw (level-is (c .before)) (level-at-le (c .before .before .before .before .before .args .g .merge) (c .before .before .before .loop .k))
 
 put-parts-requires : tie.Need-put-parts-requires Inv-loop μ-loop
 put-parts-requires c κs = let l = c .before .before .before .before .loop in
     let m = c .before .before .before .before .before .before .args .g .merge in
     let h = c .before .before .before .loop-test .taken in
     let f = l .inv .1 h in
-    (omega (arith, sizes-turn (l .k) m h f, size-first m (l .k) (c .before .before .counter .result .level) (c .words-of .result) (level-is (c .before .before)) f (c .words-of .ensures .0)), omega arith)
+    (omega (arith, sizes-turn (l .k) m h f, size-first m (l .k) (c .before .before .counter .result .level) (c .word-count .result) (level-is (c .before .before)) f (c .word-count .ensures .0)), omega arith)
 
 cast-k : tie.Need-cast-k Inv-loop μ-loop
 cast-k c = search needs
@@ -64,7 +64,7 @@ loop-again c = let l = c .before .before .before .before .before .before .before
     let g = c .before .before .before .before .before .before .before .before .before .before .args .g in
     let m = g .merge in
     let r = c .before .before .before .before .before .before .counter in
-    let n = c .before .before .before .before .words-of in
+    let n = c .before .before .before .before .word-count in
     let s = c .before .before .before .put-parts in
     let h = c .before .before .before .before .before .before .before .loop-test .taken in
     let f = l .inv .1 h in
@@ -97,7 +97,7 @@ put-group-spec =
     μ-loop
     loop-holds
     counter-requires
-    words-of-requires
+    word-count-requires
     put-parts-requires
     cast-k
     shl-k

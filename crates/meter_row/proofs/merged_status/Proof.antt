@@ -1,5 +1,5 @@
 use Rattle.group.specs.declared.Group.{Group}
-use Rattle.group.specs.Group.{united}
+use Rattle.group.specs.Group.{unitedGroups}
 use Rattle.meter_row.specs.Row.{unitedAt, unitedStatus, uniteStatus}
 use Rattle.geometry.proofs.Lists.{status-start, status-turn, status-end}
 use mathlib.Core.Path.{_≡_, refl, sym, ap₂, _∙_}
@@ -53,7 +53,7 @@ loop-again c = let u = c .before in
       l .inv .1,
       rw (c .earlier .ensures)
           (status-turn (unitedStatus (a .w) (a .source .now) (a .row .now)) (a .w / 8) (l .g) (l .status) (u .unite-status .result) (omega arith)
-          (u .unite-status .ensures ∙ ap₂ (λ (x y : Group). united x y .status) (u .before .before .load .ensures) (u .before .load2 .ensures))
+          (u .unite-status .ensures ∙ ap₂ (λ (x y : Group). unitedGroups x y .status) (u .before .before .load .ensures) (u .before .load2 .ensures))
           ∙ l .inv .2),
     )
 
