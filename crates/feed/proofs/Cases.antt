@@ -59,7 +59,7 @@ unfolding leaves
 unchanged s m = cases (eqb s 0) (λ t. rw t) (λ t. rw t)
 
 -- an update that the meter refuses leaves the memory as it was
-meter-keeps : (s v : ℕ) (after before : List ℕ) → eqb (finish s v after before .answer .status) 0 ≡ false → finish s v after before .memory ≡ before
+pub meter-keeps : (s v : ℕ) (after before : List ℕ) → eqb (finish s v after before .answer .status) 0 ≡ false → finish s v after before .memory ≡ before
 unfolding finish
 meter-keeps s v after before h = left-before s after before (eqb-false s 0 (rw (status-is s v) at h))
 

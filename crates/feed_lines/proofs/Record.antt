@@ -10,10 +10,8 @@ use borrow.Author.Tests.{eqb-true, eq-eqb, leb-true, lt-ltb}
 use lib.Dec.{eqb, leb}
 use lib.ListN.{length, take}
 use Rattle.answer.specs.Numbers.{badPayload}
-use Rattle.answer.specs.Answers.{finish, leaves}
 use Rattle.geometry.specs.Checks.{badShape, badKey}
 use Rattle.meter.specs.Meter.{updated, estimated}
-use Rattle.answer.proofs.Answers.{status-is}
 use Rattle.meter.proofs.Memory.{update-accepted}
 use Rattle.word.specs.declared.Step.{Step}
 use Rattle.word.specs.Word.{endKind, stop, next, payload, isDue, tested, below}
@@ -26,7 +24,7 @@ use Rattle.feed_records.proofs.Past.{opened-same}
 use Rattle.feed.specs.declared.Recorded.{Recorded}
 use Rattle.feed.specs.declared.Recorded.the-variants as case
 use Rattle.feed.specs.Record.{Carried, outcomeOf, updateOutcome, queried, openedOutcome, recordOutcome, recorded}
-use Rattle.feed.proofs.Cases.{carriedUpdate, carried, carriedAfter, by-cases}
+use Rattle.feed.proofs.Cases.{carriedUpdate, carried, carriedAfter, meter-keeps, by-cases}
 use Rattle.feed.proofs.Laws.{record-good}
 use Rattle.feed.proofs.Past.{record-alone}
 use Rattle.feed_text.specs.declared.Line.{Line}
@@ -134,11 +132,6 @@ key-stops : (n : ℕ) → Faulty (badKey n)
 unfolding stops
 key-stops n = by-test (leb 1 n && leb n 64) (λ t. rw t (inl refl)) (λ t. rw t (inr refl))
 
--- a refused call leaves the memory as it was
-refused-keeps : (s v : ℕ) (after before : List ℕ) → eqb (finish s v after before .answer .status) 0 ≡ false → finish s v after before .memory ≡ before
-unfolding finish leaves
-refused-keeps s v after before h = rw (rw (status-is s v) at h)
-
 taken-most : (l : Line) (words : List ℕ) → takenBy l words ≤ wordsTaken words
 unfolding takenBy
 taken-most l words = by-test (continues l || isEnd l) (λ t. rw t (omega arith)) (λ t. rw t (omega arith))
@@ -195,7 +188,7 @@ module _ (d w : ℕ) (memory : List ℕ) (before : ℕ) (words : List ℕ) (shap
       (λ h.
       by-test (eqb (updated d w memory key amount .answer .status) 0)
       (λ t. update-accepted d w memory key amount (eqb-true _ 0 t) .long)
-      (λ t. ap length (refused-keeps _ 0 _ memory t)))
+      (λ t. ap length (meter-keeps _ 0 _ memory t)))
       (λ h. refl)
       (λ h. refl)
 
