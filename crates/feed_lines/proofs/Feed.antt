@@ -25,13 +25,14 @@ use Rattle.feed_lines.specs.Feed.{followed, recordLine, afterEnd, past, 
 use Rattle.feed_lines.specs.Step.{takenBy, progress, linesFrom, Enough}
 use Rattle.feed_lines.specs.Bounds.{Fitting}
 use Rattle.feed_lines.proofs.Heads.{accepted-some, head-fits, head-geometry, fitting-shape}
-use Rattle.feed_lines.proofs.Record.{by-test, record-keeps, record-lies, record-lent, taken-lent}
+use borrow.Table.Steps.{cases}
+use Rattle.feed_lines.proofs.Record.{record-keeps, record-lies, record-lent, taken-lent}
 
 -- lines after a line, where they are printed
 pub followed-same : (l : Line) (a b x y : List Line) → (continues l ≡ true → a ≡ b) → (isEnd l ≡ true → x ≡ y) → followed l a x ≡ followed l b y
 unfolding followed
 followed-same l a b x y f g =
-    by-test (continues l) (λ t. rw (t, f t)) (λ t. rw t (by-test (isEnd l) (λ e. rw (e, g e)) (λ e. rw e)))
+    cases (continues l) (λ t. rw (t, f t)) (λ t. rw t (cases (isEnd l) (λ e. rw (e, g e)) (λ e. rw e)))
 
 -- a record that does not stop the feed took all its words
 pub taken-on : (l : Line) (words : List ℕ) → continues l ≡ true → takenBy l words ≡ wordsTaken words
@@ -40,7 +41,7 @@ taken-on l words t = rw t
 
 taken-end : (l : Line) (words : List ℕ) → isEnd l ≡ true → takenBy l words ≡ wordsTaken words
 unfolding takenBy
-taken-end l words t = by-test (continues l) (λ c. rw c) (λ c. rw (c, t))
+taken-end l words t = cases (continues l) (λ c. rw c) (λ c. rw (c, t))
 
 -- Each record takes a word or more, so with more lines allowed than there are words, their number does not matter.
 pub enough : (d w n m : ℕ) (memory : List ℕ) (before records : ℕ) (bytes : List ℕ) → badShape d w (length memory) ≡ 0
@@ -128,7 +129,7 @@ module _ (lent rest : List ℕ) (held : Enough lent rest) where
   -- The head's line is the only one, or the records' follow, on a cleared meter.
   pub head-stops : continues (headLine (headed first)) ≡ false → feedLines (lent ++ rest) ≡ headLine (headed first) ∷ []
   unfolding feedLines followed
-  head-stops e = rw (head-same, e) (by-test (isEnd (headLine (headed first))) (λ t. rw t) (λ t. rw t))
+  head-stops e = rw (head-same, e) (cases (isEnd (headLine (headed first))) (λ t. rw t) (λ t. rw t))
 
   pub head-lines : (d w : ℕ) → headLine (headed first) ≡ line.Geometry d w
       → feedLines (lent ++ rest) ≡ line.Geometry d w ∷ linesFrom d w (replicate (size d w) 0) 1 0 (drop 4 lent ++ rest)

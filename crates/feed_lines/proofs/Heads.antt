@@ -24,13 +24,14 @@ use Rattle.feed_text.specs.Line.{continues}
 use Rattle.feed_text.proofs.Line as the-line
 use Rattle.feed_lines.specs.Line.{headLine}
 use Rattle.feed_lines.specs.Bounds.{Fitting, FittingLine}
-use Rattle.feed_lines.proofs.Record.{by-test, next-passed}
+use borrow.Table.Steps.{cases}
+use Rattle.feed_lines.proofs.Record.{next-passed}
 
 good-geometry : (v : ℕ) → badGeometry v ≡ 0 → (validDepth (headDepth v) ≡ true) × (validWidth (headWidth v) ≡ true)
 unfolding badGeometry firstOf
 good-geometry v =
-    by-test (validDepth (headDepth v))
-    (λ t. rw t (by-test (validWidth (headWidth v)) (λ s. rw s (λ e. (refl, refl))) (λ s. rw s (λ e. absurd (omega arith)))))
+    cases (validDepth (headDepth v))
+    (λ t. rw t (cases (validWidth (headWidth v)) (λ s. rw s (λ e. (refl, refl))) (λ s. rw s (λ e. absurd (omega arith)))))
     (λ t. rw t (λ e. absurd (omega arith)))
 
 -- a head whose words pass
@@ -41,20 +42,20 @@ head-step words e =
     (due (h .0), sym (ap (λ s. s .status) (h .1)) ∙ e)
   where
     due : below words 0 headKind (2 ^ 9) .status ≡ 0 → 1 ≤ length words
-    due = by-test (isDue words 0 headKind) (λ t k. due-in words 0 headKind t) (λ t. rw t (λ k. absurd (omega arith)))
+    due = cases (isDue words 0 headKind) (λ t k. due-in words 0 headKind t) (λ t. rw t (λ k. absurd (omega arith)))
 
 pub accepted-some : (words : List ℕ) → headed words .status ≡ 0 → 1 ≤ length words
 unfolding headed
 accepted-some words =
-    by-test (eqb (headStep words .status) 0) (λ t e. head-step words (eqb-true _ 0 t) .0)
+    cases (eqb (headStep words .status) 0) (λ t e. head-step words (eqb-true _ 0 t) .0)
     (λ t. rw t (λ e. absurd (true≢false (sym (eq-eqb _ 0 e) ∙ t))))
 
 pub head-fits : (words : List ℕ) → FittingLine (headLine (headed words))
 unfolding headed headLine
 head-fits words =
-    by-test (eqb (headStep words .status) 0)
+    cases (eqb (headStep words .status) 0)
     (λ t. rw t
-    (by-test (leb (headWidth (payload words 0)) 4096)
+    (cases (leb (headWidth (payload words 0)) 4096)
     (λ s. rw s (let g = good-geometry (payload words 0) (head-step words (eqb-true _ 0 t) .1) in (g .0, g .1, leb-true _ _ s)))
     (λ s. rw s tt)))
     (λ t. rw (t, t) tt)
@@ -63,9 +64,9 @@ head-fits words =
 pub head-geometry : (a : Answer) (d w : ℕ) → headLine a ≡ line.Geometry d w → (a .status ≡ 0) × (headDepth (a .value) ≡ d) × (headWidth (a .value) ≡ w)
 unfolding headLine continues
 head-geometry a d w =
-    by-test (eqb (a .status) 0)
+    cases (eqb (a .status) 0)
     (λ t. rw t
-    (by-test (leb (headWidth (a .value)) 4096) (λ s. rw s (λ e. (eqb-true _ 0 t, cc, cc))) (λ s. rw s (λ e. absurd (true≢false (sym (ap continues e)))))))
+    (cases (leb (headWidth (a .value)) 4096) (λ s. rw s (λ e. (eqb-true _ 0 t, cc, cc))) (λ s. rw s (λ e. absurd (true≢false (sym (ap continues e)))))))
     (λ t. rw t (λ e. absurd (true≢false (sym (ap continues e)))))
 
 not-first : (t : ℕ) → OneOf (1 ∷ 2 ∷ 3 ∷ 4 ∷ 5 ∷ []) t → t ≡ 0 → ⊥
@@ -76,16 +77,16 @@ not-first t h e =
 pub no-geometry : (a : Answer) → OneOf (1 ∷ 2 ∷ 3 ∷ 4 ∷ 5 ∷ []) (tagOf the-line.the-type (headLine a)) → continues (headLine a) ≡ false
 unfolding headLine continues
 no-geometry a =
-    by-test (eqb (a .status) 0)
-    (λ t. rw t (by-test (leb (headWidth (a .value)) 4096) (λ s. rw s (λ h. absurd (not-first 0 h refl))) (λ s. rw s (λ h. refl))))
+    cases (eqb (a .status) 0)
+    (λ t. rw t (cases (leb (headWidth (a .value)) 4096) (λ s. rw s (λ h. absurd (not-first 0 h refl))) (λ s. rw s (λ h. refl))))
     (λ t. rw t (λ h. refl))
 
 -- and one after which a record follows gives one
 pub goes-on : (a : Answer) → continues (headLine a) ≡ true → headLine a ≡ line.Geometry (headDepth (a .value)) (headWidth (a .value))
 unfolding headLine continues
 goes-on a =
-    by-test (eqb (a .status) 0)
-    (λ t. rw t (by-test (leb (headWidth (a .value)) 4096) (λ s. rw s (λ e. refl)) (λ s. rw s (λ e. absurd (true≢false (sym e))))))
+    cases (eqb (a .status) 0)
+    (λ t. rw t (cases (leb (headWidth (a .value)) 4096) (λ s. rw s (λ e. refl)) (λ s. rw s (λ e. absurd (true≢false (sym e))))))
     (λ t. rw t (λ e. absurd (true≢false (sym e))))
 
 -- such a meter's memory

@@ -24,7 +24,8 @@ use Rattle.feed_lines.specs.Bounds.{Fitting}
 use Rattle.feed_lines.specs.Pieces.{Held, joined, readOn, lent, done, next, stepLines, pieceLines}
 use Rattle.feed_text.proofs.Laws.{words-length}
 use Rattle.feed_lines.proofs.Heads.{accepted-some, head-fits, head-geometry, goes-on, fitting-shape}
-use Rattle.feed_lines.proofs.Record.{by-test, record-keeps, record-lies}
+use borrow.Table.Steps.{cases}
+use Rattle.feed_lines.proofs.Record.{record-keeps, record-lies}
 use Rattle.feed_lines.proofs.Feed.{followed-same, taken-on, fewer, step-lines, head-lines, head-stops}
 
 -- all bytes that are at hand or still to come
@@ -36,7 +37,7 @@ pub read-on : (bytes : List ℕ) (pieces : List (List ℕ)) → (all (readOn byt
 unfolding readOn joined
 read-on bytes [] = (refl, inr refl)
 read-on bytes (p ∷ ps) =
-    by-test (leb (4 * 25) (length bytes)) (λ t. rw t (refl, inl (leb-true (4 * 25) (length bytes) t)))
+    cases (leb (4 * 25) (length bytes)) (λ t. rw t (refl, inl (leb-true (4 * 25) (length bytes) t)))
     (λ t. let more = read-on (bytes ++ p) ps in rw t (more .0 ∙ append-assoc bytes p (joined ps), more .1))
 
 -- whether a byte is at hand tells whether one comes
@@ -69,7 +70,7 @@ followed-on l a b t = rw t
 
 followed-off : (l : Line) (a : List Line) → continues l ≡ false → followed l a [] ≡ l ∷ []
 unfolding followed
-followed-off l a t = rw t (by-test (isEnd l) (λ e. rw e) (λ e. rw e))
+followed-off l a t = rw t (cases (isEnd l) (λ e. rw e) (λ e. rw e))
 
 -- The program's steps give the lines of the whole feed, whatever the pieces.
 pub pieces-are : (pieces : List (List ℕ)) → pieceLines pieces ≡ feedLines (joined pieces)
@@ -80,7 +81,7 @@ pieces-are ps =
     let first = take 1 (wholeWords (h .bytes)) in
     let a = headed first in
     let rest = joined (h .pieces) in
-    by-test (continues (headLine a))
+    cases (continues (headLine a))
     (λ t.
     let d = headDepth (a .value) in
     let w = headWidth (a .value) in

@@ -58,6 +58,9 @@ row-length r stride memory h = length-take-le stride (drop (r * stride) memory) 
 next-row : (r stride : ℕ) → (r + 1) * stride ≡ r * stride + stride
 next-row r stride = add-mul r 1 stride ∙ ap (λ (m : ℕ). r * stride + m) (one-mul stride)
 
+pub drop-row : (memory : List ℕ) (r stride : ℕ) → drop stride (drop (r * stride) memory) ≡ drop ((r + 1) * stride) memory
+drop-row memory r stride = drop-drop stride (r * stride) memory ∙ ap (λ (n : ℕ). drop n memory) (sym (next-row r stride))
+
 -- the bytes of a row that is lent
 pub lent : (a s : ℕ) (memory : List ℕ) → take (a + s - a) (drop a memory) ≡ take s (drop a memory)
 lent a s memory =

@@ -28,7 +28,7 @@ use Rattle.image_format.specs.Read.{mergesAt, checkGroups, checkFour, checkFour
 use Rattle.word.proofs.Laws.{both}
 use Rattle.image_writer.proofs.Laws.{layout-lt}
 use Rattle.image_checker.proofs.Digits.{here, payload-here, below-here}
-use Rattle.image_format.proofs.Laws.{by-test}
+use borrow.Table.Steps.{cases}
 use Rattle.image_reader.proofs.Restoring.{group-restored}
 
 -- a row that is another up to group g
@@ -280,7 +280,7 @@ fours-add zero b words p q e = rw (zero-add b) (ap (λ (s : Step). checkFours b 
 fours-add (suc a) b words p q e =
     let s = checkFour words p in
     rw (suc-add a b)
-    (by-test (eqb (s .status) 0) (λ t. rw t (fours-add a b words (s .position) q (rw t at e)))
+    (cases (eqb (s .status) 0) (λ t. rw t (fours-add a b words (s .position) q (rw t at e)))
     (λ t. absurd (eqb-false (s .status) 0 t (ap (λ (x : Step). x .status) (rw t at e)))))
 
 pub record Rows (n w : ℕ) (memory old words : List ℕ) (p : ℕ) (rest : List ℕ) : Type 0 where

@@ -16,7 +16,7 @@ use Rattle.image_format.specs.Image.{countKind, wordCount, levelAt, isFirst}
 use Rattle.image_format.specs.Write.{groupSize}
 use Rattle.image_format.specs.Read.{checkParts, checkSlot, checkSlots, firstBits}
 use Rattle.image_format.specs.Fields.{Field, partFields, slotFields, slotsFields, groupFields, fieldAt, Described}
-use Rattle.image_format.proofs.Laws.{by-test}
+use borrow.Table.Steps.{cases}
 use Rattle.image_format.proofs.Fields.{none, fields-size, size-most, field-in}
 use Rattle.image_checker.proofs.Plain.{same-from}
 
@@ -32,7 +32,7 @@ after s f g e = ap (λ (x : Step). cond (eqb (s .status) 0) x s) e
 
 next-next : (s : Step) (f g : ℕ → Step) → next (next s f) g ≡ next s (λ q. next (f q) g)
 unfolding next
-next-next s f g = by-test (eqb (s .status) 0) (λ e. rw e) (λ e. rw (e, e))
+next-next s f g = cases (eqb (s .status) 0) (λ e. rw e) (λ e. rw (e, e))
 
 check-append : (fs gs : List Field) (words : List ℕ) (p : ℕ) → checkFields (fs ++ gs) words p ≡ next (checkFields fs words p) (λ q. checkFields gs words q)
 unfolding checkFields next
@@ -52,7 +52,7 @@ check-parts-fields (suc n) place bits words p =
 check-slot-fields : (m k : ℕ) (words : List ℕ) (p : ℕ) → checkSlot m k words p ≡ checkFields (slotFields m k) words p
 unfolding checkSlot slotFields checkFields
 check-slot-fields m k words p =
-    by-test (isFirst m k)
+    cases (isFirst m k)
     (λ t. rw t (check-parts-fields (wordCount (levelAt m k)) (8 * k) (firstBits (levelAt m k)) words p))
     (λ t. rw t)
 

@@ -14,7 +14,8 @@ use Rattle.image_format.specs.Fields.{Field, partFields, slotFields, slo
 use Rattle.image_format.specs.Image.{wordCount, levelAt, isFirst}
 use Rattle.image_format.specs.Read.{firstBits}
 use Rattle.image_format.specs.Write.{slotSize, slotsSize, groupSize}
-use Rattle.image_format.proofs.Laws.{by-test, size-first, sizes-none}
+use borrow.Table.Steps.{cases}
+use Rattle.image_format.proofs.Laws.{size-first, sizes-none}
 use Rattle.image_format.proofs.Sizes.{first-zero}
 use Rattle.image_format.proofs.Counters.{counter-end, next-first, behind, sizes-turn}
 
@@ -26,7 +27,7 @@ parts-size (suc n) place bits = ap suc (parts-size n place 24)
 
 slot-size : (m k : ℕ) → length (slotFields m k) ≡ slotSize m k
 unfolding slotFields slotSize
-slot-size m k = by-test (isFirst m k) (λ t. rw t (parts-size (wordCount (levelAt m k)) (8 * k) (firstBits (levelAt m k)))) (λ t. rw t)
+slot-size m k = cases (isFirst m k) (λ t. rw t (parts-size (wordCount (levelAt m k)) (8 * k) (firstBits (levelAt m k)))) (λ t. rw t)
 
 slots-size : (n k m : ℕ) → length (slotsFields n k m) ≡ slotsSize n k m
 unfolding slotsFields slotsSize
@@ -79,7 +80,7 @@ slot-in : (m k i : ℕ) → k < 8 → i < length (slotFields m k) → In (getD (
 unfolding slotFields slotSize
 slot-in m k i l h =
     let n : i < slotSize m k = rw (slot-size m k) at h in
-    by-test (isFirst m k)
+    cases (isFirst m k)
     (λ t.
     let L = levelAt m k in
     let b = words-bits L in

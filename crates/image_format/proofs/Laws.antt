@@ -1,6 +1,6 @@
 -- Laws of widths, levels and the words of counters.
 use mathlib.Core.Path.{_≡_, refl, ap, _∙_}
-use mathlib.Core.Bool.{Bool, true, false}
+use mathlib.Core.Bool.{true, false}
 use mathlib.Core.List.{[]}
 use Prim.Native.Nat.{ℕ, zero, suc, _+_, _-_, _%_, _^_, _≤_, _<_, _*_}
 use native.Mathlib.Nat.{mod-eq-of-lt, mul-le-mul-right}
@@ -8,6 +8,7 @@ use native.Mathlib.Omega.{arith}
 use lib.ListN.{length}
 use native.Mathlib.Numerals.{add-one}
 use native.Mathlib.Decide.{decLt}
+use borrow.Table.Steps.{cases}
 use borrow.Author.Tests.{eq-eqb, ne-eqb}
 use lib.Dec.{eqb}
 use lib.Pow.{pow-mono, pow-lt}
@@ -19,10 +20,6 @@ use Rattle.geometry.proofs.Widths.{width-is}
 use Rattle.image_format.specs.Image.{parts, wordCount, levelAt, isFirst, slotWords, logFrom, logWidth}
 use Rattle.image_format.specs.Write.{slotSize, slotsSize}
 
-pub by-test : (b : Bool) {A : Type 0} → (b ≡ true → A) → (b ≡ false → A) → A
-by-test true f g = f refl
-by-test false f g = g refl
-
 -- a shift of a small number loses no bits
 pub small-shl : (a level : ℕ) → a ≤ 8 → level ≤ 24 → a * 2 ^ level % 2 ^ 32 ≡ a * 2 ^ level
 small-shl a level h k = mod-eq-of-lt {n = a * 2 ^ level} {m = 2 ^ 32} (omega (arith, pow-mono {i = level} {j = 24} k, mul-le-mul-right {m = a} {n = 8} (2 ^ level) h))
@@ -31,8 +28,8 @@ small-shl a level h k = mod-eq-of-lt {n = a * 2 ^ level} {m = 2 ^ 32} (omega (ar
 pub log-most : (n w : ℕ) → 0 < n → logFrom n w < n
 unfolding logFrom
 log-most zero w h = absurd (omega arith)
-log-most (suc zero) w h = by-test (eqb (2 ^ 0) w) (λ t. rw t (omega arith)) (λ t. rw t (omega arith))
-log-most (suc (suc k)) w h = by-test (eqb (2 ^ suc k) w) (λ t. rw t (omega arith)) (λ t. rw t (omega (arith, log-most (suc k) w (omega arith))))
+log-most (suc zero) w h = cases (eqb (2 ^ 0) w) (λ t. rw t (omega arith)) (λ t. rw t (omega arith))
+log-most (suc (suc k)) w h = cases (eqb (2 ^ suc k) w) (λ t. rw t (omega arith)) (λ t. rw t (omega (arith, log-most (suc k) w (omega arith))))
 
 pub log-found : (n k : ℕ) → k < n → logFrom n (2 ^ k) ≡ k
 unfolding logFrom

@@ -14,7 +14,8 @@ use Rattle.word.specs.Word.{go, next}
 use Rattle.image_format.specs.Image.{parts, wordCount, levelAt, isFirst, slotWords, slotsWords, groupWords}
 use Rattle.image_format.specs.Write.{slotSize, slotsSize, groupSize}
 use Rattle.image_format.specs.Read.{checkSlot, checkSlots, readSlot, readSlots, readGroup}
-use Rattle.image_format.proofs.Laws.{slot-none, slot-some, size-first, size-other, by-test}
+use borrow.Table.Steps.{cases}
+use Rattle.image_format.proofs.Laws.{slot-none, slot-some, size-first, size-other}
 use Rattle.image_format.proofs.Sizes.{read-level, level-at-le}
 use Rattle.image_format.proofs.Counters.{first-is, other-is}
 use Rattle.image_checker.proofs.Laws.{up-to, check-slot-other}
@@ -79,7 +80,7 @@ module _ (k : ℕ) (g h : Group) (words : List ℕ) (p : ℕ) (rest : List ℕ) 
       }
 
   slot-restored : Slot k g h words p rest
-  slot-restored = by-test (isFirst (g .merge) k) slot-first slot-other
+  slot-restored = cases (isFirst (g .merge) k) slot-first slot-other
 
 -- slots that were written, read back
 pub record Slots (n k : ℕ) (g h : Group) (words : List ℕ) (p : ℕ) (rest : List ℕ) : Type 0 where

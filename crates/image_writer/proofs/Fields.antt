@@ -20,7 +20,7 @@ use Rattle.image_format.specs.Image.{word, countKind, parts, wordCount, levelAt
 use Rattle.image_format.specs.Write.{groupSize}
 use Rattle.image_format.specs.Read.{firstBits}
 use Rattle.image_format.specs.Fields.{Field, partFields, slotFields, slotsFields, groupFields, fieldAt, Described}
-use Rattle.image_format.proofs.Laws.{by-test}
+use borrow.Table.Steps.{cases}
 use Rattle.image_format.proofs.Sizes.{read-level}
 use Rattle.image_format.proofs.Counters.{first-is}
 use Rattle.image_format.proofs.Fields.{words-bits}
@@ -63,7 +63,7 @@ module _ (g : Group) (k : ℕ) (o : Good g) (h : k < 8) (t : isFirst (g .merge) 
 slot-fields : (g : Group) (k : ℕ) → Good g → k < 8 → slotWords g k ≡ map (fieldWord (fieldsOf (g .counts))) (slotFields (g .merge) k)
 unfolding slotWords slotFields
 slot-fields g k o h =
-    by-test (isFirst (g .merge) k)
+    cases (isFirst (g .merge) k)
     (λ t. rw t (counter-fields g k o h t))
     (λ f. rw f)
 

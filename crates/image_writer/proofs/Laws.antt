@@ -3,11 +3,11 @@ use mathlib.Core.Path.{_≡_, refl, sym, ap, _∙_}
 use mathlib.Core.Bool.{Bool, true, false, cond, _&&_}
 use mathlib.Core.List.{List, [], _∷_, _++_, map}
 use Prim.Native.Nat.{ℕ, zero, suc, _+_, _-_, _*_, _/_, _%_, _^_, _≤_, _<_}
-use native.Mathlib.Nat.{one-mul, add-mul, add-assoc, add-zero, add-suc, suc-add, zero-add}
+use native.Mathlib.Nat.{add-assoc, add-zero, add-suc, suc-add, zero-add}
 use native.Mathlib.Numerals.{add-one, sub-one}
 use native.Mathlib.Omega.{arith}
 use lib.ListN.{length, getD, take, drop, set, length-append, drop-of-length-le}
-use lib.Seq.{sets, drop-cons, drop-drop, sets-eq}
+use lib.Seq.{sets, drop-cons, sets-eq}
 use Rattle.group.specs.declared.Group.{Group}
 use Rattle.group.specs.Group.{validMerge, read}
 use Rattle.group_codes.specs.Pack.{layoutsOf, packed}
@@ -52,11 +52,6 @@ layout-is w row g = rw (add-assoc w g 1, add-assoc w g 2, add-assoc w g 3)
 pub layout-lt : (w : ℕ) (row : List ℕ) (g : ℕ) → layoutAt w row g < layoutsOf 4
 unfolding layoutAt
 layout-lt w row g = packed-lt _ _ _ _
-
--- the bytes after row r
-pub drop-row : (memory : List ℕ) (r s : ℕ) → drop s (drop (r * s) memory) ≡ drop ((r + 1) * s) memory
-drop-row memory r s =
-    drop-drop s (r * s) memory ∙ ap (λ (n : ℕ). drop n memory) (sym (add-mul r 1 s ∙ ap (λ (n : ℕ). r * s + n) (one-mul s)))
 
 pub valid-rows-step : (memory : List ℕ) (d r w : ℕ) → r < d
     → validRows (d - r) w (drop (r * stride w) memory) ≡ (allValid (drop w (take (stride w) (drop (r * stride w) memory))) && validRows (d - (r + 1)) w (drop ((r + 1) * stride w) memory))

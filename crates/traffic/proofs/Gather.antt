@@ -10,7 +10,7 @@ use Rattle.geometry.specs.Geometry.{stride}
 use Rattle.answer.specs.Order.{earlier, earliest}
 use Rattle.geometry.specs.Rows.{ofRows, ofGroups, leastOr, least, largest}
 use Rattle.meter.specs.Meter.{rowOf}
-use Rattle.image_writer.proofs.Laws.{drop-row}
+use Rattle.geometry.proofs.Lists.{drop-row}
 use Rattle.traffic.specs.Traffic.{leastBelow}
 
 -- what is read of rows, by the rows' numbers
