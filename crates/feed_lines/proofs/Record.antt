@@ -14,7 +14,7 @@ use Rattle.geometry.specs.Checks.{badShape, badKey}
 use Rattle.meter.specs.Meter.{updated, estimated}
 use Rattle.meter.proofs.Memory.{update-accepted}
 use Rattle.word.specs.declared.Step.{Step}
-use Rattle.word.specs.Word.{endKind, stop, next, payload, isDue, tested, below}
+use Rattle.word.specs.Word.{endKind, next, payload, isDue, tested, below}
 use Rattle.word.proofs.Laws.{due-in, one-on}
 use Rattle.feed_records.specs.declared.Opening.the-variants as opening
 use Rattle.feed_records.specs.Words.{updateKind, queryKind, keyKind, amountKind, opensKey, opened, keyOf, amountOf, keyWords, keyPayload, keyWord, checkKey, checkAmount, updateStep, queryStep, bodyOf, updateBody, queryBody, wordsTaken}

@@ -17,9 +17,7 @@ use lib.Seq.{take-append-seam}
 use Rattle.laws.proofs.Lists.{Bytes}
 use Rattle.answer.specs.Answers.{accepted, Done}
 use Rattle.answer.specs.Numbers.{badPayload, badWord, otherMeter}
-use Rattle.geometry.specs.Geometry.{validWidth}
 use Rattle.geometry.specs.Checks.{badShape}
-use Rattle.geometry.proofs.Widths.{width-is}
 use Rattle.word.specs.declared.Step.{Step}
 use Rattle.word.specs.Word.{headKind, endKind, go, stop, next, payload, tested, below}
 use Rattle.image_format.specs.Image.{word, headPayload, rowsWords, body, endWord, image}
