@@ -45,18 +45,18 @@ pub code-merge : (c : ℕ) → c < 26 → (validMerge (codeMerge c) ≡ true) ×
 unfolding layouts
 code-merge c h = (valid-marks (uncode 3 c), rw (layout-marks (uncode 3 c)) (code-uncode 3 c h))
 
-pub four-below : (a b c d : ℕ) → fourCode a b c d < 456976
+pub four-below : (a b c d : ℕ) → fourCode a b c d < layoutsOf 4
 unfolding fourCode
 four-below a b c d = omega (arith, code-below a, code-below b, code-below c, code-below d)
 
 -- four digits of base 26
 record Digits (n w x y z : ℕ) : Type 0 where
-  first : n / 17576 ≡ w
-  second : n / 676 % 26 ≡ x
+  first : n / layoutsOf 3 ≡ w
+  second : n / layoutsOf 2 % 26 ≡ x
   third : n / 26 % 26 ≡ y
   last : n % 26 ≡ z
 
-digits : (w x y z : ℕ) → w < 26 → x < 26 → y < 26 → z < 26 → Digits (w * 17576 + x * 676 + y * 26 + z) w x y z
+digits : (w x y z : ℕ) → w < 26 → x < 26 → y < 26 → z < 26 → Digits (w * layoutsOf 3 + x * layoutsOf 2 + y * 26 + z) w x y z
 digits w x y z hw hx hy hz = record { first = omega arith; second = omega arith; third = omega arith; last = omega arith }
 
 -- what is packed unpacks to the same merge bytes
@@ -66,7 +66,7 @@ unfolding unpacked fourMerges fourCode
 unpack-pack a b c d va vb vc vd =
     let q = digits (mergeCode a) (mergeCode b) (mergeCode c) (mergeCode d) (code-below a) (code-below b) (code-below c) (code-below d) in
     rw (
-      lt-ltb (fourCode a b c d) 456976 (four-below a b c d),
+      lt-ltb (fourCode a b c d) (layoutsOf 4) (four-below a b c d),
       q .first,
       q .second,
       q .third,
@@ -78,11 +78,11 @@ unpack-pack a b c d va vb vc vd =
     )
 
 -- a code below 456,976 unpacks to valid merge bytes that pack to it
-pub pack-unpack : (c : ℕ) → c < 456976 → packed (codeMerge (c / 17576)) (codeMerge (c / 676 % 26)) (codeMerge (c / 26 % 26)) (codeMerge (c % 26)) ≡ accepted c
+pub pack-unpack : (c : ℕ) → c < layoutsOf 4 → packed (codeMerge (c / layoutsOf 3)) (codeMerge (c / layoutsOf 2 % 26)) (codeMerge (c / 26 % 26)) (codeMerge (c % 26)) ≡ accepted c
 unfolding packed fourCode
 pack-unpack c h =
-    let p = code-merge (c / 17576) (omega arith) in
-    let q = code-merge (c / 676 % 26) (omega arith) in
+    let p = code-merge (c / layoutsOf 3) (omega arith) in
+    let q = code-merge (c / layoutsOf 2 % 26) (omega arith) in
     let r = code-merge (c / 26 % 26) (omega arith) in
     let s = code-merge (c % 26) (omega arith) in
     rw (p .0, q .0, r .0, s .0, p .1, q .1, r .1, s .1) (ap accepted (omega arith))

@@ -13,7 +13,7 @@ use Rattle.laws.proofs.Lists.{Bytes}
 use Rattle.answer.specs.declared.Answer.{Answer}
 use Rattle.group.specs.declared.Group.{Group}
 use Rattle.group.specs.Group.{validMerge}
-use Rattle.group_codes.specs.Pack.{packed, fourMerges, unpacked}
+use Rattle.group_codes.specs.Pack.{layoutsOf, packed, fourMerges, unpacked}
 use Rattle.group.proofs.Laws.{Eight}
 use Rattle.group_codes.proofs.Packing.{code-merge, pack-unpack}
 use Rattle.group.proofs.Changing.{Good}
@@ -101,27 +101,27 @@ groups-are (m ∷ ms) g w row words p q v a b e =
     }
 
 -- the merge bytes of a layout code
-four-valid : (c : ℕ) → c < 456976 → allValid (unpacked c .merges) ≡ true
+four-valid : (c : ℕ) → c < layoutsOf 4 → allValid (unpacked c .merges) ≡ true
 unfolding unpacked fourMerges allValid
 four-valid c h =
     rw (
-      lt-ltb c 456976 h,
-      code-merge (c / 17576) (omega arith) .0,
-      code-merge (c / 676 % 26) (omega arith) .0,
+      lt-ltb c (layoutsOf 4) h,
+      code-merge (c / layoutsOf 3) (omega arith) .0,
+      code-merge (c / layoutsOf 2 % 26) (omega arith) .0,
       code-merge (c / 26 % 26) (omega arith) .0,
       code-merge (c % 26) (omega arith) .0,
     )
 
-four-long : (c : ℕ) → c < 456976 → length (unpacked c .merges) ≡ 4
+four-long : (c : ℕ) → c < layoutsOf 4 → length (unpacked c .merges) ≡ 4
 unfolding unpacked fourMerges
-four-long c h = rw (lt-ltb c 456976 h)
+four-long c h = rw (lt-ltb c (layoutsOf 4) h)
 
 codeOf : List ℕ → ℕ
 codeOf ms = packed (getD ms 0 0) (getD ms 1 0) (getD ms 2 0) (getD ms 3 0) .value
 
-four-code : (c : ℕ) → c < 456976 → codeOf (unpacked c .merges) ≡ c
+four-code : (c : ℕ) → c < layoutsOf 4 → codeOf (unpacked c .merges) ≡ c
 unfolding unpacked fourMerges codeOf
-four-code c h = rw (lt-ltb c 456976 h) (ap (λ (x : Answer). x .value) (pack-unpack c h))
+four-code c h = rw (lt-ltb c (layoutsOf 4) h) (ap (λ (x : Answer). x .value) (pack-unpack c h))
 
 layout-of : (w : ℕ) (row : List ℕ) (g : ℕ) → layoutAt w row g ≡ codeOf (merges-from 4 g w row)
 unfolding layoutAt merges-from codeOf
@@ -145,11 +145,11 @@ four-are : (g w : ℕ) (row words : List ℕ) (p q : ℕ) → 8 * (g + 4) ≤ w 
     × (length (mergesAt words p) ≡ 4)
 unfolding checkFour fourWords mergesAt word
 four-are g w row words p q a b e =
-    let t = passed (below words p layoutKind 456976) (λ r. checkGroups (mergesAt words p) words r) q e in
-    let r = below words p layoutKind 456976 .position in
-    let d = below-is words p layoutKind 456976 r (t .here) in
+    let t = passed (below words p layoutKind (layoutsOf 4)) (λ r. checkGroups (mergesAt words p) words r) q e in
+    let r = below words p layoutKind (layoutsOf 4) .position in
+    let d = below-is words p layoutKind (layoutsOf 4) r (t .here) in
     let c = payload words p in
-    let l = ltb-true c 456976 (d .true-of) in
+    let l = ltb-true c (layoutsOf 4) (d .true-of) in
     let k = four-long c l in
     let ms = unpacked c .merges in
     let a′ : 8 * (g + length ms) ≤ w = rw k a in

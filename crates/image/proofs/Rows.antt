@@ -14,7 +14,7 @@ use Rattle.laws.proofs.Lists.{Bytes}
 use Rattle.group.specs.declared.Group.{Group}
 use Rattle.group.specs.Group.{validMerge}
 use Rattle.group_codes.specs.declared.Unpacked.{Unpacked}
-use Rattle.group_codes.specs.Pack.{fourCode, packed, unpacked}
+use Rattle.group_codes.specs.Pack.{layoutsOf, fourCode, packed, unpacked}
 use Rattle.group_codes.proofs.Packing.{unpack-pack}
 use Rattle.group.proofs.Changing.{Good}
 use Rattle.geometry.specs.Geometry.{stride}
@@ -187,7 +187,7 @@ four-restored g w source row words p rest o i s e =
     let m : unpacked (payload words p) .merges ≡ merges-from 4 g w source = ap (λ (c : ℕ). unpacked c .merges) y ∙ layout-code w source g o i in
     let q = groups-restored 4 g w source row words (p + 1) rest o i s (h .after) in
     record {
-      checks = rw (below-here words p layoutKind x tail e (omega (arith, l)) 456976 l, m) (q .checks);
+      checks = rw (below-here words p layoutKind x tail e (omega (arith, l)) (layoutsOf 4) l, m) (q .checks);
       after = rw m (q .after);
       same = rw m (q .same);
     }

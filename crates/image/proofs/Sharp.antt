@@ -10,7 +10,7 @@ use borrow.Table.Steps.{cases}
 use lib.Dec.{eqb, ltb}
 use lib.ListN.{length, take, length-take}
 use Rattle.answer.specs.Numbers.{badPayload, badWord, otherMeter}
-use Rattle.group_codes.specs.Pack.{unpacked}
+use Rattle.group_codes.specs.Pack.{layoutsOf, unpacked}
 use Rattle.word.specs.Word.{headKind, endKind, go, stop, next, payload, isDue, tested, below}
 use Rattle.word.proofs.Laws.{due-in}
 use Rattle.word.proofs.Passed.{goes, below-is}
@@ -51,12 +51,12 @@ module _ (words : List ℕ) (q : ℕ) where
   four-cut : (p : ℕ) → Cut (length words) q p (checkFour words p) (checkFour front p)
   unfolding checkFour mergesAt
   four-cut p =
-      let s = below words p layoutKind 456976 in
+      let s = below words p layoutKind (layoutsOf 4) in
       let ms = unpacked (payload words p) .merges in
-      next-cut (length words) q p s (below front p layoutKind 456976) (λ r. checkGroups ms words r) (λ r. checkGroups (unpacked (payload front p) .merges) front r) (below-cut words q p layoutKind 456976)
+      next-cut (length words) q p s (below front p layoutKind (layoutsOf 4)) (λ r. checkGroups ms words r) (λ r. checkGroups (unpacked (payload front p) .merges) front r) (below-cut words q p layoutKind (layoutsOf 4))
       (λ r. groups-cut ms r .ahead)
       (λ e h.
-      let x = below-is words p layoutKind 456976 (s .position) (goes s e) .position in
+      let x = below-is words p layoutKind (layoutsOf 4) (s .position) (goes s e) .position in
       subst (λ (l : List ℕ). Cut (length words) q (s .position) (checkGroups ms words (s .position)) (checkGroups l front (s .position)))
       (ap (λ (c : ℕ). unpacked c .merges) (sym (payload-same words q p (omega arith)))) (groups-cut ms (s .position)))
 

@@ -4,7 +4,7 @@ use mathlib.Core.List.{_∷_, []}
 use borrow.Author.Tests.{lt-ltb, le-ltb}
 use Rattle.group_layout.specs.Code.{layouts}
 use Rattle.answer.specs.declared.Answer.{Answer}
-use Rattle.group_codes.specs.Pack.{unpacked, fourMerges}
+use Rattle.group_codes.specs.Pack.{layoutsOf, unpacked, fourMerges}
 use borrow.Author.Needs.{needs}
 use Rattle.group_codes.proofs.unpack.Statement.{statement}
 use Rattle.group_codes.proofs.unpack.Tie as tie
@@ -14,7 +14,7 @@ refused-requires c κs = search needs
 
 returns : tie.Need-returns
 unfolding unpacked
-returns c = rw (le-ltb (c .before .before .args .code) 456976 (c .before .if1 .taken))
+returns c = rw (le-ltb (c .before .before .args .code) (layoutsOf 4) (c .before .if1 .taken))
     (ap (λ (x : Answer). record { answer = x; merges = 0 ∷ 0 ∷ 0 ∷ 0 ∷ [] }) (c .refused .ensures))
 
 unpack-requires : tie.Need-unpack-requires
@@ -39,7 +39,7 @@ accepted-requires c κs = search needs
 returns-2 : tie.Need-returns-2
 unfolding unpacked fourMerges
 returns-2 c = rw (
-  lt-ltb (c .before .before .before .before .before .before .args .code) 456976 (c .before .before .before .before .before .if1 .left),
+  lt-ltb (c .before .before .before .before .before .before .args .code) (layoutsOf 4) (c .before .before .before .before .before .if1 .left),
   c .accepted .ensures,
   c .before .before .before .before .unpack .ensures,
   c .before .before .before .unpack2 .ensures,
