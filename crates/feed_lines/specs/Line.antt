@@ -6,6 +6,7 @@ use Rattle.answer.specs.declared.Answer.{Answer}
 use Rattle.feed.specs.Head.{headDepth, headWidth}
 use Rattle.feed.specs.declared.Recorded.{Recorded}
 use Rattle.feed.specs.declared.Recorded.the-variants as recorded
+use Rattle.answer.specs.Numbers.{wrongLength}
 use Rattle.feed_text.specs.declared.Line.{Line}
 use Rattle.feed_text.specs.declared.Line.the-variants as line
 use Rattle.feed_text.specs.Line.{refusedLine}
@@ -18,7 +19,7 @@ mostSlots = 4096
 unfoldable pub headLine : Answer → Line
 headLine a =
     cond (eqb (a .status) 0)
-    (cond (leb (headWidth (a .value)) mostSlots) (line.Geometry (headDepth (a .value)) (headWidth (a .value))) (line.Stopped 3 0))
+    (cond (leb (headWidth (a .value)) mostSlots) (line.Geometry (headDepth (a .value)) (headWidth (a .value))) (line.Stopped wrongLength 0))
     (line.Stopped (a .status) (a .position))
 
 -- the line of a record or the end, after so many words of the feed and so many records

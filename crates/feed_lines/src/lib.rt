@@ -39,7 +39,7 @@ fn head_line(a: Answer) -> Line
     let w = feed::head_width(a.value);
     if w > MOST_SLOTS {
         return Line::Stopped {
-            status: 3,
+            status: answer::WRONG_LENGTH,
             index: 0,
         };
     }

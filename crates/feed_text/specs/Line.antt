@@ -3,6 +3,7 @@ use Prim.Native.Nat.{ℕ}
 use mathlib.Core.Bool.{Bool, true, false, cond, _||_}
 use mathlib.Core.List.{List, [], _∷_, _++_}
 use lib.Dec.{eqb}
+use Rattle.answer.specs.Numbers.{invalidDepth, invalidWidth, invalidKeyLength, badWord, badPayload}
 use Rattle.feed_text.specs.declared.Line.{Line}
 use Rattle.feed_text.specs.declared.Line.the-variants as line
 use Rattle.feed_text.specs.Text.{decimal, newline}
@@ -54,7 +55,7 @@ texts (l ∷ ls) = text l ++ texts ls
 
 -- Numbers 1, 2, 4, 8 and 9 stop a feed.
 unfoldable pub stops : ℕ → Bool
-stops s = eqb s 1 || eqb s 2 || eqb s 4 || eqb s 8 || eqb s 9
+stops s = eqb s invalidDepth || eqb s invalidWidth || eqb s invalidKeyLength || eqb s badWord || eqb s badPayload
 
 unfoldable pub refusedLine : ℕ → ℕ → Line
 refusedLine s i = cond (stops s) (line.Stopped s i) (line.Refused s)

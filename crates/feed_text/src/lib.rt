@@ -53,19 +53,19 @@ pub fn is_end(l: Line) -> bool
 fn stops(status: u8) -> bool
     ensures { λ r. ⌜ r ≡ spec.stops status ⌝ }
 {
-    if status == 1 {
+    if status == answer::INVALID_DEPTH {
         return true;
     }
-    if status == 2 {
+    if status == answer::INVALID_WIDTH {
         return true;
     }
-    if status == 4 {
+    if status == answer::INVALID_KEY_LENGTH {
         return true;
     }
-    if status == 8 {
+    if status == answer::BAD_WORD {
         return true;
     }
-    status == 9
+    status == answer::BAD_PAYLOAD
 }
 
 // The line of a call that was refused, by its number and the index of its word.
