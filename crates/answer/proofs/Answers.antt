@@ -1,8 +1,10 @@
 -- Laws of answers, and of what accepted and refused calls leave.
 use mathlib.Core.Path.{_≡_, refl}
+use mathlib.Core.Bool.{false}
 use mathlib.Core.List.{List}
 use Prim.Native.Nat.{ℕ, zero, suc}
 use borrow.Author.Tests.{eq-eqb, ne-eqb}
+use lib.Dec.{eqb}
 use Rattle.answer.specs.Answers.{refused, answerOf, leaves, finish}
 
 pub answer-refused : (s v : ℕ) → (s ≡ 0 → ⊥) → refused s ≡ answerOf s v
@@ -36,3 +38,8 @@ refusing s t after before e h = rw (e, ne-eqb s 0 h) (refl, refl)
 pub accepting : (t : ℕ) (after before : List ℕ) → t ≡ 0 → (answerOf 0 0 ≡ finish t 0 after before .answer) × (after ≡ finish t 0 after before .memory)
 unfolding finish leaves
 accepting t after before e = rw e (refl, refl)
+
+-- a call that ends by `finish` and is refused leaves the memory as it was
+pub finish-kept : (s v : ℕ) (after before : List ℕ) → eqb (finish s v after before .answer .status) 0 ≡ false → finish s v after before .memory ≡ before
+unfolding finish leaves
+finish-kept s v after before e = rw (rw (status-is s v) at e)

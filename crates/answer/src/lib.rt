@@ -108,3 +108,14 @@ pub fn earlier(a: u8, b: u8) -> u8
     }
     if place(a) <= place(b) { a } else { b }
 }
+
+// An answer as a host takes it: place and figure written where it wants them, and the number.
+pub fn give(a: Answer, place: &mut u64, figure: &mut u64) -> u32
+    ensures { λ r. ⌜ r ≡ a .status ⌝ }
+    ensures { λ _. ⌜ now (place .exit) ≡ a .position ⌝ }
+    ensures { λ _. ⌜ now (figure .exit) ≡ a .value ⌝ }
+{
+    *place = a.position;
+    *figure = a.value;
+    a.status as u32
+}

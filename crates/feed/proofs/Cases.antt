@@ -1,6 +1,5 @@
 -- A record by cases: its outcome, with the memory that is left in each case. A refusal by the words and one by the meter are told apart.
 use mathlib.Core.Path.{_≡_, sym, ap, _∙_}
-use mathlib.Core.Bool.{false}
 use mathlib.Core.List.{List}
 use Prim.Native.Nat.{ℕ, zero, suc}
 use native.Mathlib.Omega.{arith}
@@ -9,8 +8,8 @@ use borrow.Table.Steps.{cases}
 use lib.Dec.{eqb}
 use lib.ListN.{length}
 use Rattle.answer.specs.declared.Answer.{Answer}
-use Rattle.answer.specs.Answers.{leaves, finish}
-use Rattle.answer.proofs.Answers.{status-is, left-before}
+use Rattle.answer.specs.Answers.{leaves}
+use Rattle.answer.proofs.Answers.{left-before, finish-kept}
 use Rattle.geometry.specs.Checks.{badShape}
 use Rattle.meter.specs.Meter.{updated}
 use Rattle.feed_records.specs.declared.Opening.{Opening}
@@ -58,11 +57,6 @@ unchanged : (s : ℕ) (m : List ℕ) → leaves s m m ≡ m
 unfolding leaves
 unchanged s m = cases (eqb s 0) (λ t. rw t) (λ t. rw t)
 
--- an update that the meter refuses leaves the memory as it was
-pub meter-keeps : (s v : ℕ) (after before : List ℕ) → eqb (finish s v after before .answer .status) 0 ≡ false → finish s v after before .memory ≡ before
-unfolding finish
-meter-keeps s v after before h = left-before s after before (eqb-false s 0 (rw (status-is s v) at h))
-
 module _ (d w : ℕ) (memory : List ℕ) where
   update-left : (key : List ℕ) (a : ℕ) →
       let u = updated d w memory key a in
@@ -71,7 +65,7 @@ module _ (d w : ℕ) (memory : List ℕ) where
   update-left key a =
       let u = updated d w memory key a in
       cases (eqb (u .answer .status) 0) (λ t. rw (outcome-accepted (u .answer) case.Updated (eqb-true _ 0 t)))
-      (λ t. rw (outcome-refused (u .answer) case.Updated (eqb-false _ 0 t), t) (sym (meter-keeps _ _ _ memory t)))
+      (λ t. rw (outcome-refused (u .answer) case.Updated (eqb-false _ 0 t), t) (sym (finish-kept _ _ _ memory t)))
 
   update-by-cases : (n : ℕ) (words : List ℕ)
       → finishRecord (updateOutcome d w memory n words (updateBody n words)) (updateMemory d w memory n words) memory ≡ carriedUpdate d w memory n words (updateBody n words)

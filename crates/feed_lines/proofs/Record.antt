@@ -10,6 +10,7 @@ use borrow.Author.Tests.{eqb-true, eq-eqb, leb-true, lt-ltb}
 use lib.Dec.{eqb, leb}
 use lib.ListN.{length, take}
 use Rattle.answer.specs.Numbers.{badPayload}
+use Rattle.answer.proofs.Answers.{finish-kept}
 use Rattle.geometry.specs.Checks.{badShape, badKey}
 use Rattle.meter.specs.Meter.{updated, estimated}
 use Rattle.meter.proofs.Memory.{update-accepted}
@@ -24,7 +25,7 @@ use Rattle.feed_records.proofs.Past.{opened-same}
 use Rattle.feed.specs.declared.Recorded.{Recorded}
 use Rattle.feed.specs.declared.Recorded.the-variants as case
 use Rattle.feed.specs.Record.{Carried, outcomeOf, updateOutcome, queried, openedOutcome, recordOutcome, recorded}
-use Rattle.feed.proofs.Cases.{carriedUpdate, carried, carriedAfter, meter-keeps, by-cases}
+use Rattle.feed.proofs.Cases.{carriedUpdate, carried, carriedAfter, by-cases}
 use Rattle.feed.proofs.Laws.{record-good}
 use Rattle.feed.proofs.Past.{record-alone}
 use Rattle.feed_text.specs.declared.Line.{Line}
@@ -188,7 +189,7 @@ module _ (d w : ℕ) (memory : List ℕ) (before : ℕ) (words : List ℕ) (shap
       (λ h.
       by-test (eqb (updated d w memory key amount .answer .status) 0)
       (λ t. update-accepted d w memory key amount (eqb-true _ 0 t) .long)
-      (λ t. ap length (meter-keeps _ 0 _ memory t)))
+      (λ t. ap length (finish-kept _ 0 _ memory t)))
       (λ h. refl)
       (λ h. refl)
 

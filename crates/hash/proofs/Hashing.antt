@@ -2,7 +2,7 @@
 use mathlib.Core.Path.{_≡_, sym, ap, _∙_}
 use Prim.Native.Nat.{ℕ, _+_, _-_, _*_, _/_, _%_, _^_, _≤_, _<_}
 use mathlib.Core.List.{List}
-use native.Mathlib.Nat.{mul-comm, mul-le-mul, le-mul-of-pos-right, mul-div-mul-right, div-lt-iff-lt-mul, div-mul-cancel, dvd-of-mod-eq-zero, div-zero}
+use native.Mathlib.Nat.{mul-comm, mul-le-mul, le-mul-of-pos-right, mul-div-mul-right, div-lt-iff-lt-mul, div-mul-cancel, dvd-of-mod-eq-zero}
 use native.Mathlib.Decide.{decLt}
 use native.Mathlib.Numerals.{add-one}
 use native.Mathlib.Omega.{arith}
@@ -50,12 +50,3 @@ scaled-in h w hh e =
     let s = shares w e in
     let most : w ≤ 2 ^ 32 = omega (arith, s .0, le-mul-of-pos-right {m = 2 ^ 32 / w} w (s .1), mul-comm w (2 ^ 32 / w)) in
     omega (arith, mul-le-mul {n₁ = h} {m₁ = w} {n₂ = 2 ^ 32 - 1} {m₂ = 2 ^ 32} (omega arith) most)
-
--- no slot where a width leaves no share of the hashes
-pub slot-none : (h w : ℕ) → 2 ^ 32 / w ≡ 0 → 0 ≡ slotOf h w
-unfolding slotOf
-slot-none h w e = rw e (sym (div-zero h))
-
--- a slot as the contract has it
-pub with-lt : {x : ℕ} (h w : ℕ) → h < 2 ^ 32 → x ≡ slotOf h w → (x ≡ slotOf h w) × (2 ^ 32 % w ≡ 0 → x < w)
-with-lt h w hh e = (e, λ d. rw e (slot-lt h w hh d))

@@ -44,22 +44,7 @@ impl Hash {
     }
 }
 
-// The slot of a hash in a row of w slots.
-pub fn slot(hash: u32, w: usize) -> usize
-    ensures { λ r. ⌜ r ≡ slotOf hash w ⌝ }
-    ensures { λ r. ⌜ (2 ^ 32 % w ≡ 0 → r < w) ⌝ }
-{
-    if w == 0 {
-        return 0;
-    }
-    let share = 4294967296 / w;
-    if share == 0 {
-        return 0;
-    }
-    hash as usize / share
-}
-
-// The slot of a hash where the width divides 2^32: the high part of a product.
+// The slot of a hash in a row of w slots, where the width divides 2^32: the high part of a product.
 pub fn scaled(hash: u32, w: usize) -> usize
     requires { ⌜ 2 ^ 32 % w ≡ 0 ⌝ }
     ensures { λ r. ⌜ r ≡ slotOf hash w ⌝ }

@@ -1,5 +1,4 @@
 // The calls exported to C and Rust. Each passes its arguments to the proved call and hands its answer out; include/meter.h declares them.
-use answer::Answer;
 ghost use mathlib.Core.Path.{_≡_};
 ghost use Rattle.group_codes.specs.Pack.{packed, unpacked};
 ghost use Rattle.meter.specs.Meter.{cleared, updated, estimated, widest, united};
@@ -8,17 +7,7 @@ ghost use Rattle.image_format.specs.Read.{taken};
 ghost use Rattle.feed.specs.Answers.{recordAnswer};
 ghost use Rattle.feed.specs.Head.{headed};
 ghost use Rattle.feed.specs.Record.{recorded};
-
-// Document 01's place and figure written where the host wants them, and its number.
-fn give(a: Answer, place: &mut u64, figure: &mut u64) -> u32
-    ensures { λ r. ⌜ r ≡ a .status ⌝ }
-    ensures { λ _. ⌜ now (place .exit) ≡ a .position ⌝ }
-    ensures { λ _. ⌜ now (figure .exit) ≡ a .value ⌝ }
-{
-    *place = a.position;
-    *figure = a.value;
-    a.status as u32
-}
+ghost use Rattle.feed_records.specs.Words.{wordsTaken};
 
 #[no_mangle]
 pub extern "C" fn meter_clear(
@@ -33,7 +22,7 @@ pub extern "C" fn meter_clear(
     ensures { λ _. ⌜ now (figure .exit) ≡ cleared d w (now (memory .entry)) .answer .value ⌝ }
     ensures { λ _. ⌜ now (memory .exit) ≡ cleared d w (now (memory .entry)) .memory ⌝ }
 {
-    give(meter::clear(d, w, memory), place, figure)
+    answer::give(meter::clear(d, w, memory), place, figure)
 }
 
 #[no_mangle]
@@ -51,7 +40,7 @@ pub extern "C" fn meter_update(
     ensures { λ _. ⌜ now (figure .exit) ≡ updated d w (now (memory .entry)) (now (key .entry)) amount .answer .value ⌝ }
     ensures { λ _. ⌜ now (memory .exit) ≡ updated d w (now (memory .entry)) (now (key .entry)) amount .memory ⌝ }
 {
-    give(meter::update(d, w, memory, key, amount), place, figure)
+    answer::give(meter::update(d, w, memory, key, amount), place, figure)
 }
 
 #[no_mangle]
@@ -67,7 +56,7 @@ pub extern "C" fn meter_estimate(
     ensures { λ _. ⌜ now (place .exit) ≡ estimated d w (now (memory .entry)) (now (key .entry)) .position ⌝ }
     ensures { λ _. ⌜ now (figure .exit) ≡ estimated d w (now (memory .entry)) (now (key .entry)) .value ⌝ }
 {
-    give(meter::estimate(d, w, memory, key), place, figure)
+    answer::give(meter::estimate(d, w, memory, key), place, figure)
 }
 
 #[no_mangle]
@@ -82,7 +71,7 @@ pub extern "C" fn meter_widest(
     ensures { λ _. ⌜ now (place .exit) ≡ widest d w (now (memory .entry)) .position ⌝ }
     ensures { λ _. ⌜ now (figure .exit) ≡ widest d w (now (memory .entry)) .value ⌝ }
 {
-    give(meter::widest(d, w, memory), place, figure)
+    answer::give(meter::widest(d, w, memory), place, figure)
 }
 
 #[no_mangle]
@@ -99,7 +88,7 @@ pub extern "C" fn meter_unite(
     ensures { λ _. ⌜ now (figure .exit) ≡ united d w (now (memory .entry)) (now (source .entry)) .answer .value ⌝ }
     ensures { λ _. ⌜ now (memory .exit) ≡ united d w (now (memory .entry)) (now (source .entry)) .memory ⌝ }
 {
-    give(meter::unite(d, w, memory, source), place, figure)
+    answer::give(meter::unite(d, w, memory, source), place, figure)
 }
 
 #[no_mangle]
@@ -115,7 +104,7 @@ pub extern "C" fn meter_pack(
     ensures { λ _. ⌜ now (place .exit) ≡ packed m0 m1 m2 m3 .position ⌝ }
     ensures { λ _. ⌜ now (figure .exit) ≡ packed m0 m1 m2 m3 .value ⌝ }
 {
-    give(group_codes::pack(m0, m1, m2, m3), place, figure)
+    answer::give(group_codes::pack(m0, m1, m2, m3), place, figure)
 }
 
 #[no_mangle]
@@ -133,7 +122,7 @@ pub extern "C" fn meter_unpack(
     let u = group_codes::unpack(code);
     let bytes = u.merges;
     *merges = bytes;
-    give(u.answer, place, figure)
+    answer::give(u.answer, place, figure)
 }
 
 #[no_mangle]
@@ -150,7 +139,7 @@ pub extern "C" fn meter_image_write(
     ensures { λ _. ⌜ now (figure .exit) ≡ written d w (now (memory .entry)) (now (words .entry)) .answer .value ⌝ }
     ensures { λ _. ⌜ now (words .exit) ≡ written d w (now (memory .entry)) (now (words .entry)) .words ⌝ }
 {
-    give(image::write(d, w, memory, words), place, figure)
+    answer::give(image::write(d, w, memory, words), place, figure)
 }
 
 #[no_mangle]
@@ -167,7 +156,7 @@ pub extern "C" fn meter_image_read(
     ensures { λ _. ⌜ now (figure .exit) ≡ taken d w (now (memory .entry)) (now (words .entry)) .answer .value ⌝ }
     ensures { λ _. ⌜ now (memory .exit) ≡ taken d w (now (memory .entry)) (now (words .entry)) .memory ⌝ }
 {
-    give(image::read(d, w, memory, words), place, figure)
+    answer::give(image::read(d, w, memory, words), place, figure)
 }
 
 #[no_mangle]
@@ -176,7 +165,7 @@ pub extern "C" fn meter_feed_head(words: &[u32], place: &mut u64, figure: &mut u
     ensures { λ _. ⌜ now (place .exit) ≡ headed (now (words .entry)) .position ⌝ }
     ensures { λ _. ⌜ now (figure .exit) ≡ headed (now (words .entry)) .value ⌝ }
 {
-    give(feed::head(words), place, figure)
+    answer::give(feed::head(words), place, figure)
 }
 
 #[no_mangle]
@@ -194,9 +183,17 @@ pub extern "C" fn meter_feed_record(
     ensures { λ _. ⌜ now (figure .exit) ≡ recordAnswer (recorded d w (now (memory .entry)) before (now (words .entry)) .outcome) .value ⌝ }
     ensures { λ _. ⌜ now (memory .exit) ≡ recorded d w (now (memory .entry)) before (now (words .entry)) .memory ⌝ }
 {
-    give(
+    answer::give(
         feed::answer(feed::record(d, w, memory, before, words)),
         place,
         figure,
     )
+}
+
+// How many words the record or the end at the front takes, so that a host finds the next one.
+#[no_mangle]
+pub extern "C" fn meter_feed_taken(words: &[u32]) -> usize
+    ensures { λ r. ⌜ r ≡ wordsTaken (now (words .entry)) ⌝ }
+{
+    feed::words_taken(words)
 }

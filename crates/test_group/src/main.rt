@@ -3,6 +3,9 @@ use group::Group;
 use group::Outcome;
 use hash::Hash;
 use libc::STDOUT_FILENO;
+ghost use mathlib.Core.Path.{_≡_};
+ghost use mathlib.Core.Bool.{true};
+ghost use Rattle.geometry.specs.Geometry.{validWidth};
 
 fn text(s: &[u8]) {
     io::write_all(STDOUT_FILENO, s);
@@ -33,11 +36,13 @@ fn vector(s: &[u8]) {
 }
 
 // The hash and the slot of a key in a row.
-fn lands(row: u8, key: &[u8], w: usize) {
+fn lands(row: u8, key: &[u8], w: usize)
+    requires { ⌜ validWidth w ≡ true ⌝ }
+{
     let h = Hash::start().in_row(row, key);
     text(b"lands");
     hex(h.state as u64, 8);
-    decimal(hash::slot(h.state, w) as u64);
+    decimal(meter_keys::row_slot(Hash::start(), w, key, row) as u64);
     text(b"\n");
 }
 

@@ -4,18 +4,13 @@ use mathlib.Core.Bool.{false}
 use mathlib.Core.List.{List}
 use Prim.Native.Nat.{ℕ}
 use lib.Dec.{eqb}
-use Rattle.answer.specs.Answers.{finish, leaves}
+use Rattle.answer.specs.Answers.{leaves}
 use Rattle.meter.specs.Meter.{cleared, updated, united}
-use Rattle.answer.proofs.Answers.{status-is}
+use Rattle.answer.proofs.Answers.{finish-kept}
 use Rattle.image_format.specs.Read.{finishRead, taken}
 use Rattle.feed.specs.Answers.{recordAnswer}
 use Rattle.feed.specs.Record.{finishRecord, recorded}
 use Rattle.traffic.specs.Calls.{Call, clear, update, estimate, widest, unite, write, read, feed, done, wordsOf}
-
--- the calls that end by `finish`
-finish-kept : (s v : ℕ) (new memory : List ℕ) → eqb (finish s v new memory .answer .status) 0 ≡ false → finish s v new memory .memory ≡ memory
-unfolding finish leaves
-finish-kept s v new memory e = rw (rw (status-is s v) at e)
 
 -- an image read
 read-kept : (d w : ℕ) (memory words : List ℕ) → eqb (taken d w memory words .answer .status) 0 ≡ false → taken d w memory words .memory ≡ memory

@@ -1,6 +1,6 @@
 use borrow.Author.Needs.{needs}
-use Rattle.meter_c.proofs.give.Statement.{statement}
-use Rattle.meter_c.proofs.give.Tie as tie
+use Rattle.answer.proofs.give.Statement.{statement}
+use Rattle.answer.proofs.give.Tie as tie
 
 -- Found without this file too; with it, what no longer holds after an edit is named here.
 cast-result : tie.Need-cast-result
