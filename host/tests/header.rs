@@ -30,7 +30,9 @@ int main(void) {
     for (d = 1; d <= 8; d++)
         for (w = 32; w <= 65536; w *= 2)
             printf("%lu %lu\n", (unsigned long)METER_SIZE(d, w), (unsigned long)METER_IMAGE_WORDS(d, w));
-    printf("%lu %lu\n", (unsigned long)sizeof memory, (unsigned long)(sizeof words / sizeof words[0]));
+    memory[sizeof memory - 1] = 1;
+    words[METER_IMAGE_WORDS(8, 65536) - 1] = memory[METER_SIZE(8, 65536) - 1];
+    printf("%lu %lu\n", (unsigned long)sizeof memory, (unsigned long)(sizeof words / sizeof words[0]) * words[METER_IMAGE_WORDS(8, 65536) - 1]);
     /* Expressions as arguments. */
     printf("%lu %lu\n", (unsigned long)METER_SIZE(1 + 1, 32 + 32), (unsigned long)METER_IMAGE_WORDS(1 + 1, 32 + 32));
     for (payload = 0; payload < 512; payload++) {
