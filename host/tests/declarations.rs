@@ -197,3 +197,17 @@ fn numbered_alike() {
     assert_eq!(in_rust.len(), 11);
     assert_eq!(in_c, in_rust, "include/meter.h and Reason");
 }
+
+/// Nobody drops a plain call's answer unseen.
+#[test]
+fn answers_must_be_used() {
+    let text = read("src/lib.rs");
+    let mut marked = 0;
+    for (before, line) in text.lines().zip(text.lines().skip(1)) {
+        if line.starts_with("pub fn ") {
+            assert!(before.starts_with("#[must_use"), "{line}");
+            marked += 1;
+        }
+    }
+    assert!(marked >= in_rust().len(), "{marked} functions");
+}

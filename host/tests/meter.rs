@@ -257,7 +257,7 @@ fn equal_lengths() {
     assert_ne!(Meter::from_bytes(2, 64, bytes.clone()), Meter::from_bytes(1, 128, bytes));
 }
 
-/// Every word of an image damaged, cut off or doubled: no panic, and a refusal is at that word or after it.
+/// Every bit of an image turned over, every word doubled, cut short at every word: the answer, number and place, is the reference's.
 #[test]
 fn damaged_images() {
     let mut rng = Rng::new(seed("damaged_images"));
