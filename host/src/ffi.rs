@@ -1,4 +1,4 @@
-//! The functions of include/meter.h. Nothing checks these lines against it: change both together.
+//! The functions of include/meter.h. No compiler holds these lines against it; tests/declarations.rs does.
 
 extern "C" {
     pub fn meter_clear(d: usize, w: usize, memory: *mut u8, memory_len: usize, place: *mut u64, figure: *mut u64) -> u32;

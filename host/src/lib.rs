@@ -1,145 +1,75 @@
 //! The proved traffic meter, for Rust.
 //!
-//! A meter is a lent memory of exactly [`size`] bytes with the depth `d` and the width `w` that it was cleared with. Every call
-//! takes any depth, any width and any content of what is lent, and either does its work or is refused with a reason; a call
-//! that is refused changes nothing. The functions behind these are proved to do so; the wrapper only passes slices on.
+//! [`Meter`] owns its memory, its depth `d` (rows) and its width `w` (slots of a row). Its methods give a [`Result`] whose error,
+//! [`Refused`], says in words why a call was refused; a call that is refused changes nothing.
 //!
 //! ```
-//! use meter::{clear, estimate, image_read, image_write, size, update, widest, Reason};
+//! use meter::{Meter, Reason};
+//!
+//! let mut meter = Meter::new(4, 1024)?;
+//! meter.update(b"tenant-17", 1_500)?;
+//! meter.update(b"tenant-17", 64)?;
+//! assert_eq!(meter.estimate(b"tenant-17")?, 1_564);
+//!
+//! // A key has 1 to 64 bytes.
+//! let refused = meter.update(b"", 1).unwrap_err();
+//! assert_eq!(refused.reason, Reason::KeyLength);
+//! assert_eq!(refused.to_string(), "the key length is not 1 to 64 (number 4, place 0)");
+//! # Ok::<(), meter::Refused>(())
+//! ```
+//!
+//! The plain calls beside it are those of the proved library, one for one: they lend it a memory of exactly [`size`] bytes, and the
+//! caller tells the depth and width that it was cleared with. They take any depth, any width and any content of what is lent. The
+//! functions behind them are proved to do their work or to refuse it with a reason; the wrapper only passes slices on.
+//!
+//! ```
+//! use meter::{clear, estimate, image_read, image_write, most_image_words, size, update, widest};
 //!
 //! let (d, w) = (4, 1024);
 //! let mut memory = vec![0xaa; size(d, w).unwrap()];
 //! clear(d, w, &mut memory).result()?;
-//!
-//! update(d, w, &mut memory, b"tenant-17", 1_500).result()?;
-//! update(d, w, &mut memory, b"tenant-17", 64).result()?;
+//! update(d, w, &mut memory, b"tenant-17", 1_564).result()?;
 //! assert_eq!(estimate(d, w, &memory, b"tenant-17").result()?, 1_564);
 //! assert_eq!(widest(d, w, &memory).result()?, 1);
 //!
-//! // An image restores the meter.
-//! let mut words = vec![0; 8_000];
+//! let mut words = vec![0; most_image_words(d, w).unwrap()];
 //! let count = image_write(d, w, &memory, &mut words).result()? as usize;
 //! let mut copy = vec![0; memory.len()];
 //! image_read(d, w, &mut copy, &words[..count]).result()?;
 //! assert_eq!(copy, memory);
-//!
-//! // A key has 1 to 64 bytes.
-//! let refused = update(d, w, &mut memory, b"", 1).result().unwrap_err();
-//! assert_eq!(refused.reason, Reason::KeyLength);
-//! assert_eq!(copy, memory);
 //! # Ok::<(), meter::Refused>(())
 //! ```
+#![warn(missing_docs)]
 
+mod answer;
 mod ffi;
+mod meter;
 
-use std::fmt;
-
-/// The answer of a call: its number, place and figure.
-///
-/// Number 0 is acceptance. Its figure is the estimate, the widest level, the layout code, a feed head's payload or the count of an
-/// image's words, else 0. Of a call that is refused the figure is 0, and the place is an index into the lent words where the
-/// number speaks of a word, else 0.
-#[derive(Clone, Copy, Debug, PartialEq, Eq)]
-pub struct Answer {
-    pub number: u32,
-    pub place: u64,
-    pub figure: u64,
-}
-
-/// Why a call was refused, in checking order.
-#[derive(Clone, Copy, Debug, PartialEq, Eq, Hash)]
-pub enum Reason {
-    /// 1: the depth is not 1 to 8.
-    Depth,
-    /// 2: the width is not a power of two from 32 to 65,536.
-    Width,
-    /// 3: a lent memory has another length than d * w * 9 / 8.
-    Length,
-    /// 4: the key length is not 1 to 64.
-    KeyLength,
-    /// 5: a merge byte that the call reads is not valid.
-    MergeByte,
-    /// 6: a counter of 64 bits would overflow.
-    CounterFull,
-    /// 7: the lent words are fewer than the image's.
-    TooFewWords,
-    /// 8: a word is missing, has a kind that is not due there, or follows an image's end.
-    Word,
-    /// 9: a payload breaks a rule of its kind.
-    Payload,
-    /// 10: an image is of another depth or width.
-    OtherGeometry,
-}
-
-impl Reason {
-    const ALL: [Reason; 10] = [
-        Reason::Depth,
-        Reason::Width,
-        Reason::Length,
-        Reason::KeyLength,
-        Reason::MergeByte,
-        Reason::CounterFull,
-        Reason::TooFewWords,
-        Reason::Word,
-        Reason::Payload,
-        Reason::OtherGeometry,
-    ];
-
-    /// The number of a reason, 1 to 10.
-    pub fn number(self) -> u32 {
-        self as u32 + 1
-    }
-}
-
-impl fmt::Display for Reason {
-    fn fmt(&self, f: &mut fmt::Formatter<'_>) -> fmt::Result {
-        f.write_str(match self {
-            Reason::Depth => "the depth is not 1 to 8",
-            Reason::Width => "the width is not a power of two from 32 to 65,536",
-            Reason::Length => "a memory's length is not d * w * 9 / 8",
-            Reason::KeyLength => "the key length is not 1 to 64",
-            Reason::MergeByte => "a merge byte is not valid",
-            Reason::CounterFull => "a counter of 64 bits would overflow",
-            Reason::TooFewWords => "the lent words are too few for the image",
-            Reason::Word => "a word is missing, not due there, or follows the end",
-            Reason::Payload => "a payload breaks a rule of its kind",
-            Reason::OtherGeometry => "the image is of another depth or width",
-        })
-    }
-}
-
-/// A call that was refused: the reason, and the index of the faulty word where the reason speaks of one, else 0.
-#[derive(Clone, Copy, Debug, PartialEq, Eq)]
-pub struct Refused {
-    pub reason: Reason,
-    pub place: u64,
-}
-
-impl fmt::Display for Refused {
-    fn fmt(&self, f: &mut fmt::Formatter<'_>) -> fmt::Result {
-        write!(f, "{} (number {}, place {})", self.reason, self.reason.number(), self.place)
-    }
-}
-
-impl std::error::Error for Refused {}
-
-impl Answer {
-    /// The figure of an accepted call, or why it was refused.
-    pub fn result(self) -> Result<u64, Refused> {
-        match self.number {
-            0 => Ok(self.figure),
-            n => Err(Refused {
-                reason: Reason::ALL[n as usize - 1],
-                place: self.place,
-            }),
-        }
-    }
-}
+pub use answer::{Answer, Reason, Refused};
+pub use meter::Meter;
 
 /// The length of a meter's memory, if there is such a meter.
+#[must_use]
 pub fn size(d: usize, w: usize) -> Option<usize> {
     let valid = (1..=8).contains(&d) && (32..=65_536).contains(&w) && w.is_power_of_two();
     valid.then(|| d * (w + w / 8))
+}
+
+/// The most words that an image of such a meter has, if there is such a meter: a head, a layout word for every 32 slots, a word for
+/// every slot and an end.
+#[must_use]
+pub fn most_image_words(d: usize, w: usize) -> Option<usize> {
+    size(d, w).map(|_| d * w + d * w / 32 + 2)
+}
+
+/// The depth and width in the figure of an accepted [`feed_head`]: `d` in the low four bits, log2 `w` in the next five.
+///
+/// ```
+/// assert_eq!(meter::head_geometry(0x51), (1, 32));
+/// ```
+#[must_use]
+pub fn head_geometry(payload: u64) -> (usize, usize) {
+    ((payload % 16) as usize, 1 << (payload / 16 % 32))
 }
 
 // Every call below lends the library what its slices point to, for the time of the call and no longer: pointer and length of a
@@ -153,11 +83,13 @@ fn call(f: impl FnOnce(*mut u64, *mut u64) -> u32) -> Answer {
 }
 
 /// Sets every byte of a memory to 0.
+#[must_use = "the call may be refused"]
 pub fn clear(d: usize, w: usize, memory: &mut [u8]) -> Answer {
     call(|place, figure| unsafe { ffi::meter_clear(d, w, memory.as_mut_ptr(), memory.len(), place, figure) })
 }
 
 /// Adds an amount to the key's counter in each row.
+#[must_use = "the call may be refused"]
 pub fn update(d: usize, w: usize, memory: &mut [u8], key: &[u8], amount: u32) -> Answer {
     call(|place, figure| unsafe {
         ffi::meter_update(
@@ -175,6 +107,7 @@ pub fn update(d: usize, w: usize, memory: &mut [u8], key: &[u8], amount: u32) ->
 }
 
 /// The least figure of the key's counters.
+#[must_use = "the call may be refused"]
 pub fn estimate(d: usize, w: usize, memory: &[u8], key: &[u8]) -> Answer {
     call(|place, figure| unsafe {
         ffi::meter_estimate(d, w, memory.as_ptr(), memory.len(), key.as_ptr(), key.len(), place, figure)
@@ -182,11 +115,13 @@ pub fn estimate(d: usize, w: usize, memory: &[u8], key: &[u8]) -> Answer {
 }
 
 /// The largest level of any counter, 0 to 3: its counters have up to 8, 16, 32 or 64 bits.
+#[must_use = "the call may be refused"]
 pub fn widest(d: usize, w: usize, memory: &[u8]) -> Answer {
     call(|place, figure| unsafe { ffi::meter_widest(d, w, memory.as_ptr(), memory.len(), place, figure) })
 }
 
 /// Adds a source meter of the same depth and width into a meter.
+#[must_use = "the call may be refused"]
 pub fn unite(d: usize, w: usize, memory: &mut [u8], source: &[u8]) -> Answer {
     call(|place, figure| unsafe {
         ffi::meter_unite(
@@ -203,12 +138,14 @@ pub fn unite(d: usize, w: usize, memory: &mut [u8], source: &[u8]) -> Answer {
 }
 
 /// The layout code of four merge bytes.
+#[must_use = "the call may be refused"]
 pub fn pack(merges: [u8; 4]) -> Answer {
     let [m0, m1, m2, m3] = merges;
     call(|place, figure| unsafe { ffi::meter_pack(m0, m1, m2, m3, place, figure) })
 }
 
 /// The four merge bytes of a layout code; all 0 when refused.
+#[must_use = "the call may be refused"]
 pub fn unpack(code: u32) -> (Answer, [u8; 4]) {
     // All four are written, also when refused.
     let mut merges = [0xff; 4];
@@ -217,6 +154,7 @@ pub fn unpack(code: u32) -> (Answer, [u8; 4]) {
 }
 
 /// Writes a meter's image; words past it stay. The figure is the count of its words.
+#[must_use = "the call may be refused"]
 pub fn image_write(d: usize, w: usize, memory: &[u8], words: &mut [u32]) -> Answer {
     call(|place, figure| unsafe {
         ffi::meter_image_write(
@@ -233,6 +171,7 @@ pub fn image_write(d: usize, w: usize, memory: &[u8], words: &mut [u32]) -> Answ
 }
 
 /// Restores a meter from its image. The figure is the count of its words.
+#[must_use = "the call may be refused"]
 pub fn image_read(d: usize, w: usize, memory: &mut [u8], words: &[u32]) -> Answer {
     call(|place, figure| unsafe {
         ffi::meter_image_read(
@@ -249,12 +188,14 @@ pub fn image_read(d: usize, w: usize, memory: &mut [u8], words: &[u32]) -> Answe
 }
 
 /// The head of a feed: the first of the words. The figure is its payload, d in the low four bits and log2 w in the next five.
+#[must_use = "the call may be refused"]
 pub fn feed_head(words: &[u32]) -> Answer {
     call(|place, figure| unsafe { ffi::meter_feed_head(words.as_ptr(), words.len(), place, figure) })
 }
 
 /// Carries out the record or the end of a feed that the words start with, after so many words of the feed. The figure of an asking
 /// record is the estimate.
+#[must_use = "the call may be refused"]
 pub fn feed_record(d: usize, w: usize, memory: &mut [u8], before: u64, words: &[u32]) -> Answer {
     call(|place, figure| unsafe {
         ffi::meter_feed_record(
