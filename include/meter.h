@@ -136,6 +136,10 @@ uint32_t meter_feed_head(const uint32_t *words, size_t words_len, uint64_t *plac
 uint32_t meter_feed_record(size_t d, size_t w, uint8_t *memory, size_t memory_len, uint64_t before, const uint32_t *words,
                            size_t words_len, uint64_t *place, uint64_t *figure);
 
+/* How many words the record or the end takes that starts at the first of the lent words: where the next record starts. It gives no
+ * number and writes nothing; of a record that is not accepted it says nothing. */
+size_t meter_feed_taken(const uint32_t *words, size_t words_len);
+
 #ifdef __cplusplus
 }
 #endif

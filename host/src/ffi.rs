@@ -68,4 +68,5 @@ extern "C" {
         place: *mut u64,
         figure: *mut u64,
     ) -> u32;
+    pub fn meter_feed_taken(words: *const u32, words_len: usize) -> usize;
 }

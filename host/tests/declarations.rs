@@ -158,7 +158,7 @@ fn in_rust() -> Vec<Call> {
 #[test]
 fn declared_alike() {
     let rattle = in_rattle();
-    assert_eq!(rattle.len(), 11);
+    assert_eq!(rattle.len(), 12);
     assert_eq!(in_c(), rattle, "include/meter.h and crates/meter_c");
     assert_eq!(in_rust(), rattle, "src/ffi.rs and crates/meter_c");
 }

@@ -30,6 +30,7 @@ fn example() {
     assert_eq!(meter::feed_record(1, 32, &mut memory, 1, &feed[1..]), accepted(0));
     assert_eq!(meter::feed_record(1, 32, &mut memory, 5, &feed[5..]), accepted(300));
     assert_eq!(meter::feed_record(1, 32, &mut memory, 7, &feed[7..]), accepted(0));
+    assert_eq!([1, 5, 7].map(|at| meter::feed_taken(&feed[at..])), [4, 2, 1]);
 }
 
 /// A record does what the call does with its key and amount, whatever follows it. Cut short anywhere, it is refused for the missing
@@ -67,6 +68,7 @@ fn records_are_the_calls() {
             let behind = rng.below(5);
             let longer = [words, (0..behind).map(|_| rng.next() as u32).collect()].concat();
             assert_eq!(meter::feed_record(d, w, &mut by_record, start as u64, &longer), expected);
+            assert_eq!(meter::feed_taken(&longer), feed.len() - start);
             assert!(by_record == by_call, "the memory");
             records += 1;
         }
