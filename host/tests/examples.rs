@@ -63,3 +63,14 @@ fn short_in_c() {
 fn short_in_rust() {
     rust_example("short");
 }
+
+/// README shows the short examples as they are built and run here.
+#[test]
+fn in_readme() {
+    let read = |path: &str| std::fs::read_to_string(host().join(path)).expect(path);
+    let readme = read("../README.md");
+    for (language, example) in [("c", "short.c"), ("rust", "short.rs")] {
+        let block = format!("```{language}\n{}```\n", read(&format!("examples/{example}")));
+        assert!(readme.contains(&block), "README.md does not have {example} as it is");
+    }
+}
