@@ -7,8 +7,8 @@ use Rattle.word.specs.Word.{next, payload, isDue, tested, below}
 use Rattle.feed_records.specs.Words.{opensKey, opened, wordsTaken}
 use Rattle.feed.specs.Head.{headWidth, badGeometry, headStep, headed}
 use Rattle.feed.specs.Record.{openedOutcome, recordOutcome, recordMemory, finishRecord, recorded}
-use Rattle.feed_text.specs.Words.{wholeWords}
-use Rattle.feed_text.specs.Line.{stops, refusedLine, continues, isEnd}
+use Rattle.word_bytes.specs.Words.{wholeWords}
+use Rattle.feed_line.specs.Line.{stops, refusedLine, continues, isEnd}
 use Rattle.feed_lines.specs.Line.{headLine, lineOf}
 use Rattle.feed_lines.specs.Feed.{followed, afterEnd, recordLines, afterHead, feedLines}
 use Rattle.feed_lines.specs.Examples.{AllHold, examples}

@@ -14,11 +14,11 @@ use Rattle.feed_records.proofs.Past.{some-taken}
 use Rattle.feed.specs.Head.{headed}
 use Rattle.feed.specs.Record.{Carried, recorded}
 use Rattle.feed_head.proofs.Laws.{head-alone}
-use Rattle.feed_text.specs.declared.Line.{Line}
-use Rattle.feed_text.specs.declared.Line.the-variants as line
-use Rattle.feed_text.specs.Words.{wholeWords}
-use Rattle.feed_text.specs.Line.{continues, isEnd}
-use Rattle.feed_text.proofs.Laws.{words-length, words-front}
+use Rattle.feed_line.specs.declared.Line.{Line}
+use Rattle.feed_line.specs.declared.Line.the-variants as line
+use Rattle.word_bytes.specs.Words.{wholeWords}
+use Rattle.feed_line.specs.Line.{continues, isEnd}
+use Rattle.word_bytes.proofs.Laws.{words-length, words-front}
 use Rattle.feed_lines.specs.declared.Progress.{Progress}
 use Rattle.feed_lines.specs.Line.{headLine, lineOf}
 use Rattle.feed_lines.specs.Feed.{followed, recordLine, afterEnd, past, recordLines, afterHead, feedLines}

@@ -19,9 +19,9 @@ use Rattle.geometry.proofs.Widths.{depth-in}
 use Rattle.word.specs.Word.{headKind, stop, payload, isDue, tested, below}
 use Rattle.word.proofs.Laws.{due-in}
 use Rattle.feed.specs.Head.{headDepth, headWidth, badGeometry, headStep, headed}
-use Rattle.feed_text.specs.declared.Line.the-variants as line
-use Rattle.feed_text.specs.Line.{continues}
-use Rattle.feed_text.proofs.Line as the-line
+use Rattle.feed_line.specs.declared.Line.the-variants as line
+use Rattle.feed_line.specs.Line.{continues}
+use Rattle.feed_line.proofs.Line as the-line
 use Rattle.feed_lines.specs.Line.{headLine}
 use Rattle.feed_lines.specs.Bounds.{Fitting, FittingLine}
 use borrow.Table.Steps.{cases}

@@ -8,7 +8,7 @@ use denote.Enum.Declared.{tagOf}
 use Rattle.feed.specs.declared.Recorded.{Recorded}
 use Rattle.feed.specs.declared.Recorded.the-variants as recorded
 use Rattle.feed.proofs.Recorded as the-recorded
-use Rattle.feed_text.specs.declared.Line.the-variants as line
+use Rattle.feed_line.specs.declared.Line.the-variants as line
 use Rattle.feed_lines.specs.Line.{lineOf}
 
 -- the first and the third of the cases of a record's outcome

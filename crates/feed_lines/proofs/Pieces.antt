@@ -13,16 +13,16 @@ use Rattle.geometry.specs.Checks.{badShape}
 use Rattle.feed_records.proofs.Past.{some-taken}
 use Rattle.feed.specs.Head.{headDepth, headWidth, headed}
 use Rattle.feed.specs.Record.{recorded}
-use Rattle.feed_text.specs.declared.Line.{Line}
-use Rattle.feed_text.specs.declared.Line.the-variants as line
-use Rattle.feed_text.specs.Words.{wholeWords}
-use Rattle.feed_text.specs.Line.{continues, isEnd}
+use Rattle.feed_line.specs.declared.Line.{Line}
+use Rattle.feed_line.specs.declared.Line.the-variants as line
+use Rattle.word_bytes.specs.Words.{wholeWords}
+use Rattle.feed_line.specs.Line.{continues, isEnd}
 use Rattle.feed_lines.specs.Line.{headLine}
 use Rattle.feed_lines.specs.Feed.{followed, afterEnd, feedLines}
 use Rattle.feed_lines.specs.Step.{progress, linesFrom, Enough}
 use Rattle.feed_lines.specs.Bounds.{Fitting}
 use Rattle.feed_lines.specs.Pieces.{Held, joined, readOn, lent, done, next, stepLines, pieceLines}
-use Rattle.feed_text.proofs.Laws.{words-length}
+use Rattle.word_bytes.proofs.Laws.{words-length}
 use Rattle.feed_lines.proofs.Heads.{accepted-some, head-fits, head-geometry, goes-on, fitting-shape}
 use borrow.Table.Steps.{cases}
 use Rattle.feed_lines.proofs.Record.{record-keeps, record-lies}

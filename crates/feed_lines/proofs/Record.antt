@@ -7,6 +7,7 @@ use Prim.Native.Nat.{ℕ, zero, suc, _+_, _-_, _^_, _%_, _≤_, _<_}
 use native.Mathlib.Decide.{decLt}
 use native.Mathlib.Omega.{arith}
 use borrow.Author.Tests.{eqb-true, eq-eqb, leb-true, lt-ltb}
+use borrow.Table.Steps.{cases}
 use lib.Dec.{eqb, leb}
 use lib.ListN.{length, take}
 use Rattle.answer.specs.Numbers.{badPayload}
@@ -28,15 +29,11 @@ use Rattle.feed.specs.Record.{Carried, outcomeOf, updateOutcome, queried, opene
 use Rattle.feed.proofs.Cases.{carriedUpdate, carried, carriedAfter, by-cases}
 use Rattle.feed.proofs.Laws.{record-good}
 use Rattle.feed.proofs.Past.{record-alone}
-use Rattle.feed_text.specs.declared.Line.{Line}
-use Rattle.feed_text.specs.Line.{stops, refusedLine, continues, isEnd}
+use Rattle.feed_line.specs.declared.Line.{Line}
+use Rattle.feed_line.specs.Line.{stops, refusedLine, continues, isEnd}
 use Rattle.feed_lines.specs.Line.{lineOf}
 use Rattle.feed_lines.specs.Feed.{recordLine}
 use Rattle.feed_lines.specs.Step.{takenBy}
-
-pub by-test : (b : Bool) {A : Type 0} → (b ≡ true → A) → (b ≡ false → A) → A
-by-test true f g = f refl
-by-test false f g = g refl
 
 -- the number of a faulty word stops a feed
 abbrev Faulty : ℕ → Type 0
@@ -45,11 +42,11 @@ Faulty s = (s ≡ 0) ⊎ (stops s ≡ true)
 tested-faulty : (words : List ℕ) (p kind : ℕ) (holds : Bool) → Faulty (tested words p kind holds badPayload .status)
 unfolding tested stops
 tested-faulty words p kind holds =
-    by-test (isDue words p kind) (λ t. rw t (by-test holds (λ h. rw h (inl refl)) (λ h. rw h (inr refl)))) (λ t. rw t (inr refl))
+    cases (isDue words p kind) (λ t. rw t (cases holds (λ h. rw h (inl refl)) (λ h. rw h (inr refl)))) (λ t. rw t (inr refl))
 
 next-faulty : (s : Step) (f : ℕ → Step) → Faulty (s .status) → Faulty (f (s .position) .status) → Faulty (next s f .status)
 unfolding next
-next-faulty s f h k = by-test (eqb (s .status) 0) (λ t. rw t k) (λ t. rw t h)
+next-faulty s f h k = cases (eqb (s .status) 0) (λ t. rw t k) (λ t. rw t h)
 
 key-faulty : (k n : ℕ) (words : List ℕ) (p : ℕ) → Faulty (checkKey k n words p .status)
 unfolding checkKey keyWord
@@ -81,7 +78,7 @@ eight = refl
 pub next-passed : (s : Step) (f : ℕ → Step) → next s f .status ≡ 0 → (s .status ≡ 0) × (next s f ≡ f (s .position))
 unfolding next
 next-passed s f =
-    by-test (eqb (s .status) 0) (λ t. rw t (λ e. (eqb-true (s .status) 0 t, refl))) (λ t. rw t (λ e. absurd (true≢false (sym (eq-eqb (s .status) 0 e) ∙ t))))
+    cases (eqb (s .status) 0) (λ t. rw t (λ e. (eqb-true (s .status) 0 t, refl))) (λ t. rw t (λ e. absurd (true≢false (sym (eq-eqb (s .status) 0 e) ∙ t))))
 
 -- words that all passed end where the record ends
 key-end : (k n : ℕ) (words : List ℕ) (p : ℕ) → checkKey k n words p .status ≡ 0 → checkKey k n words p .position ≡ p + k
@@ -131,11 +128,11 @@ faulty-stops s h f = ⊎-elim (λ e. absurd (true≢false (sym (eq-eqb s 0 e) �
 
 key-stops : (n : ℕ) → Faulty (badKey n)
 unfolding stops
-key-stops n = by-test (leb 1 n && leb n 64) (λ t. rw t (inl refl)) (λ t. rw t (inr refl))
+key-stops n = cases (leb 1 n && leb n 64) (λ t. rw t (inl refl)) (λ t. rw t (inr refl))
 
 taken-most : (l : Line) (words : List ℕ) → takenBy l words ≤ wordsTaken words
 unfolding takenBy
-taken-most l words = by-test (continues l || isEnd l) (λ t. rw t (omega arith)) (λ t. rw t (omega arith))
+taken-most l words = cases (continues l || isEnd l) (λ t. rw t (omega arith)) (λ t. rw t (omega arith))
 
 module _ (d w : ℕ) (memory : List ℕ) (before : ℕ) (words : List ℕ) (shape : badShape d w (length memory) ≡ 0) where
   abbrev key : List ℕ
@@ -156,26 +153,26 @@ module _ (d w : ℕ) (memory : List ℕ) (before : ℕ) (words : List ℕ) (shap
     unfolding carried openedOutcome opened opensKey updateBody queryBody bodyOf carriedUpdate updateOutcome queried
     sound =
         let n = payload words 0 in
-        by-test (isDue words 0 updateKind)
+        cases (isDue words 0 updateKind)
         (λ u. rw u
-        (by-test (eqb (badKey n) 0)
+        (cases (eqb (badKey n) 0)
         (λ k. rw k
-        (by-test (eqb (updateStep n words .status) 0)
+        (cases (eqb (updateStep n words .status) 0)
         (λ s. rw s (updates (update-words words u (eqb-true _ 0 s))))
         (λ s. rw s (stopping (updateStep n words .status) (updateStep n words .position) (faulty-stops _ (update-faulty n words) s)))))
         (λ k. rw k (stopping (badKey n) 0 (faulty-stops _ (key-stops n) k)))))
         (λ u. rw u
-        (by-test (isDue words 0 queryKind)
+        (cases (isDue words 0 queryKind)
         (λ q. rw q
-        (by-test (eqb (badKey n) 0)
+        (cases (eqb (badKey n) 0)
         (λ k. rw k
-        (by-test (eqb (queryStep n words .status) 0)
+        (cases (eqb (queryStep n words .status) 0)
         (λ s. rw s (queries (query-words words u q (eqb-true _ 0 s))))
         (λ s. rw s (stopping (queryStep n words .status) (queryStep n words .position) (faulty-stops _ (query-faulty n words) s)))))
         (λ k. rw k (stopping (badKey n) 0 (faulty-stops _ (key-stops n) k)))))
         (λ q. rw q
-        (by-test (isDue words 0 endKind)
-        (λ e. rw e (by-test (eqb n (before % 2 ^ 28)) (λ b. rw b (ends (end-words words u q e))) (λ b. rw b (stopping 9 0 nine))))
+        (cases (isDue words 0 endKind)
+        (λ e. rw e (cases (eqb n (before % 2 ^ 28)) (λ b. rw b (ends (end-words words u q e))) (λ b. rw b (stopping 9 0 nine))))
         (λ e. rw e (stopping 8 0 eight))))))
 
     record-cases : P (recorded d w memory before words)
@@ -187,7 +184,7 @@ module _ (d w : ℕ) (memory : List ℕ) (before : ℕ) (words : List ℕ) (shap
   record-keeps =
       record-cases (λ c. length (c .memory) ≡ length memory) (λ s p h. refl)
       (λ h.
-      by-test (eqb (updated d w memory key amount .answer .status) 0)
+      cases (eqb (updated d w memory key amount .answer .status) 0)
       (λ t. update-accepted d w memory key amount (eqb-true _ 0 t) .long)
       (λ t. ap length (finish-kept _ 0 _ memory t)))
       (λ h. refl)
@@ -203,7 +200,7 @@ module _ (d w : ℕ) (memory : List ℕ) (before : ℕ) (words : List ℕ) (shap
       (λ h. h)
 
 long-key : (n : ℕ) → 64 < n → badKey n ≡ 4
-long-key n h = by-test (leb n 64) (λ t. absurd (omega (arith, leb-true n 64 t))) (λ t. rw t (by-test (leb 1 n) (λ s. rw s) (λ s. rw s)))
+long-key n h = cases (leb n 64) (λ t. absurd (omega (arith, leb-true n 64 t))) (λ t. rw t (cases (leb 1 n) (λ s. rw s) (λ s. rw s)))
 
 -- the same of what the code finds one after another
 pub step-lies : (d w : ℕ) (memory : List ℕ) (before records : ℕ) (words : List ℕ) (r : Recorded) (l : Line) (n : ℕ) → badShape d w (length memory) ≡ 0
@@ -215,8 +212,8 @@ long-refused : (before : ℕ) (words : List ℕ) → 25 < wordsTaken words → o
 unfolding wordsTaken opened opensKey
 long-refused before words =
     let n = payload words 0 in
-    by-test (isDue words 0 updateKind) (λ u. rw u (λ h. rw (long-key n (omega arith))))
-    (λ u. rw u (by-test (isDue words 0 queryKind) (λ q. rw q (λ h. rw (long-key n (omega arith)))) (λ q. rw q (λ h. absurd (omega arith)))))
+    cases (isDue words 0 updateKind) (λ u. rw u (λ h. rw (long-key n (omega arith))))
+    (λ u. rw u (cases (isDue words 0 queryKind) (λ q. rw q (λ h. rw (long-key n (omega arith)))) (λ q. rw q (λ h. absurd (omega arith)))))
 
 -- A call that is lent the words of the longest record does what one does that is lent all of them.
 pub record-lent : (d w : ℕ) (memory : List ℕ) (before : ℕ) (words : List ℕ) → recorded d w memory before (take 25 words) ≡ recorded d w memory before words

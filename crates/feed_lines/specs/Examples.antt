@@ -2,8 +2,8 @@
 use Prim.Native.Nat.{ℕ}
 use mathlib.Core.Path.{_≡_}
 use mathlib.Core.List.{List, [], _∷_}
-use Rattle.feed_text.specs.declared.Line.{Line}
-use Rattle.feed_text.specs.declared.Line.the-variants as line
+use Rattle.feed_line.specs.declared.Line.{Line}
+use Rattle.feed_line.specs.declared.Line.the-variants as line
 use Rattle.feed_lines.specs.Feed.{feedLines}
 
 pub record Example : Type 0 where

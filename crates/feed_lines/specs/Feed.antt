@@ -8,10 +8,11 @@ use Rattle.answer.specs.Numbers.{badWord}
 use Rattle.feed_records.specs.Words.{wordsTaken}
 use Rattle.feed.specs.Head.{headDepth, headWidth, headed}
 use Rattle.feed.specs.Record.{recorded}
-use Rattle.feed_text.specs.declared.Line.{Line}
-use Rattle.feed_text.specs.declared.Line.the-variants as line
-use Rattle.feed_text.specs.Words.{wholeWords}
-use Rattle.feed_text.specs.Line.{continues, isEnd, texts}
+use Rattle.feed_line.specs.declared.Line.{Line}
+use Rattle.feed_line.specs.declared.Line.the-variants as line
+use Rattle.word_bytes.specs.Words.{wholeWords}
+use Rattle.feed_line.specs.Line.{continues, isEnd}
+use Rattle.feed_text.specs.Line.{texts}
 use Rattle.feed_lines.specs.Line.{headLine, lineOf}
 
 -- A line and those after it: the next records' where a record follows, those after the end's, and none after a stop.

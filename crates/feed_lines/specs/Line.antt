@@ -7,9 +7,9 @@ use Rattle.feed.specs.Head.{headDepth, headWidth}
 use Rattle.feed.specs.declared.Recorded.{Recorded}
 use Rattle.feed.specs.declared.Recorded.the-variants as recorded
 use Rattle.answer.specs.Numbers.{wrongLength}
-use Rattle.feed_text.specs.declared.Line.{Line}
-use Rattle.feed_text.specs.declared.Line.the-variants as line
-use Rattle.feed_text.specs.Line.{refusedLine}
+use Rattle.feed_line.specs.declared.Line.{Line}
+use Rattle.feed_line.specs.declared.Line.the-variants as line
+use Rattle.feed_line.specs.Line.{refusedLine}
 
 -- the largest width that the program lends memory for
 abbrev pub mostSlots : ℕ

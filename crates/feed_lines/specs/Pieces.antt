@@ -7,8 +7,8 @@ use lib.ListN.{length, take, drop, replicate}
 use Rattle.geometry.specs.Geometry.{size}
 use Rattle.feed.specs.Head.{headDepth, headWidth, headed}
 use Rattle.feed.specs.Record.{recorded}
-use Rattle.feed_text.specs.declared.Line.{Line}
-use Rattle.feed_text.specs.Words.{wholeWords}
+use Rattle.feed_line.specs.declared.Line.{Line}
+use Rattle.word_bytes.specs.Words.{wholeWords}
 use Rattle.feed_lines.specs.declared.Progress.{Progress}
 use Rattle.feed_lines.specs.Line.{headLine}
 use Rattle.feed_lines.specs.Feed.{followed, afterEnd}

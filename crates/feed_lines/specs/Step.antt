@@ -6,9 +6,9 @@ use mathlib.Core.Bool.{cond, _||_}
 use mathlib.Core.List.{List, []}
 use lib.ListN.{length}
 use Rattle.feed_records.specs.Words.{wordsTaken}
-use Rattle.feed_text.specs.declared.Line.{Line}
-use Rattle.feed_text.specs.Words.{wholeWords}
-use Rattle.feed_text.specs.Line.{continues, isEnd}
+use Rattle.feed_line.specs.declared.Line.{Line}
+use Rattle.word_bytes.specs.Words.{wholeWords}
+use Rattle.feed_line.specs.Line.{continues, isEnd}
 use Rattle.feed_lines.specs.declared.Progress.{Progress}
 use Rattle.feed_lines.specs.Feed.{recordLine, recordLines}
 

@@ -1,7 +1,7 @@
 // A feed's run without its input and output: the head's line, a cleared meter, and one step for each record and the end.
 use answer::Answer;
 use feed::Recorded;
-use feed_text::Line;
+use feed_line::Line;
 ghost use mathlib.Core.Path.{_≡_};
 ghost use Prim.Native.Nat.{_+_, _^_, _<_, _≤_};
 ghost use lib.ListN.{length, replicate};
@@ -84,7 +84,7 @@ fn line_of(r: Recorded, before: u64, records: u64) -> Line
         Recorded::Estimate { value } => Line::Estimate { value },
         Recorded::Ended => Line::End { records },
         Recorded::Refused { status, position } => {
-            feed_text::refused_line(status, before + position)
+            feed_line::refused_line(status, before + position)
         }
     }
 }
@@ -93,10 +93,10 @@ fn line_of(r: Recorded, before: u64, records: u64) -> Line
 fn taken(l: Line, words: &[u32]) -> usize
     ensures { λ r. ⌜ r ≡ takenBy l (now (words .entry)) ⌝ }
 {
-    if feed_text::continues(l) {
+    if feed_line::continues(l) {
         return feed::words_taken(words);
     }
-    if feed_text::is_end(l) {
+    if feed_line::is_end(l) {
         return feed::words_taken(words);
     }
     0

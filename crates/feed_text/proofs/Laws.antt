@@ -1,75 +1,21 @@
--- Laws of words, decimal numbers and lines that the code's proofs use, and what decimal digits are worth.
-use mathlib.Core.Logic.{⊎-elim}
+-- Laws of decimal numbers and lines that the code's proofs use, and what decimal digits are worth.
 use mathlib.Core.Path.{_≡_, refl, sym, ap, _∙_}
-use mathlib.Core.Bool.{Bool, false, not, _||_}
 use mathlib.Core.List.{List, [], _∷_, _++_, append-assoc}
-use Prim.Native.Nat.{ℕ, zero, suc, _+_, _-_, _*_, _/_, _%_, _^_, _≤_, _<_, min}
-use native.Mathlib.Nat.{zero-add, div-lt-iff-lt-mul, pow-suc}
+use Prim.Native.Nat.{ℕ, zero, suc, _+_, _-_, _*_, _/_, _%_, _^_, _≤_, _<_}
+use native.Mathlib.Nat.{div-lt-iff-lt-mul, pow-suc}
 use native.Mathlib.Numerals.{add-one, sub-one}
 use native.Mathlib.Omega.{arith}
 use native.Mathlib.Decide.{decLt}
-use borrow.Author.Tests.{lt-ltb, le-ltb, ne-eqb}
-use lib.Dec.{eqb}
+use borrow.Author.Tests.{lt-ltb, le-ltb}
 use lib.ListN.{length, getD, take, drop, set}
-use lib.Seq.{paste-suc, take-suc, take-suc-set, take-at, take-all, length-take-le}
+use lib.Seq.{take-suc, take-suc-set}
 use types.Run.{OneOf}
 use denote.Enum.Declared.{tagOf}
-use Rattle.feed_text.specs.declared.Line.{Line}
-use Rattle.feed_text.specs.declared.Line.the-variants as line
-use Rattle.feed_text.proofs.Line as the-line
-use Rattle.feed_text.specs.Line.{continues, isEnd, updatedLabel, text}
+use Rattle.feed_line.specs.declared.Line.{Line}
+use Rattle.feed_line.specs.declared.Line.the-variants as line
+use Rattle.feed_line.proofs.Line as the-line
+use Rattle.feed_text.specs.Line.{updatedLabel, text}
 use Rattle.feed_text.specs.Text.{digitsBefore, decimal, numberAfter}
-use Rattle.feed_text.specs.Words.{wordOf, wholeWords}
-
-pub words-length : (bytes : List ℕ) → length (wholeWords bytes) ≡ length bytes / 4
-unfolding wholeWords
-words-length [] = refl
-words-length (a ∷ []) = refl
-words-length (a ∷ b ∷ []) = refl
-words-length (a ∷ b ∷ c ∷ []) = refl
-words-length (a ∷ b ∷ c ∷ d ∷ bytes) = omega (arith, words-length bytes)
-
-pub word-at : (bytes : List ℕ) (i : ℕ) → 4 * i + 4 ≤ length bytes
-    → getD (wholeWords bytes) i 0 ≡ wordOf (getD bytes (4 * i) 0) (getD bytes (4 * i + 1) 0) (getD bytes (4 * i + 2) 0) (getD bytes (4 * i + 3) 0)
-unfolding wholeWords
-word-at [] i h = absurd (omega arith)
-word-at (a ∷ []) i h = absurd (omega arith)
-word-at (a ∷ b ∷ []) i h = absurd (omega arith)
-word-at (a ∷ b ∷ c ∷ []) i h = absurd (omega arith)
-word-at (a ∷ b ∷ c ∷ d ∷ bytes) zero h = refl
-word-at (a ∷ b ∷ c ∷ d ∷ bytes) (suc i) h =
-    let e : 4 * suc i ≡ suc (suc (suc (suc (4 * i)))) = omega arith in
-    let f : 4 * suc i + 1 ≡ suc (suc (suc (suc (4 * i + 1)))) = omega arith in
-    let g : 4 * suc i + 2 ≡ suc (suc (suc (suc (4 * i + 2)))) = omega arith in
-    let k : 4 * suc i + 3 ≡ suc (suc (suc (suc (4 * i + 3)))) = omega arith in
-    rw (f, g, k, e) (word-at bytes i (omega arith))
-
--- the first words of bytes that go on are those of the bytes at hand
-pub words-front : (n : ℕ) (xs ys : List ℕ) → 4 * n ≤ length xs → take n (wholeWords (xs ++ ys)) ≡ take n (wholeWords xs)
-unfolding wholeWords
-words-front zero xs ys h = refl
-words-front (suc n) [] ys h = absurd (omega arith)
-words-front (suc n) (a ∷ []) ys h = absurd (omega arith)
-words-front (suc n) (a ∷ b ∷ []) ys h = absurd (omega arith)
-words-front (suc n) (a ∷ b ∷ c ∷ []) ys h = absurd (omega arith)
-words-front (suc n) (a ∷ b ∷ c ∷ d ∷ xs) ys h = ap (λ (ws : List ℕ). wordOf a b c d ∷ ws) (words-front n xs ys (omega arith))
-
--- the words that are lent: as many as there is space for
-pub lent-words : (n : ℕ) (ws d : List ℕ) → n ≡ min (length d) (length ws) → take n (take n ws ++ drop n d) ≡ take (length d) ws
-lent-words n ws d e =
-    let s = take-at (take n ws) (drop n d) n (length-take-le n ws (omega arith)) in
-    elim (decLt (length d) (length ws)) [
-      | yes l ↦
-          let k : n ≡ length d = omega arith in
-          s ∙ ap (λ (j : ℕ). take j ws) k
-      | no l ↦ s ∙ take-all n ws (omega arith) ∙ sym (take-all (length d) ws (omega arith))
-    ]
-
--- a turn of a copy from the front
-pub copy-more : (s d : List ℕ) (i : ℕ) → i < length s → i < length d → set (take i s ++ drop i d) i (getD s i 0) ≡ take (i + 1) s ++ drop (i + 1) d
-copy-more s d i h k =
-    let k0 : 0 + i < length d = omega arith in
-    simp (zero-add, add-one) (simp zero-add at (paste-suc d 0 s i 0 k0 h))
 
 -- a turn of a copy behind the first bytes of a buffer
 pub append-turn : (out before s : List ℕ) (at i : ℕ) → at + i < length out → i < length s → take (at + i) out ≡ before ++ take i s
@@ -133,34 +79,3 @@ text-updated (line.Estimate v) h = absurd (omega arith)
 text-updated (line.End n) h = absurd (omega arith)
 text-updated (line.Refused s) h = absurd (omega arith)
 text-updated (line.Stopped s i) h = absurd (omega arith)
-
--- whether a record follows a line, by the line's tag
-abbrev continuing : ℕ → Bool
-continuing t = not (eqb t 3 || eqb t 5)
-
-by-tag : (l : Line) → continues l ≡ continuing (tagOf the-line.the-type l)
-unfolding continues
-by-tag (line.Geometry d w) = refl
-by-tag line.Updated = refl
-by-tag (line.Estimate v) = refl
-by-tag (line.End n) = refl
-by-tag (line.Refused s) = refl
-by-tag (line.Stopped s i) = refl
-
-pub tag-continues : (l : Line) (t : ℕ) → OneOf (t ∷ []) (tagOf the-line.the-type l) → continuing t ≡ continues l
-tag-continues l t h = sym (by-tag l ∙ ap continuing h)
-
--- the end's tag, and those of the other lines
-pub tag-end : (l : Line) → isEnd l ≡ eqb (tagOf the-line.the-type l) 3
-unfolding isEnd
-tag-end (line.Geometry d w) = refl
-tag-end line.Updated = refl
-tag-end (line.Estimate v) = refl
-tag-end (line.End n) = refl
-tag-end (line.Refused s) = refl
-tag-end (line.Stopped s i) = refl
-
-pub not-end : (t : ℕ) → OneOf (0 ∷ 1 ∷ 2 ∷ 4 ∷ 5 ∷ []) t → eqb t 3 ≡ false
-not-end t h =
-    ne-eqb t 3
-    (λ e. ⊎-elim (λ k. omega arith) (λ k. ⊎-elim (λ m. omega arith) (λ m. ⊎-elim (λ n. omega arith) (λ n. ⊎-elim (λ o. omega arith) (λ o. omega arith) n) m) k) h)

@@ -2,14 +2,14 @@
 use mathlib.Core.Path.{_≡_, sym, ap, _∙_}
 use mathlib.Core.List.{List, [], _∷_, _++_, append-nil, append-assoc}
 use Prim.Native.Nat.{ℕ, zero, suc, _+_, _-_, _*_, _≤_, _<_, max}
-use native.Mathlib.Nat.{max-zero, zero-add, zero-mul, suc-mul, add-mul, one-mul, sub-zero, mul-le-mul-right}
-use native.Mathlib.Numerals.{add-one, sub-one}
+use native.Mathlib.Nat.{max-zero, zero-mul, suc-mul, add-mul, one-mul, sub-zero, mul-le-mul-right}
+use native.Mathlib.Numerals.{sub-one}
 use native.Mathlib.Decide.{decLt}
 use native.Mathlib.Omega.{arith}
 use borrow.Rule.Slice.PartMut.{putMid, post-is}
 use lib.Bits.{bitOr, or-add-and, and-le-l, and-le-r}
 use lib.ListN.{length, getD, take, drop, set, length-append, length-drop, take-append-drop, drop-of-length-le}
-use lib.Seq.{paste-suc, length-take-le, take-at, drop-at, drop-drop, getD-drop, getD-set-same, getD-set-other}
+use lib.Seq.{length-take-le, take-at, drop-at, drop-drop, getD-drop, getD-set-same, getD-set-other}
 pub use Rattle.laws.proofs.Lists.{bytes-drop, bytes-take}
 use Rattle.geometry.specs.Geometry.{size, RowIn, RowsIn}
 use Rattle.geometry.specs.Geometry as geometry
@@ -17,12 +17,7 @@ use Rattle.geometry.specs.Rows.{mapRows, ofRows, ofGroups, largest}
 use Rattle.answer.specs.Order.{earlier, earliest}
 use Rattle.answer.proofs.Order.{earlier-none, earlier-assoc}
 
--- a copy from the front: one element more, and all
-pub copy-more : (s d : List ℕ) (i : ℕ) → i < length s → i < length d → set (take i s ++ drop i d) i (getD s i 0) ≡ take (i + 1) s ++ drop (i + 1) d
-copy-more s d i h k =
-    let k0 : 0 + i < length d = omega arith in
-    simp (zero-add, add-one) (simp zero-add at (paste-suc d 0 s i 0 k0 h))
-
+-- a copy from the front that has all
 pub copy-all : (s d : List ℕ) (i : ℕ) → length d ≤ i → take i s ++ drop i d ≡ take i s
 copy-all s d i h = rw (drop-of-length-le d h, append-nil)
 

@@ -1,10 +1,13 @@
--- Lists of bytes.
-use mathlib.Core.List.{List}
+-- Lists of bytes, and copies.
+use mathlib.Core.Path.{_≡_}
+use mathlib.Core.List.{List, _++_}
 use Prim.Native.Nat.{ℕ, _+_, _<_}
+use native.Mathlib.Nat.{zero-add}
+use native.Mathlib.Numerals.{add-one}
 use native.Mathlib.Decide.{decLt}
 use native.Mathlib.Omega.{arith}
-use lib.ListN.{getD, take, drop, length-take, List·getD-eq-default}
-use lib.Seq.{getD-drop, getD-take}
+use lib.ListN.{length, getD, take, drop, set, length-take, List·getD-eq-default}
+use lib.Seq.{getD-drop, getD-take, paste-suc}
 
 -- every element is a byte
 abbrev pub Bytes : List ℕ → Type 0
@@ -19,3 +22,9 @@ bytes-take n xs b = λ i. elim (decLt i n) [
   | yes l ↦ rw (getD-take n xs i 0 l) (b i)
   | no l ↦ rw (List·getD-eq-default (take n xs) 0 {n = i} (omega (arith, length-take n xs))) (omega arith)
 ]
+
+-- one element more of a copy from the front
+pub copy-more : (s d : List ℕ) (i : ℕ) → i < length s → i < length d → set (take i s ++ drop i d) i (getD s i 0) ≡ take (i + 1) s ++ drop (i + 1) d
+copy-more s d i h k =
+    let k0 : 0 + i < length d = omega arith in
+    rw add-one (simp zero-add at (paste-suc d 0 s i 0 k0 h))

@@ -11,16 +11,17 @@ use Rattle.geometry.specs.Checks.{badShape}
 use Rattle.feed_records.proofs.Past.{some-taken}
 use Rattle.feed.specs.Head.{headed}
 use Rattle.feed.specs.Record.{recorded}
-use Rattle.feed_text.specs.declared.Line.{Line}
-use Rattle.feed_text.specs.declared.Line.the-variants as line
-use Rattle.feed_text.specs.Words.{wholeWords}
-use Rattle.feed_text.specs.Line.{text, texts, continues, isEnd}
+use Rattle.feed_line.specs.declared.Line.{Line}
+use Rattle.feed_line.specs.declared.Line.the-variants as line
+use Rattle.word_bytes.specs.Words.{wholeWords}
+use Rattle.feed_line.specs.Line.{continues, isEnd}
+use Rattle.feed_text.specs.Line.{text, texts}
 use Rattle.feed_lines.specs.declared.Progress.{Progress}
 use Rattle.feed_lines.specs.Line.{headLine}
 use Rattle.feed_lines.specs.Feed.{followed, afterEnd, feedLines, feedText}
 use Rattle.feed_lines.specs.Step.{takenBy, progress, linesFrom, Enough}
-use Rattle.feed_text.proofs.Laws.{words-length}
-use Rattle.feed_lines.proofs.Record.{by-test}
+use Rattle.word_bytes.proofs.Laws.{words-length}
+use borrow.Table.Steps.{cases}
 use Rattle.feed_lines.proofs.Heads.{accepted-some, head-geometry}
 use Rattle.feed_lines.proofs.Feed.{step-lines, head-lines, head-stops}
 use Rattle.run_feed.specs.declared.State.{State}
@@ -190,7 +191,7 @@ module _ (d w : ℕ) (i : Input) (input : List ℕ) (out : ℕ) (output : List �
       (turns : last .runs ≡ true → 2 ^ 58 < last .words) where
     -- a short feed's records are all carried out
     over : (n : ℕ) → length (unused i input) + n < 2 ^ 60 → length (g .read) ≤ n → last .runs ≡ false
-    over n short h = by-test (last .runs) (λ t. absurd (omega (arith, turns t, g .counted, first-seen))) (λ t. t)
+    over n short h = cases (last .runs) (λ t. absurd (omega (arith, turns t, g .counted, first-seen))) (λ t. t)
 
     pub meter-stopped : last .ended ≡ false → Printed (length (unused i input)) (i .more) (dueAfterHead d w i input out output) (last .out) output′
     unfolding texts

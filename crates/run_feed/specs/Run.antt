@@ -7,7 +7,7 @@ use mathlib.Core.Bool.{Bool, false, cond}
 use mathlib.Core.List.{List, [], _++_}
 use lib.ListN.{length, take, drop, replicate}
 use Rattle.geometry.specs.Geometry.{size}
-use Rattle.feed_text.specs.declared.Line.{Line}
+use Rattle.feed_line.specs.declared.Line.{Line}
 use Rattle.feed_text.specs.Line.{texts}
 use Rattle.feed_lines.specs.Feed.{afterEnd}
 use Rattle.feed_lines.specs.Step.{linesFrom}

@@ -2,8 +2,8 @@
 mod input;
 mod output;
 
+use feed_line::Line;
 use feed_lines::Progress;
-use feed_text::Line;
 use input::Input;
 ghost use mathlib.Core.Path.{_≡_};
 ghost use mathlib.Core.Bool.{true};
@@ -14,7 +14,7 @@ ghost use Rattle.geometry.specs.Geometry.{size};
 ghost use Rattle.geometry.specs.Checks.{badShape};
 ghost use Rattle.feed.specs.Head.{headed};
 ghost use Rattle.feed.specs.Record.{recorded};
-ghost use Rattle.feed_text.specs.Words.{wholeWords};
+ghost use Rattle.word_bytes.specs.Words.{wholeWords};
 ghost use Rattle.feed_lines.specs.Line.{headLine};
 ghost use Rattle.feed_lines.specs.Feed.{feedText};
 ghost use Rattle.feed_lines.specs.Step.{progress};
@@ -50,7 +50,7 @@ fn next(memory: &mut [u8], d: usize, w: usize, bytes: &[u8], before: u64, record
     ensures { λ r. ⌜ (r .taken ≤ 25) × (4 * r .taken ≤ length (now (bytes .entry))) ⌝ }
 {
     let mut words = [0u32; WORDS];
-    let n = feed_text::assemble(bytes, &mut words);
+    let n = word_bytes::assemble(bytes, &mut words);
     feed_lines::step(d, w, memory, before, records, &words[..n])
 }
 
@@ -83,8 +83,8 @@ fn step(
         words: p.words,
         records: p.records,
         out: hand,
-        runs: feed_text::continues(line),
-        ended: feed_text::is_end(line),
+        runs: feed_line::continues(line),
+        ended: feed_line::is_end(line),
     }
 }
 
@@ -142,7 +142,7 @@ fn head(bytes: &[u8]) -> Line
     ensures { λ l. ⌜ FittingLine l ⌝ }
 {
     let mut words = [0u32; 1];
-    let n = feed_text::assemble(bytes, &mut words);
+    let n = word_bytes::assemble(bytes, &mut words);
     feed_lines::head(&words[..n])
 }
 

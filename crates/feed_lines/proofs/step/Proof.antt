@@ -2,7 +2,7 @@ use mathlib.Core.Path.{ap, ap₂, _∙_}
 use Prim.Native.Nat.{ℕ}
 use native.Mathlib.Omega.{arith}
 use Rattle.feed.specs.declared.Recorded.{Recorded}
-use Rattle.feed_text.specs.declared.Line.{Line}
+use Rattle.feed_line.specs.declared.Line.{Line}
 use Rattle.feed_lines.specs.Line.{lineOf}
 use Rattle.feed_lines.specs.Step.{takenBy, progressOf, progress}
 use Rattle.feed_lines.proofs.Record.{step-lies}

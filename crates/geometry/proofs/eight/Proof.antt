@@ -5,7 +5,8 @@ use borrow.Author.Needs.{needs}
 use mathlib.Core.List.{_++_}
 use lib.ListN.{take, drop, length-drop, replicate}
 use lib.Seq.{getD-drop}
-use Rattle.geometry.proofs.Lists.{copy-more, copy-all}
+use Rattle.laws.proofs.Lists.{copy-more}
+use Rattle.geometry.proofs.Lists.{copy-all}
 use Rattle.geometry.proofs.eight.Statement.{statement}
 use Rattle.geometry.proofs.eight.Tie as tie
 

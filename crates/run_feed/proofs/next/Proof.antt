@@ -1,5 +1,5 @@
 use native.Mathlib.Omega.{arith}
-use Rattle.feed_text.proofs.Laws.{words-length}
+use Rattle.word_bytes.proofs.Laws.{words-length}
 use borrow.Author.Needs.{needs}
 use Rattle.run_feed.proofs.next.Statement.{statement}
 use Rattle.run_feed.proofs.next.Tie as tie

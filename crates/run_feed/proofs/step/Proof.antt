@@ -3,7 +3,7 @@ use mathlib.Core.List.{List, _++_}
 use Prim.Native.Nat.{ℕ, _+_, _*_, _≤_}
 use native.Mathlib.Omega.{arith}
 use lib.ListN.{length, take}
-use Rattle.feed_text.specs.Words.{wholeWords}
+use Rattle.word_bytes.specs.Words.{wholeWords}
 use Rattle.run_feed.specs.Buffers.{unused}
 use Rattle.run_feed.proofs.Buffers.{unused-length}
 use Rattle.run_feed.proofs.Runs.{progressed, state-is, stepped}

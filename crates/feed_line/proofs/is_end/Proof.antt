@@ -1,8 +1,8 @@
 use borrow.Author.Tests.{eq-eqb}
-use Rattle.feed_text.proofs.Laws.{tag-end, not-end}
+use Rattle.feed_line.proofs.Laws.{tag-end, not-end}
 use borrow.Author.Needs.{needs}
-use Rattle.feed_text.proofs.is_end.Statement.{statement}
-use Rattle.feed_text.proofs.is_end.Tie as tie
+use Rattle.feed_line.proofs.is_end.Statement.{statement}
+use Rattle.feed_line.proofs.is_end.Tie as tie
 
 enum-told : tie.Need-enum-told
 enum-told c = search needs

@@ -1,7 +1,7 @@
 use borrow.Author.Tests.{eq-eqb, ne-eqb}
-use Rattle.feed_text.specs.Line.{stops}
-use Rattle.feed_text.proofs.stops.Statement.{statement}
-use Rattle.feed_text.proofs.stops.Tie as tie
+use Rattle.feed_line.specs.Line.{stops}
+use Rattle.feed_line.proofs.stops.Statement.{statement}
+use Rattle.feed_line.proofs.stops.Tie as tie
 
 returns : tie.Need-returns
 unfolding stops

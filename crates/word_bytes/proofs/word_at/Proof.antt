@@ -1,8 +1,8 @@
 use mathlib.Core.Path.{sym, _∙_}
-use Rattle.feed_text.proofs.Laws.{word-at}
+use Rattle.word_bytes.proofs.Laws.{word-at}
 use borrow.Author.Needs.{needs}
-use Rattle.feed_text.proofs.words.word_at.Statement.{statement}
-use Rattle.feed_text.proofs.words.word_at.Tie as tie
+use Rattle.word_bytes.proofs.word_at.Statement.{statement}
+use Rattle.word_bytes.proofs.word_at.Tie as tie
 
 mul-p : tie.Need-mul-p
 mul-p c = search needs

@@ -1,8 +1,8 @@
 use mathlib.Core.Path.{sym, _∙_}
-use Rattle.feed_text.specs.Line.{refusedLine}
+use Rattle.feed_line.specs.Line.{refusedLine}
 use borrow.Author.Needs.{needs}
-use Rattle.feed_text.proofs.refused_line.Statement.{statement}
-use Rattle.feed_text.proofs.refused_line.Tie as tie
+use Rattle.feed_line.proofs.refused_line.Statement.{statement}
+use Rattle.feed_line.proofs.refused_line.Tie as tie
 
 stops-requires : tie.Need-stops-requires
 stops-requires c κs = search needs

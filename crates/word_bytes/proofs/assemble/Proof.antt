@@ -5,10 +5,11 @@ use Prim.Native.Nat.{_-_, _/_, _≤_, min}
 use native.Mathlib.Omega.{arith}
 use lib.ListN.{length, take, drop, length-set}
 use borrow.Author.Needs.{needs}
-use Rattle.feed_text.specs.Words.{wholeWords}
-use Rattle.feed_text.proofs.Laws.{words-length, copy-more, lent-words}
-use Rattle.feed_text.proofs.words.assemble.Statement.{statement}
-use Rattle.feed_text.proofs.words.assemble.Tie as tie
+use Rattle.word_bytes.specs.Words.{wholeWords}
+use Rattle.laws.proofs.Lists.{copy-more}
+use Rattle.word_bytes.proofs.Laws.{words-length, lent-words}
+use Rattle.word_bytes.proofs.assemble.Statement.{statement}
+use Rattle.word_bytes.proofs.assemble.Tie as tie
 
 abbrev Inv-loop : tie.InvT-loop
 Inv-loop bytes words₀ n i₀ words i = (i ≤ n) × (n ≡ min (length words₀) (length bytes / 4)) × (length words ≡ length words₀)

@@ -1,9 +1,9 @@
-// Words from bytes, high byte first.
+// Words from bytes, high byte first. No input or output.
 ghost use mathlib.Core.Path.{_≡_};
 ghost use mathlib.Core.List.{_++_};
 ghost use Prim.Native.Nat.{_+_, _*_, _≤_, _<_, min};
 ghost use lib.ListN.{length, getD, take, drop};
-ghost use Rattle.feed_text.specs.Words.{wordOf, wholeWords};
+ghost use Rattle.word_bytes.specs.Words.{wordOf, wholeWords};
 
 fn word_of(a: u8, b: u8, c: u8, d: u8) -> u32
     ensures { λ r. ⌜ r ≡ wordOf a b c d ⌝ }

@@ -1,7 +1,7 @@
-use Rattle.feed_text.proofs.Laws.{tag-continues}
+use Rattle.feed_line.proofs.Laws.{tag-continues}
 use borrow.Author.Needs.{needs}
-use Rattle.feed_text.proofs.continues.Statement.{statement}
-use Rattle.feed_text.proofs.continues.Tie as tie
+use Rattle.feed_line.proofs.continues.Statement.{statement}
+use Rattle.feed_line.proofs.continues.Tie as tie
 
 enum-told : tie.Need-enum-told
 enum-told c = search needs
