@@ -3,10 +3,10 @@ use Prim.Native.Nat.{ℕ, _*_, _<_}
 use native.Mathlib.Omega.{arith}
 use borrow.Author.Tests.{eq-eqb, ne-eqb}
 use lib.Bits.{bitXor, and-le-r, xor-lt}
-use Rattle.group_block.proofs.Starts.{starts-keep, past-not-kept}
+use Rattle.group_union.proofs.Starts.{starts-keep, past-not-kept}
 use borrow.Author.Needs.{needs}
-use Rattle.group_block.proofs.may_add.Statement.{statement}
-use Rattle.group_block.proofs.may_add.Tie as tie
+use Rattle.group_union.proofs.may_add.Statement.{statement}
+use Rattle.group_union.proofs.may_add.Tie as tie
 
 turned-lt : (m : ℕ) → m < 256 → bitXor 127 m < 256
 turned-lt m h = xor-lt 8 127 m (omega arith) h

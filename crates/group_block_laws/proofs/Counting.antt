@@ -8,15 +8,15 @@ use native.Mathlib.Nat.{zero-mod, zero-div}
 use native.Mathlib.Decide.{ℕ-discrete}
 use native.Mathlib.Omega.{arith}
 use Rattle.group_layout.specs.Layout.{Layout, merged, halves, levelOf}
 use Rattle.group_block.specs.declared.Counter.{Counter}
 use Rattle.group_block.specs.Kind.{Kind}
 use Rattle.group_block.specs.Block.{BlockOf, Block, counter, split, cap, shape, fill, counterValue, counterAt, total}
 use Rattle.group_block.specs.Sum.{SumOf, fits, over, held, join, add, unite, sumTotal}
-use Rattle.group_block.specs.Least.{Inside}
-use Rattle.group_block.specs.Counts.{Totals, Adds, Counts, SumCounts, Grows}
+use Rattle.group_block_laws.specs.Least.{Inside}
+use Rattle.group_block_laws.specs.Counts.{Totals, Adds, Counts, SumCounts, Grows}
 use Rattle.group_block.proofs.Sums.{Sums, swap, cross}
-use Rattle.group_block.proofs.Sides.{half, by-half}
+use Rattle.group_block_laws.proofs.Sides.{half, by-half}
 use Rattle.group_block.proofs.Adding.{held-cases, add-halves}
 
 -- a sum that is tried counts what the sum is
 held-counts : (K : Kind) (t : Totals K) (n i : ℕ) (s : K .Value) → s ≡ t n i → SumCounts t i (held {K = K} n s)

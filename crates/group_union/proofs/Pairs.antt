@@ -8,12 +8,12 @@ use borrow.Author.Tests.{eq-eqb}
 use lib.Dec.{eqb}
 use Rattle.group_layout.specs.Layout.{merged, halves, marks}
 use Rattle.group_layout.proofs.Laws.{layout-marks}
 use Rattle.group_block.specs.Kind.{ordinary}
 use Rattle.group_block.specs.Block.{counter, split, cap, shape, fill, block, total}
 use Rattle.group_block.specs.Sum.{Sum, fits, held, join, unite}
 use Rattle.group_block.specs.Passed.{summed}
 use Rattle.group_block.proofs.Adding.{held-cases, held-total}
-use Rattle.group_block.proofs.Carries.{keeps}
+use Rattle.group_union.proofs.Carries.{keeps}
 
 -- the merge bits of two counters of level n
 abbrev pub pair : ℕ → ℕ

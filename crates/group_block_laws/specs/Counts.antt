@@ -2,10 +2,10 @@
 use Prim.Native.Nat.{ℕ, suc, _+_, _*_}
 use mathlib.Core.Path.{_≡_}
 use Rattle.group_layout.specs.Layout.{Layout}
 use Rattle.group_block.specs.Kind.{Kind}
 use Rattle.group_block.specs.Block.{BlockOf, counter, split, shape}
 use Rattle.group_block.specs.Sum.{SumOf, fits, over}
-use Rattle.group_block.specs.Least.{Inside}
+use Rattle.group_block_laws.specs.Least.{Inside}
 
 -- the total of each block, by its level and its index among the blocks of that level
 abbrev pub Totals : Kind → Type 0

@@ -13,13 +13,13 @@ use lib.Dec.{eqb}
 use lib.Pow.{pow-pos, pow-lt}
 use Rattle.group_layout.specs.Layout.{Layout, merged, halves, marks, layout, valid}
 use Rattle.group_layout.proofs.Laws.{layout-marks, marks-layout}
 use Rattle.group_block.specs.Kind.{ordinary}
 use Rattle.group_block.specs.Block.{cap, shape, fill, block, total}
 use Rattle.group_block.specs.Sum.{Sum, fits, over, held, join, unite}
 use Rattle.group_block.specs.Passed.{summed, Sane}
-use Rattle.group_block.specs.Least.{Suits, Least}
+use Rattle.group_block_laws.specs.Least.{Suits, Least}
 use Rattle.group_block.proofs.Laws.{cap-square, high-lt, shape-fill}
-use Rattle.group_block.proofs.Least.{unite-least}
+use Rattle.group_block_laws.proofs.Least.{unite-least}
 
 -- the lowest bit of each counter but the first
 unfoldable pub bounds : {n : ℕ} → Layout n → ℕ

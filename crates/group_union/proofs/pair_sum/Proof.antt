@@ -1,8 +1,8 @@
 use Rattle.group_block.proofs.Laws.{halves-le}
 use native.Mathlib.Omega.{arith}
 use borrow.Author.Needs.{needs}
-use Rattle.group_block.proofs.pair_sum.Statement.{statement}
-use Rattle.group_block.proofs.pair_sum.Tie as tie
+use Rattle.group_union.proofs.pair_sum.Statement.{statement}
+use Rattle.group_union.proofs.pair_sum.Tie as tie
 
 low-word-requires : tie.Need-low-word-requires
 low-word-requires c κs = search needs

@@ -3,12 +3,12 @@ use mathlib.Core.Path.{_≡_, refl, ap₂}
 use Prim.Native.Nat.{ℕ, suc, _+_, _<_}
 use native.Mathlib.Omega.{arith}
 use Rattle.group_layout.specs.Layout.{Layout, merged, halves}
 use Rattle.group_block.specs.Kind.{Kind}
 use Rattle.group_block.specs.Block.{BlockOf, Block, counter, split, cap, shape, total}
 use Rattle.group_block.specs.Sum.{SumOf, Sum, fits, over, held, join, unite, sumTotal}
-use Rattle.group_block.specs.Least.{Inside, Suits, Least}
+use Rattle.group_block_laws.specs.Least.{Inside, Suits, Least}
 use Rattle.group_block.proofs.Sums.{Sums, ordinary-sums, cross}
 use Rattle.group_block.proofs.Adding.{held-cases, unite-total-of}
 
 -- a layout that suits merges all that either block merged
 pub suits-merges : {K : Kind} {n : ℕ} (L : Layout n) (x y : BlockOf K n) → Suits L x y → Inside (shape x) L × Inside (shape y) L

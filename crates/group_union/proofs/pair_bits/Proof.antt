@@ -3,8 +3,8 @@ use Prim.Native.Nat.{ℕ, _+_, _*_, _^_, _<_}
 use Rattle.group_layout.specs.Layout.{merged, marks, ones}
 use Rattle.group_layout.proofs.Laws.{marks-in}
 use borrow.Author.Needs.{needs}
-use Rattle.group_block.proofs.pair_bits.Statement.{statement}
-use Rattle.group_block.proofs.pair_bits.Tie as tie
+use Rattle.group_union.proofs.pair_bits.Statement.{statement}
+use Rattle.group_union.proofs.pair_bits.Tie as tie
 
 ones-in : (n : ℕ) → ones n < 2 ^ (2 ^ n)
 unfolding marks

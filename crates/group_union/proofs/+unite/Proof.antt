@@ -5,40 +5,40 @@ use lib.Dec.{eqb}
 use Rattle.group_layout.specs.Layout.{layout}
 use Rattle.group_layout.specs.Merged.{isMerged}
 use Rattle.group_layout.proofs.Laws.{above-slot}
 use Rattle.group_block.specs.Block.{cap, block, total as total-of}
 use Rattle.group_block.specs.Sum.{fits, unite as unite-of, held as held-of}
 use Rattle.group_block.specs.Passed.{summed}
 use Rattle.group_block.proofs.Laws.{cap-mono, block-merged}
-use Rattle.group_block.proofs.Carries.{keeps, kept}
+use Rattle.group_union.proofs.Carries.{keeps, kept}
 use Rattle.group_block.proofs.Halves.{block-summed, Apart}
-use Rattle.group_block.proofs.Steps.{unite-counter, lefts-asked, rights-asked, both-join, both-sum}
-use Rattle.group_block.proofs.Pairs.{pair, pair-total, pairs-unite}
+use Rattle.group_union.proofs.Steps.{unite-counter, lefts-asked, rights-asked, both-join, both-sum}
+use Rattle.group_union.proofs.Pairs.{pair, pair-total, pairs-unite}
 use native.Mathlib.Omega.{arith}
 use borrow.Fn.Kinds.{In, Out}
 use borrow.Fn.PlainCycle.{Measures, is, falls, and}
-use Rattle.group_block.proofs.unite.Reads as unite
-use Rattle.group_block.proofs.unite.Kinds as unite-kinds
-use Rattle.group_block.proofs.+unite.Lts-unite as unite-lts
+use Rattle.group_union.proofs.unite.Reads as unite
+use Rattle.group_union.proofs.unite.Kinds as unite-kinds
+use Rattle.group_union.proofs.+unite.Lts-unite as unite-lts
 use Rattle.group_block.proofs.held.Kinds as held-kinds
 use Rattle.group_block.proofs.held.Reads as held-reads
 use Rattle.group_block.proofs.join.Kinds as join-kinds
 use Rattle.group_block.proofs.join.Reads as join-reads
 use Rattle.group_block.proofs.left_half.Kinds as left-half-kinds
 use Rattle.group_block.proofs.left_half.Reads as left-half-reads
-use Rattle.group_block.proofs.may_add.Kinds as may-add-kinds
-use Rattle.group_block.proofs.may_add.Reads as may-add-reads
-use Rattle.group_block.proofs.pair_bits.Kinds as pair-bits-kinds
-use Rattle.group_block.proofs.pair_bits.Reads as pair-bits-reads
-use Rattle.group_block.proofs.pair_sum.Kinds as pair-sum-kinds
-use Rattle.group_block.proofs.pair_sum.Reads as pair-sum-reads
+use Rattle.group_union.proofs.may_add.Kinds as may-add-kinds
+use Rattle.group_union.proofs.may_add.Reads as may-add-reads
+use Rattle.group_union.proofs.pair_bits.Kinds as pair-bits-kinds
+use Rattle.group_union.proofs.pair_bits.Reads as pair-bits-reads
+use Rattle.group_union.proofs.pair_sum.Kinds as pair-sum-kinds
+use Rattle.group_union.proofs.pair_sum.Reads as pair-sum-reads
 use Rattle.group_block.proofs.right_half.Kinds as right-half-kinds
 use Rattle.group_block.proofs.right_half.Reads as right-half-reads
 use Rattle.group_block.proofs.total.Kinds as total-kinds
 use Rattle.group_block.proofs.total.Reads as total-reads
 use Rattle.group_layout.proofs.is_merged.Kinds as is-merged-kinds
 use Rattle.group_layout.proofs.is_merged.Reads as is-merged-reads
-use Rattle.group_block.proofs.+unite.{statement}
-use Rattle.group_block.proofs.+unite.Tie.{close}
+use Rattle.group_union.proofs.+unite.{statement}
+use Rattle.group_union.proofs.+unite.Tie.{close}
 
 abbrev μ-unite : Measures 0 unite-kinds.ps ℕ
 μ-unite κs a = a .0

@@ -4,7 +4,7 @@ use Prim.Native.Nat.{ℕ, suc, _+_, _-_, _*_, _/_, _%_, _^_, _<_}
 use native.Mathlib.Omega.{arith}
 use lib.Arith.{digits-div}
 use lib.Pow.{pow-pos, shr-shr, high, ones-lt, ones-split}
-use Rattle.group_block.proofs.Places.{above}
+use Rattle.group_slots.proofs.Places.{above}
 
 pub ones-bit : (q p : ℕ) → p < q → (2 ^ q - 1) / 2 ^ p % 2 ≡ 1
 ones-bit q p h =

@@ -11,10 +11,10 @@ use lib.Dec.{ltb}
 use lib.Pow.{pow-pos, pow-add}
 use Rattle.group_layout.specs.Layout.{ones, marks}
 use Rattle.group_layout.proofs.Laws.{twice, double}
 use Rattle.group_block.specs.Block.{Block, counter, split, cap, shape, numberOf, counterAt, total}
 use Rattle.group_block.specs.Sum.{Sum, fits, held, join, add, sumTotal}
-use Rattle.group_block.proofs.Slots.{in-left, in-right, level-le}
-use Rattle.group_block.proofs.Places.{add-left, add-right, higher-both}
+use Rattle.group_slots.proofs.Slots.{in-left, in-right, level-le}
+use Rattle.group_slots.proofs.Places.{add-left, add-right, higher-both}
 
 -- two counters of level L from slot p on, and what an addition makes of the block
 pub record Twins {n : ℕ} (b : Block n) (L p u v : ℕ) : Type 0 where

@@ -13,12 +13,12 @@ use lib.Dec.{eqb, ltb}
 use lib.Pow.{pow-pos, pow-mono, pow-add, shr-shr, high, ones-lt}
 use Rattle.group_layout.specs.Layout.{Layout, merged, halves, bit, ones, marks, layout, valid}
 use Rattle.group_layout.proofs.Laws.{marks-lt, marks-in, bit-halves, marks-layout}
 use Rattle.group_block.specs.Block.{cap, block}
 use Rattle.group_block.specs.Sum.{unite}
-use Rattle.group_block.specs.Least.{together}
-use Rattle.group_block.proofs.Bits.{ones-bit, low-bit, high-bit}
+use Rattle.group_block_laws.specs.Least.{together}
+use Rattle.group_slots.proofs.Bits.{ones-bit, low-bit, high-bit}
 use Rattle.group_block.proofs.Laws.{cap-mono, cap-square}
-use Rattle.group_block.proofs.Carries.{bounds, carries, carries-lt, mask-mod, end-no-carry, no-carry-end, keeps, keeps-no-carry, no-carry-keeps}
+use Rattle.group_union.proofs.Carries.{bounds, carries, carries-lt, mask-mod, end-no-carry, no-carry-end, keeps, keeps-no-carry, no-carry-keeps}
 use Rattle.laws.proofs.Tests.{both-ways}
 
 -- Merge bit k is set where slots k and k + 1 are in one counter.

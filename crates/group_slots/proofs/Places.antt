@@ -11,11 +11,11 @@ use lib.Arith.{digits-div}
 use lib.Dec.{ltb}
 use lib.Pow.{pow-pos, pow-add, shr-shr}
 use Rattle.group_layout.specs.Layout.{Layout, halves}
 use Rattle.group_block.specs.Block.{Block, counter, split, cap, Fits, shape, numberOf, counterAt}
 use Rattle.group_block.specs.Change.{change}
 use Rattle.group_block.specs.Sum.{fits, held, join, add}
 use Rattle.group_block.proofs.Laws.{word-lt}
-use Rattle.group_block.proofs.Slots.{in-left, in-right, level-le, shifted, change-left, change-right}
+use Rattle.group_slots.proofs.Slots.{in-left, in-right, level-le, shifted, change-left, change-right}
 
 -- the first slot of the counter that slot k is in
 unfoldable pub first : {n : ℕ} → Block n → ℕ → ℕ
