@@ -11,8 +11,8 @@ use Rattle.group_layout.specs.Layout.{layout, valid}
 use Rattle.group_block.specs.Block.{Block, cap, Fits, shape, numberOf, block, counterAt}
 use Rattle.group_block.specs.Change.{change}
 use Rattle.group_block.proofs.Laws.{word-lt, shape-fill, fill-word, block-fits}
-use Rattle.group_block.proofs.Changing.{change-fits, change-shape}
-use Rattle.group_block.proofs.Slots.{change-at, change-before, counters-ext}
+use Rattle.group_slots.proofs.Changing.{change-fits, change-shape}
+use Rattle.group_slots.proofs.Slots.{change-at, change-before, counters-ext}
 use Rattle.group.specs.declared.Group.{Group}
 use Rattle.group.specs.Group.{decode, encode, read, reading, changed}
 use Rattle.group.proofs.Laws.{Eight, number-in, encode-decode}

@@ -20,7 +20,7 @@ use Rattle.group_block.specs.Passed.{summed}
 use Rattle.group_block.proofs.Adding.{Sound}
 use Rattle.group_block.proofs.Laws.{word-lt, word-block, marks-block, block-is, block-fits, total-lt}
 use Rattle.group_block.proofs.Adding.{add-total, add-sound, unite-total, unite-sound}
-use Rattle.group_block.proofs.Places.{add-in-place}
+use Rattle.group_slots.proofs.Places.{add-in-place}
 use Rattle.group.specs.declared.Group.{Group}
 use Rattle.group.specs.declared.Kept.{Kept}
 use Rattle.group.specs.declared.Outcome.{Outcome}

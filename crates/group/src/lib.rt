@@ -177,7 +177,7 @@ pub fn unite(target: Group, source: Group) -> Outcome
     }
     let word = group_bytes::number_of(target_counts);
     let source_word = group_bytes::number_of(source_counts);
-    settled(group_block::unite(3, word, target.merge, source_word, source.merge))
+    settled(group_union::unite(3, word, target.merge, source_word, source.merge))
 }
 
 // The largest level of a group's counters.

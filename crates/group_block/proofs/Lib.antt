@@ -4,14 +4,3 @@ pub mod Laws
 pub mod Adding
 pub mod Halves
 pub mod Steps
-pub mod Least
-pub mod Sides
-pub mod Counting
-pub mod Changing
-pub mod Slots
-pub mod Places
-pub mod Carries
-pub mod Bits
-pub mod Starts
-pub mod Twins
-pub mod Pairs

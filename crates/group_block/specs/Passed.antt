@@ -1,12 +1,11 @@
 -- Blocks and sums as the code passes them, by count bytes as one number and merge bits. The code's own terms; no public contract cites
 -- them.
-use Prim.Native.Nat.{ℕ, _+_, _/_, _%_, _^_, _<_}
+use Prim.Native.Nat.{ℕ, _/_, _%_, _^_, _<_}
 use mathlib.Core.Path.{_≡_}
-use mathlib.Core.Bool.{Bool, true, false, cond, not, _&&_}
-use lib.Dec.{eqb}
+use mathlib.Core.Bool.{true, false, cond}
 use Rattle.group_layout.specs.Layout.{marks, valid}
-use Rattle.group_block.specs.Block.{cap, shape, numberOf, block, total}
-use Rattle.group_block.specs.Sum.{Sum, fits, over, unite}
+use Rattle.group_block.specs.Block.{cap, shape, numberOf, block}
+use Rattle.group_block.specs.Sum.{Sum, fits, over}
 use Rattle.group_block.specs.declared.Summed.{Summed}
 
 -- a Sum: a block's count bytes as one number and its merge bits, or the sum
@@ -31,11 +30,3 @@ Sane n w m = (w < cap n) × (valid n m ≡ true)
 -- what the code passes is a block's count bytes and valid merge bits, unless it is over
 abbrev pub Apt : ℕ → Summed → Type 0
 Apt n s = s .over ≡ false → Sane n (s .word) (s .merge)
-
--- the counters of two blocks sum up to a number of 64 bits
-abbrev pub SumFits : ℕ → ℕ → ℕ → ℕ → ℕ → Type 0
-SumFits n w m w′ m′ = total (block n w m) + total (block n w′ m′) < 2 ^ 64
-
--- whether the count bytes of two blocks, taken as numbers, may be added for their union: they have one layout, and the union keeps it
-abbrev pub addsInPlace : ℕ → ℕ → ℕ → ℕ → ℕ → Bool
-addsInPlace n w m w′ m′ = let u = summed (unite (block n w m) (block n w′ m′)) in eqb m m′ && (not (u .over) && eqb (u .merge) m)

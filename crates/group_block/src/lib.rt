@@ -9,12 +9,11 @@ use group_layout::slots;
 ghost use mathlib.Core.Path.{_≡_};
 ghost use Prim.Native.Nat.{ℕ, _+_, _-_, _*_, _/_, _%_, _^_, _<_, _≤_};
 ghost use lib.Dec.{ltb};
-ghost use Rattle.group_layout.specs.Layout.{merged, halves, marks};
 ghost use Rattle.group_block.specs.Block.{cap, block};
 ghost use Rattle.group_block.specs.Block as spec;
 ghost use Rattle.group_block.specs.Sum as sum_spec;
 ghost use Rattle.group_block.specs.Sum.{sumTotal};
-ghost use Rattle.group_block.specs.Passed.{summed, sumOf, leftHalf, rightHalf, Sane, Apt, SumFits, addsInPlace};
+ghost use Rattle.group_block.specs.Passed.{summed, sumOf, leftHalf, rightHalf, Sane, Apt};
 
 // A counter that was read.
 pub struct Counter {
@@ -47,7 +46,7 @@ pub fn high_word(half: u32, word: u64) -> u64
 }
 
 // The left half, of this level.
-fn left_half(half: u32, word: u64, merge: u8) -> Summed
+pub fn left_half(half: u32, word: u64, merge: u8) -> Summed
     requires { ⌜ half ≤ 2 ⌝ }
     ensures { λ r. ⌜ r ≡ leftHalf half word merge ⌝ }
 {
@@ -59,7 +58,7 @@ fn left_half(half: u32, word: u64, merge: u8) -> Summed
 }
 
 // The right half, of this level.
-fn right_half(half: u32, word: u64, merge: u8) -> Summed
+pub fn right_half(half: u32, word: u64, merge: u8) -> Summed
     requires { ⌜ half ≤ 2 ⌝ }
     ensures { λ r. ⌜ r ≡ rightHalf half word merge ⌝ }
 {
@@ -104,7 +103,7 @@ fn holds(level: u32, value: u64) -> bool
 }
 
 // A sum stored in the one counter of a block, if it holds it.
-fn held(level: u32, sum: u64) -> Summed
+pub fn held(level: u32, sum: u64) -> Summed
     requires { ⌜ level ≤ 3 ⌝ }
     ensures { λ r. ⌜ r ≡ summed (sum_spec.held level sum) ⌝ }
 {
@@ -142,7 +141,7 @@ fn formed(half: u32, left: Summed, right: Summed) -> Summed
 }
 
 // Two halves side by side or, where one is over, their sum as one counter.
-fn join(half: u32, left: Summed, right: Summed) -> Summed
+pub fn join(half: u32, left: Summed, right: Summed) -> Summed
     requires { ⌜ half ≤ 2 ⌝ ∗ ⌜ Apt half left ⌝ ∗ ⌜ Apt half right ⌝ ∗ ⌜ sumTotal (sumOf half left) + sumTotal (sumOf half right) < 2 ^ 64 ⌝ }
     ensures { λ r. ⌜ r ≡ summed (sum_spec.join (sumOf half left) (sumOf half right)) ⌝ }
 {
@@ -178,89 +177,5 @@ pub fn add(level: u32, word: u64, merge: u8, slot: usize, amount: u64) -> Summed
         half,
         left,
         add(half, right.word, right.merge, slot - size, amount),
-    )
-}
-
-// Whether the count bytes of two blocks, taken as numbers, may be added for their union: the layouts are the same and each counter
-// holds its sum. Then nothing is carried to where a counter starts or the block ends. Merge bit k is clear where slot k + 1 starts a
-// counter or is past the block, at any level.
-fn may_add(word: u64, merge: u8, other_word: u64, other_merge: u8) -> bool
-    ensures { λ r. ⌜ ((n : ℕ) → n ≤ 3 → Sane n word merge → «other_word» < cap n → r ≡ addsInPlace n word merge «other_word» «other_merge») ⌝ }
-{
-    if merge != other_merge {
-        return false;
-    }
-    if 18446744073709551615 - word < other_word {
-        return false;
-    }
-    let starts = (((127 ^ merge) as u64 * 4432676798593) & 282578800148737) * 256;
-    (word ^ other_word ^ (word + other_word)) & starts == 0
-}
-
-// The merge bits of a block that is two counters, of this level.
-fn pair_bits(half: u32) -> u8
-    requires { ⌜ half ≤ 2 ⌝ }
-    ensures { λ r. ⌜ r ≡ marks (halves {n = half} merged merged) ⌝ }
-{
-    let bits = ones(half);
-    beside(half, bits, bits)
-}
-
-// The sum of the counters of such a block.
-fn pair_sum(half: u32, word: u64) -> u64
-    requires { ⌜ half ≤ 2 ⌝ }
-    ensures { λ r. ⌜ r ≡ word % cap half + word / cap half ⌝ }
-{
-    low_word(half, word) + high_word(half, word)
-}
-
-// Two blocks united. Where both have the same layout and each counter holds its sum, the layout stays. Where both are two counters
-// and one does not hold its sum, they become one counter.
-pub fn unite(level: u32, word: u64, merge: u8, other_word: u64, other_merge: u8) -> Summed
-    requires { ⌜ level ≤ 3 ⌝ ∗ ⌜ Sane level word merge ⌝ ∗ ⌜ Sane level «other_word» «other_merge» ⌝ ∗ ⌜ SumFits level word merge «other_word» «other_merge» ⌝ }
-    ensures { λ r. ⌜ r ≡ summed (sum_spec.unite (block level word merge) (block level «other_word» «other_merge»)) ⌝ }
-{
-    if may_add(word, merge, other_word, other_merge) {
-        return Summed {
-            over: false,
-            word: word + other_word,
-            merge,
-        };
-    }
-    if is_merged(level, merge) {
-        return held(level, word + total(level, other_word, other_merge));
-    }
-    if is_merged(level, other_merge) {
-        return held(level, total(level, word, merge) + other_word);
-    }
-    let half = level - 1;
-    let pair = pair_bits(half);
-    if merge == pair {
-        if other_merge == pair {
-            // the bytes may not be added, so one of the counters does not hold its sum
-            return held(level, pair_sum(half, word) + pair_sum(half, other_word));
-        }
-    }
-    let left = left_half(half, word, merge);
-    let right = right_half(half, word, merge);
-    let other_left = left_half(half, other_word, other_merge);
-    let other_right = right_half(half, other_word, other_merge);
-    let united = unite(
-        half,
-        left.word,
-        left.merge,
-        other_left.word,
-        other_left.merge,
-    );
-    join(
-        half,
-        united,
-        unite(
-            half,
-            right.word,
-            right.merge,
-            other_right.word,
-            other_right.merge,
-        ),
     )
 }

@@ -6,10 +6,10 @@ use native.Mathlib.Omega.{arith}
 use Rattle.group_block.specs.Kind.{Kind}
 use Rattle.group_block.specs.Block.{BlockOf, Block, counter, split, cap, shape, total}
 use Rattle.group_block.specs.Sum.{SumOf, fits, over, held, join, unite, sumTotal}
-use Rattle.group_block.specs.Least.{Inside, Least}
+use Rattle.group_block_laws.specs.Least.{Inside, Least}
 use Rattle.group_block.proofs.Sums.{Sums, cross}
 use Rattle.group_block.proofs.Adding.{held-cases, unite-total-of}
-use Rattle.group_block.proofs.Least.{unite-least-of}
+use Rattle.group_block_laws.proofs.Least.{unite-least-of}
 use Rattle.group_block_laws.specs.Union.{OfBoth, SumOfBoth}
 
 held-of-both : {K : Kind} {n : ℕ} (s : K .Value) (x y : BlockOf K n) → s ≡ K .plus (total x) (total y) → SumOfBoth (held n s) x y

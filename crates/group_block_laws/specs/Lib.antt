@@ -1,2 +1,4 @@
 pub mod Climb
 pub mod Union
+pub mod Least
+pub mod Counts

@@ -15,8 +15,8 @@ use Rattle.group_bytes.specs.Bytes.{number}
 use Rattle.group_layout.specs.Layout.{Layout, layout, valid, bit, ones}
 use Rattle.group_block.specs.declared.Counter.{Counter}
 use Rattle.group_block.specs.Block.{cap, counterAt}
-use Rattle.group_block.proofs.Slots as slots
-use Rattle.group_block.proofs.Slots.{levelOf, level-is, level-le, value-lt}
+use Rattle.group_slots.proofs.Slots as slots
+use Rattle.group_slots.proofs.Slots.{levelOf, level-is, level-le, value-lt}
 use Rattle.group.specs.declared.Group.{Group}
 use Rattle.group.specs.declared.Reading.{Reading}
 use Rattle.group.specs.Group.{validMerge, decode, read, reading, changed}

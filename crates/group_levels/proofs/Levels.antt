@@ -12,9 +12,9 @@ use lib.Pow.{pow-pos}
 use Rattle.group_layout.specs.Layout.{Layout, merged, halves, bit, ones, marks, layout, valid, widestIn, levelOf}
 use Rattle.group_layout.proofs.Laws.{marks-in, bit-halves, marks-layout, widest-le, level-le}
 use Rattle.group_block.specs.Block.{block, counterAt}
-use Rattle.group_block.proofs.Bits.{ones-bit, low-bit, high-bit}
-use Rattle.group_block.proofs.Slots.{level-block}
-use Rattle.group_block.proofs.Twins.{multiple, whole-left}
+use Rattle.group_slots.proofs.Bits.{ones-bit, low-bit, high-bit}
+use Rattle.group_slots.proofs.Slots.{level-block}
+use Rattle.group_slots.proofs.Twins.{multiple, whole-left}
 use Rattle.group_levels.specs.Levels.{ownBit, mergedAround, someOwn, mergedLevels}
 
 -- 1 for a level above j, else 0

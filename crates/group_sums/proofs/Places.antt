@@ -17,9 +17,9 @@ use Rattle.group_block.specs.Passed.{summed}
 use Rattle.group_block.proofs.Adding.{Sound}
 use Rattle.group_block.proofs.Laws.{word-lt, shape-fill, word-block, marks-block, block-fits}
 use Rattle.group_block.proofs.Adding.{add-sound}
-use Rattle.group_block.proofs.Changing.{change-fits}
-use Rattle.group_block.proofs.Slots.{level-block, halves-sum}
-use Rattle.group_block.proofs.Places.{first, first-is, value-is, InPlace, add-in-place, change-word}
+use Rattle.group_slots.proofs.Changing.{change-fits}
+use Rattle.group_slots.proofs.Slots.{level-block, halves-sum}
+use Rattle.group_slots.proofs.Places.{first, first-is, value-is, InPlace, add-in-place, change-word}
 
 -- the level that the layout has for a slot
 pub has-level : (w m k : ℕ) {r : ℕ} → r ≡ levelOf (layout 3 m) k → counterAt (block 3 w m) k .level ≡ r

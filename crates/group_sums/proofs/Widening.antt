@@ -13,7 +13,7 @@ use Rattle.group_block.specs.Passed.{summed}
 use Rattle.group_block.proofs.Adding.{Sound}
 use Rattle.group_block.proofs.Laws.{word-lt, word-block, marks-block, block-fits}
 use Rattle.group_block.proofs.Adding.{add-sound}
-use Rattle.group_block.proofs.Twins.{Twins, Widened, whole-left, widens}
+use Rattle.group_slots.proofs.Twins.{Twins, Widened, whole-left, widens}
 use Rattle.group_sums.proofs.Places.{counter-at}
 
 -- a field of the next level is two fields

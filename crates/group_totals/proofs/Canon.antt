@@ -13,10 +13,10 @@ use Rattle.group_layout.specs.Layout.{widestIn}
 use Rattle.group_block.specs.Kind.{ordinary}
 use Rattle.group_block.specs.Block.{Block, counter, split, cap, Fits, shape, counterAt, total}
 use Rattle.group_block.specs.Sum.{Sum, fits, over, sumTotal, held, join, add, unite}
-use Rattle.group_block.specs.Counts.{Adds, Counts}
+use Rattle.group_block_laws.specs.Counts.{Adds, Counts}
 use Rattle.group_block.proofs.Laws.{cap-double}
-use Rattle.group_block.proofs.Sides.{half, by-half}
-use Rattle.group_block.proofs.Counting.{total-counts, value-counts, counter-at}
+use Rattle.group_block_laws.proofs.Sides.{half, by-half}
+use Rattle.group_block_laws.proofs.Counting.{total-counts, value-counts, counter-at}
 
 -- whether a counter of level n holds the total of block i of that level; `totals n i` is that total
 unfoldable pub small : (ℕ → ℕ → ℕ) → ℕ → ℕ → Bool

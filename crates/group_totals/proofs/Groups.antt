@@ -12,7 +12,7 @@ use Rattle.group_layout.specs.Layout as layouts
 use Rattle.group_layout.proofs.Laws.{layout-marks, marks-in, widest-le}
 use Rattle.group_block.specs.Kind.{ordinary}
 use Rattle.group_block.specs.Block.{cap, shape, numberOf, counterAt}
-use Rattle.group_block.specs.Counts.{Adds}
+use Rattle.group_block_laws.specs.Counts.{Adds}
 use Rattle.answer.specs.declared.Answer.{Answer}
 use Rattle.group.specs.declared.Group.{Group}
 use Rattle.group.specs.declared.Outcome.{Outcome}

@@ -15,12 +15,12 @@ pub fn write(d: usize, w: usize, memory: &[u8], words: &mut [u32]) -> Answer
     if status != 0 {
         return answer::refused(status);
     }
-    if !image_writer::rows_valid(memory, d, w) {
+    if !image_size::rows_valid(memory, d, w) {
         return answer::refused(answer::INVALID_MERGE);
     }
-    let n = image_writer::table_size(memory, w);
+    let n = image_size::table_size(memory, w);
     let sizes = image_format::size_table(n);
-    let count = image_writer::rows_size(memory, d, w, &sizes[0..n]) + 2;
+    let count = image_size::rows_size(memory, d, w, &sizes[0..n]) + 2;
     if words.len() < count {
         return answer::refused(answer::TOO_FEW_WORDS);
     }

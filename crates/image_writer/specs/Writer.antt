@@ -1,8 +1,7 @@
 -- What the writer's functions are told and leave. The code's own terms.
 use Prim.Native.Nat.{ℕ, _+_, _*_, _/_, _≤_}
-use mathlib.Core.Path.{_≡_}
 use mathlib.Core.List.{List, _∷_, map}
-use lib.ListN.{length, getD, take, drop}
+use lib.ListN.{length, take, drop}
 use Rattle.image_format.specs.Image.{word, layoutKind, countKind, groupsWords, rowWords}
 
 -- these words have room at a position
@@ -14,13 +13,6 @@ GroupsRoom w row g p words = Room (groupsWords 4 g w row) p words
 
 abbrev pub RowRoom : ℕ → List ℕ → ℕ → List ℕ → Type 0
 RowRoom w row p words = Room (rowWords (w / 32) 0 w row) p words
-
--- four bytes that are there and are all 0
-abbrev pub fourSum : List ℕ → ℕ → ℕ
-fourSum row at = getD row at 0 + getD row (at + 1) 0 + getD row (at + 2) 0 + getD row (at + 3) 0
-
-abbrev pub FourClear : List ℕ → ℕ → Type 0
-FourClear row at = (at + 4 ≤ length row) × (fourSum row at ≡ 0)
 
 -- the words of n slots that are not merged, from count byte `at` on, and of 32 such slots from group g on
 abbrev pub countWords : ℕ → ℕ → List ℕ → List ℕ

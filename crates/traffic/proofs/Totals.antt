@@ -12,8 +12,8 @@ use lib.Pow.{shr-shr}
 use Rattle.laws.proofs.Tests.{or-cases}
 use Rattle.group_block.specs.Kind.{ordinary}
 use Rattle.group_block.specs.Block.{cap}
-use Rattle.group_block.specs.Counts.{Adds}
-use Rattle.group_block.proofs.Sides.{half}
+use Rattle.group_block_laws.specs.Counts.{Adds}
+use Rattle.group_block_laws.proofs.Sides.{half}
 use Rattle.hash.specs.Hash.{basis}
 use Rattle.meter_keys.specs.Keys.{keySlot}
 use Rattle.traffic.specs.Traffic.{Pair, amountSum, sameKey, keyTotal, blockOf, blockTotal, anyBelow, overflows, levelUpTo}

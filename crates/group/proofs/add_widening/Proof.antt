@@ -6,7 +6,7 @@ use borrow.Author.Tests.{not-true, not-false}
 use Rattle.group_bytes.specs.Bytes.{number}
 use Rattle.group_layout.specs.Layout.{valid}
 use Rattle.group_block.specs.Block.{cap, total, counterAt}
-use Rattle.group_block.proofs.Slots.{level-block, whole-total}
+use Rattle.group_slots.proofs.Slots.{level-block, whole-total}
 use Rattle.group_sums.specs.Sums.{holdsAt}
 use Rattle.group.specs.Group.{decode}
 use Rattle.group.proofs.Laws.{cap-three, holds-valid, not-held, added-invalid, added-full, added-summed}

@@ -9,7 +9,7 @@ use Rattle.group_block.specs.Sum.{Sum, add}
 use Rattle.group_block.specs.Passed.{summed}
 use Rattle.group_block.proofs.Laws.{block-fits}
 use Rattle.group_block.proofs.Adding.{add-total, add-sound, no-over}
-use Rattle.group_block.proofs.Slots.{halves-total}
+use Rattle.group_slots.proofs.Slots.{halves-total}
 use Rattle.group_sums.proofs.Places.{has-level}
 use borrow.Author.Needs.{needs}
 use Rattle.group_sums.proofs.add_widening.Statement.{statement}

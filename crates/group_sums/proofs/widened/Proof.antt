@@ -8,7 +8,7 @@ use borrow.Author.Tests.{not-false, eqb-true}
 use Rattle.group_layout.specs.Layout.{layout, levelOf}
 use Rattle.group_block.specs.Block.{cap, block, counterAt}
 use Rattle.group_block.proofs.Laws.{cap-pos}
-use Rattle.group_block.proofs.Slots.{level-block}
+use Rattle.group_slots.proofs.Slots.{level-block}
 use Rattle.group_sums.proofs.Widening.{second-in, put-in, put-is}
 use borrow.Author.Needs.{needs}
 use Rattle.group_sums.proofs.widened.Statement.{statement}

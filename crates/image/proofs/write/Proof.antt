@@ -3,7 +3,7 @@ use Prim.Native.Nat.{_+_, _≤_}
 use native.Mathlib.Omega.{arith}
 use borrow.Author.Tests.{not-true, not-false}
 use lib.ListN.{length}
-use Rattle.image_writer.proofs.Laws.{image-length}
+use Rattle.image_size.proofs.Laws.{image-length}
 use Rattle.image.proofs.Calls.{write-call, write-invalid, write-short, write-done}
 use Rattle.answer.specs.Answers.{accepted}
 use Rattle.image_format.specs.Image.{image}

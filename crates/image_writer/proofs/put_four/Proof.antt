@@ -2,8 +2,9 @@ use mathlib.Core.Path.{sym, ap, _∙_}
 use native.Mathlib.Omega.{arith}
 use lib.Seq.{sets}
 use Rattle.laws.proofs.Lists.{Bytes}
-use Rattle.image_writer.proofs.Laws.{four-length}
-use Rattle.image_writer.proofs.Plain.{clear-words, clear-size}
+use Rattle.image_size.proofs.Laws.{four-length}
+use Rattle.image_size.proofs.Plain.{clear-size}
+use Rattle.image_writer.proofs.Plain.{clear-words}
 use borrow.Author.Needs.{needs}
 use Rattle.image_writer.proofs.put_four.Statement.{statement}
 use Rattle.image_writer.proofs.put_four.Tie as tie

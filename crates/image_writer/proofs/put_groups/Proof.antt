@@ -10,7 +10,8 @@ use Rattle.group.specs.declared.Group.{Group}
 use Rattle.geometry.specs.Rows.{groupAt}
 use Rattle.image_format.specs.Image.{groupWords, groupsWords}
 use Rattle.image_format.specs.Write.{groupSize}
-use Rattle.image_writer.proofs.Laws.{put-turn, group-length, groups-length-step, groups-step, groups-none}
+use Rattle.image_size.proofs.Laws.{group-length, groups-length-step, groups-step, groups-none}
+use Rattle.image_counters.proofs.Laws.{put-turn}
 use Rattle.image_writer.proofs.put_groups.Statement.{statement}
 use Rattle.image_writer.proofs.put_groups.Tie as tie
 

@@ -5,7 +5,8 @@ use native.Mathlib.Omega.{arith}
 use lib.ListN.{length, set, length-set}
 use Rattle.word.specs.Word.{headKind}
 use Rattle.image_format.specs.Image.{word, headPayload, endWord}
-use Rattle.image_writer.proofs.Laws.{image-length, image-put}
+use Rattle.image_size.proofs.Laws.{image-length}
+use Rattle.image_writer.proofs.Laws.{image-put}
 use borrow.Author.Needs.{needs}
 use Rattle.image_writer.proofs.put_image.Statement.{statement}
 use Rattle.image_writer.proofs.put_image.Tie as tie

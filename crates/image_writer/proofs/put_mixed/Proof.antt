@@ -5,7 +5,7 @@ use native.Mathlib.Numerals.{add-one}
 use lib.ListN.{length, set, length-set}
 use lib.Seq.{sets, length-sets}
 use Rattle.image_format.specs.Image.{word, layoutKind, layoutAt, groupsWords, fourWords}
-use Rattle.image_writer.proofs.Laws.{four-length}
+use Rattle.image_size.proofs.Laws.{four-length}
 use borrow.Author.Needs.{needs}
 use Rattle.image_writer.proofs.put_mixed.Statement.{statement}
 use Rattle.image_writer.proofs.put_mixed.Tie as tie

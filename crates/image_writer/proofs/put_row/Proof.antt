@@ -7,7 +7,8 @@ use lib.ListN.{length}
 use lib.Seq.{sets}
 use native.Mathlib.Nat.{sub-zero}
 use Rattle.image_format.specs.Image.{fourWords, rowWords}
-use Rattle.image_writer.proofs.Laws.{put-turn, four-length, row-step, row-length-step, row-none}
+use Rattle.image_size.proofs.Laws.{four-length, row-step, row-length-step, row-none}
+use Rattle.image_counters.proofs.Laws.{put-turn}
 use Rattle.image_writer.proofs.put_row.Statement.{statement}
 use Rattle.image_writer.proofs.put_row.Tie as tie
 

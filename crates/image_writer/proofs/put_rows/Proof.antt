@@ -11,7 +11,8 @@ use Rattle.image_format.specs.Image.{rowWords, rowsWords}
 use Rattle.geometry.proofs.Lists.{one-row}
 use Rattle.geometry.proofs.Widths.{stride-is}
 use Rattle.geometry.proofs.Widths.{wide}
-use Rattle.image_writer.proofs.Laws.{put-turn, rows-step, rows-length-step, rows-none}
+use Rattle.image_size.proofs.Laws.{rows-step, rows-length-step, rows-none}
+use Rattle.image_counters.proofs.Laws.{put-turn}
 use Rattle.image_writer.proofs.put_rows.Statement.{statement}
 use Rattle.image_writer.proofs.put_rows.Tie as tie
 

@@ -1,0 +1,5 @@
+pub mod Slots
+pub mod Places
+pub mod Bits
+pub mod Twins
+pub mod Changing

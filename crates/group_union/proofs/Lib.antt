@@ -1,0 +1,4 @@
+pub mod Carries
+pub mod Starts
+pub mod Pairs
+pub mod Steps
