@@ -17,7 +17,7 @@ use Rattle.image_format.specs.Image.{image}
 use Rattle.image_format.specs.Write.{written}
 use Rattle.image_format.specs.Read.{taken}
 use Rattle.image.proofs.Calls.{write-done}
-use Rattle.image.proofs.Theorems.{restored}
+use Rattle.image_laws.proofs.Theorems.{restored}
 use Rattle.word.specs.Word.{payload, isDue}
 use Rattle.feed.specs.declared.Recorded.the-variants as case
 use Rattle.feed.specs.Answers.{recordAnswer}

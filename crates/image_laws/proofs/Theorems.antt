@@ -23,14 +23,14 @@ use Rattle.word.specs.Word.{headKind, endKind, go, stop, next, payload, tested,
 use Rattle.image_format.specs.Image.{word, headPayload, rowsWords, body, endWord, image}
 use Rattle.image_format.specs.Write.{validRows, Written, written}
 use Rattle.image_format.specs.Read.{checkHead, checkFours, checkEnd, checked, readRows, taken}
-use Rattle.image.specs.Meters.{Meter, IsImage}
+use Rattle.image_laws.specs.Meters.{Meter, IsImage}
 use Rattle.image.proofs.Calls.{Sound, sound-call, write-call, write-invalid, write-short, write-done, read-call, read-faulty, read-done}
 use Rattle.image_format.proofs.Laws.{log-width-most}
 use Rattle.image_checker.proofs.Digits.{payload-here, due-here, below-here}
 use Rattle.word.proofs.Passed.{passed, tested-is}
-use Rattle.image.proofs.Exact.{rows-are}
+use Rattle.image_laws.proofs.Exact.{rows-are}
 use Rattle.image.proofs.Sharp.{sharp-at}
-use Rattle.image.proofs.Rows.{Rows, afterRows, rows-restored}
+use Rattle.image_laws.proofs.Rows.{Rows, afterRows, rows-restored}
 
 head-lt : (d w : ℕ) → d ≤ 8 → headPayload d w < 2 ^ 9
 unfolding headPayload

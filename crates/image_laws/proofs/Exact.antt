@@ -26,9 +26,9 @@ use Rattle.image_format.specs.Image.{word, layoutKind, layoutAt, groupWords, gr
 use Rattle.image_format.specs.Write.{allValid, validRows, groupSize}
 use Rattle.image_format.specs.Read.{mergesAt, checkSlots, checkGroups, checkFour, checkFours, readGroup, readGroups, afterGroups, readFours, afterFours, readRows}
 use Rattle.word.proofs.Laws.{both}
-use Rattle.image.proofs.Rows.{with-length, with-before, with-counts, with-merge, with-after, merges-from}
+use Rattle.image_laws.proofs.Rows.{with-length, with-before, with-counts, with-merge, with-after, merges-from}
 use Rattle.word.proofs.Passed.{passed, below-is}
-use Rattle.image.proofs.Accepting.{group-is}
+use Rattle.image_laws.proofs.Accepting.{group-is}
 
 -- a group that was stored, and the groups before it
 module _ (w g : ℕ) (row : List ℕ) (x : Group) (o : Eight (x .counts)) (a : 8 * g + 8 ≤ w) (b : w + g < length row) where
