@@ -1,0 +1,138 @@
+//! `meter ask`: figures of keys.
+
+use crate::cli::{decimal, refused, shown, usage, Arguments, Outcome};
+use crate::files::{self, Output, Progress};
+use crate::image;
+use crate::text;
+use crate::words::Key;
+use std::collections::HashSet;
+use std::ffi::OsString;
+use std::net::IpAddr;
+use std::os::unix::ffi::OsStrExt;
+
+pub const HELP: &str = "\
+Says what a meter's image has counted for keys: a line for each, the key and its figure.
+
+usage: meter ask IMAGE KEY.. [--ip]
+       meter ask IMAGE --keys FILE [--top N] [--ip]
+
+A figure is never below what the key sent. A key is 1 to 64 bytes without blanks, or 0x and hexadecimal digits for any bytes.
+Either IMAGE or FILE may be -, standard input. Keys that start with - come after --.
+
+  --keys FILE   keys, a line each; blank lines and lines that start with # are skipped. Keys of the command line come first.
+  --top N       the N keys with the largest figures, largest first, each key once; equal figures in the order given
+  --ip          keys are IP addresses, as those of meter feed --from-pcap --key src|dst
+";
+
+/// A key and what it was called.
+struct Asked {
+    key: Key,
+    name: String,
+}
+
+fn parse(part: &[u8], ip: bool) -> Result<Asked, String> {
+    if ip {
+        let address = std::str::from_utf8(part).ok().and_then(|part| part.parse::<IpAddr>().ok());
+        let (address, bytes) = match address {
+            Some(IpAddr::V4(a)) => (IpAddr::V4(a), a.octets().to_vec()),
+            Some(IpAddr::V6(a)) => (IpAddr::V6(a), a.octets().to_vec()),
+            None => match text::parse_key(part) {
+                // as --list writes them
+                Ok(key) if part.starts_with(b"0x") && matches!(key.bytes().len(), 4 | 16) => {
+                    return Ok(Asked {
+                        name: address_of(key.bytes()),
+                        key,
+                    })
+                }
+                _ => return Err(format!("{} is no IP address", shown(part))),
+            },
+        };
+        return Key::new(&bytes)
+            .map(|key| Asked {
+                key,
+                name: address.to_string(),
+            })
+            .ok_or_else(|| "no key".to_string());
+    }
+    let key = text::parse_key(part)?;
+    let mut name = String::new();
+    text::show_key(key.bytes(), &mut name);
+    Ok(Asked { key, name })
+}
+
+fn address_of(bytes: &[u8]) -> String {
+    match (<[u8; 4]>::try_from(bytes), <[u8; 16]>::try_from(bytes)) {
+        (Ok(four), _) => IpAddr::from(four).to_string(),
+        (_, Ok(sixteen)) => IpAddr::from(sixteen).to_string(),
+        _ => String::new(),
+    }
+}
+
+pub fn run(given: &[OsString]) -> Outcome {
+    let arguments = Arguments::parse(given, &[("--keys", 1), ("--top", 1), ("--ip", 0)])?;
+    let Some((file, parts)) = arguments.rest.split_first() else {
+        return usage("an image is missing");
+    };
+    let top = match arguments.value("--top").map(OsStrExt::as_bytes) {
+        None => None,
+        Some(digits) => match decimal(digits) {
+            Some(n) => Some(usize::try_from(n).unwrap_or(usize::MAX)),
+            None => return usage(format_args!("--top takes a number, not {}", shown(digits))),
+        },
+    };
+    let ip = arguments.has("--ip");
+    let keys = arguments.value("--keys");
+    if parts.is_empty() && keys.is_none() {
+        return usage("no key to ask for");
+    }
+    if file == "-" && keys.is_some_and(|keys| keys == "-") {
+        return usage("standard input can be read once");
+    }
+    let mut asked = Vec::new();
+    for part in parts {
+        match parse(part.as_bytes(), ip) {
+            Ok(one) => asked.push(one),
+            Err(what) => return refused(format_args!("key {}: {what}", shown(part.as_bytes()))),
+        }
+    }
+    let meter = image::load(file)?;
+    if let Some(keys) = keys {
+        let content = files::read_all(keys)?;
+        for (n, line) in text::lines(&content).enumerate() {
+            let part = line.trim_ascii();
+            if part.is_empty() || part.starts_with(b"#") {
+                continue;
+            }
+            let one = if part.iter().any(|b| matches!(b, b' ' | b'\t')) {
+                Err("one key a line".to_string())
+            } else {
+                parse(part, ip)
+            };
+            match one {
+                Ok(one) => asked.push(one),
+                Err(what) => return refused(format_args!("{}: line {}: {what}", files::name(keys), n + 1)),
+            }
+        }
+    }
+    let mut progress = Progress::beside_lines("ask");
+    let mut figures = Vec::with_capacity(asked.len());
+    let mut known = HashSet::new();
+    for (n, one) in asked.iter().enumerate() {
+        progress.at(n as u64, Some(asked.len() as u64), "keys");
+        if top.is_some() && !known.insert(one.key.bytes()) {
+            continue;
+        }
+        figures.push((image::expect(meter.estimate(one.key.bytes()))?, &one.name));
+    }
+    if let Some(top) = top {
+        // equal figures stay in order
+        figures.sort_by_key(|(figure, _)| std::cmp::Reverse(*figure));
+        figures.truncate(top);
+    }
+    drop(progress);
+    let mut output = Output::standard()?;
+    for (figure, name) in figures {
+        output.put(format!("{name} {figure}\n").as_bytes())?;
+    }
+    output.flush()
+}
