@@ -91,7 +91,8 @@ pub fn faulty_word(refused: &Refused, bytes: &[u8]) -> String {
         .unwrap_or(&[]);
     let word = match rest.len() {
         0 => "missing".to_string(),
-        n @ 1..=3 => format!("cut after {n} bytes"),
+        1 => "cut after 1 byte".to_string(),
+        n @ 2..=3 => format!("cut after {n} bytes"),
         _ => format!("{:08X}", words::word(&rest[..4])),
     };
     format!("word {place} ({word}): number {}: {}", refused.number(), refused.reason)
