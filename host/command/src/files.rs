@@ -213,7 +213,7 @@ impl Progress {
     /// So much is done, of so much if that is known. Cheap enough to be called for every record.
     pub fn at(&mut self, done: u64, all: Option<u64>, unit: &str) {
         self.calls = self.calls.wrapping_add(1);
-        if self.calls % 1024 != 0 {
+        if !self.calls.is_multiple_of(1024) {
             return;
         }
         let Some(due) = self.due else { return };

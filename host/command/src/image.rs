@@ -35,7 +35,7 @@ pub fn parse(bytes: &[u8]) -> Result<Meter, Refused> {
 
 /// Bytes short of a word that follow a sound image follow its end.
 pub fn no_leftover(bytes: &[u8]) -> Result<(), Refused> {
-    if bytes.len() % 4 == 0 {
+    if bytes.len().is_multiple_of(4) {
         return Ok(());
     }
     Err(Refused {

@@ -30,7 +30,7 @@ pub fn parse_key(part: &[u8]) -> Result<Key, String> {
     };
     let digits = &part[2..];
     let slip = || "0x needs an even number of hexadecimal digits".to_string();
-    if digits.is_empty() || digits.len() % 2 != 0 {
+    if digits.is_empty() || !digits.len().is_multiple_of(2) {
         return Err(slip());
     }
     let nibble = |digit: u8| (digit as char).to_digit(16).map(|n| n as u8).ok_or_else(slip);
