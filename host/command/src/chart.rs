@@ -8,7 +8,7 @@ use crate::image;
 use crate::layout::{self, bits, Counter, Use, LEVELS};
 use meter::Meter;
 use std::ffi::{OsStr, OsString};
-use svg::{Anchor, Svg};
+use svg::{Anchor, Font, Svg};
 
 pub const HELP: &str = "\
 Draws an image as SVG: rows as strips, counters by level, a legend.
@@ -16,8 +16,9 @@ Draws an image as SVG: rows as strips, counters by level, a legend.
 usage: meter chart [IMAGE] -o FILE.svg
 
 A file left out or - is standard input; -o - is standard output. A strip is one row from slot 0 on. Height and hue of a counter
-are its level, lightness its figure: the darker, the larger within what the level can hold. Of rows wider than 512 slots each column of
-the picture shows the widest counter of several slots, and the largest figure of those.
+are its level, lightness its figure: the darker, the larger within what the level can hold. Of rows wider than 512 slots each column
+of the picture shows several slots: the widest counter's level, the largest figure at that level, and in a band below how many of
+the slots are in use.
 ";
 
 pub fn run(given: &[OsString]) -> Outcome {
@@ -45,18 +46,45 @@ fn title(file: &OsStr) -> String {
     format!("\u{2026}{end}")
 }
 
-// The picture's measures. A strip has a column of two pixels or more for every slot or bin.
+// The picture's measures. A strip has a column of two pixels or more for every slot or for several.
 const WIDTH: usize = 1280;
 const LEFT: usize = 84;
 const STRIP: usize = 1024;
 const COLUMNS: usize = 512;
 const ROW: usize = 46;
-const GAP: usize = 12;
+const GAP: usize = 18;
 const TOP: usize = 128;
-const INK: &str = "#1c2733";
-const FAINT: &str = "#5b6876";
+/// The band under a strip whose columns show several slots: its height, and the space above it.
+const BAND: usize = 6;
+const ABOVE_BAND: usize = 2;
+
 const LINE: &str = "#c9d1d9";
-const CLEAR: &str = "#e9edf1";
+const CLEAR: [u8; 3] = [0xe9, 0xed, 0xf1];
+const FULL: [u8; 3] = [0x33, 0x3f, 0x4b];
+
+const LABEL: Font = Font {
+    size: 15,
+    fill: "#1c2733",
+    bold: false,
+    anchor: Anchor::Start,
+};
+const TITLE: Font = Font {
+    size: 24,
+    bold: true,
+    ..LABEL
+};
+const HEAD: Font = Font {
+    size: 17,
+    bold: true,
+    ..LABEL
+};
+const LEAD: Font = Font { size: 16, ..LABEL };
+const NUMBER: Font = Font { size: 14, ..LABEL };
+const NOTE: Font = Font {
+    size: 13,
+    fill: "#5b6876",
+    ..LABEL
+};
 
 /// From light to dark, by level: blue, green, orange, purple, apart for every kind of colour vision, as the heights are.
 const SHADES: [([u8; 3], [u8; 3]); LEVELS] = [
@@ -76,11 +104,11 @@ fn magnitudes(level: usize) -> (u32, u32) {
 fn shade(level: usize, figure: u64) -> String {
     let (from, to) = magnitudes(level);
     let magnitude = figure.max(1).ilog2().clamp(from, to);
-    blend(level, magnitude - from, to - from)
+    blend(SHADES[level], magnitude - from, to - from)
 }
 
-fn blend(level: usize, part: u32, of: u32) -> String {
-    let (light, dark) = SHADES[level];
+/// The colour so far on the way from one to another.
+fn blend((light, dark): ([u8; 3], [u8; 3]), part: u32, of: u32) -> String {
     let mut colour = String::from("#");
     for (light, dark) in light.into_iter().zip(dark) {
         let mixed = (u32::from(light) * (of - part) + u32::from(dark) * part) / of;
@@ -89,32 +117,29 @@ fn blend(level: usize, part: u32, of: u32) -> String {
     colour
 }
 
-/// The height of a counter in its strip: 18 pixels at level 0, all at level 3.
+/// The height of a counter in its strip: 19 pixels at level 0, all at level 3.
 fn height(level: usize) -> usize {
     ROW - (LEVELS - 1 - level) * 9
 }
 
-/// One column of a strip, or several that are alike.
-#[derive(Clone, Copy, PartialEq, Eq)]
+/// What one column of a strip shows: the widest counter's level, the largest figure at that level, and how many of its slots are in
+/// counters that are in use.
+#[derive(Clone, Copy, Default, PartialEq, Eq)]
 struct Column {
     level: usize,
     figure: u64,
+    used: usize,
 }
 
-/// The columns of a row: of each the widest counter's level and the largest figure of counters of that level.
 fn columns(counters: &[Counter], w: usize) -> Vec<Column> {
     let n = w.min(COLUMNS);
     let slots = w / n;
-    let mut columns = vec![Column { level: 0, figure: 0 }; n];
+    let mut columns = vec![Column::default(); n];
     for counter in counters {
-        let last = counter.slot + counter.slots() - 1;
-        for column in &mut columns[counter.slot / slots..=last / slots] {
-            if (counter.level, counter.figure) > (column.level, column.figure) {
-                *column = Column {
-                    level: counter.level,
-                    figure: counter.figure,
-                };
-            }
+        for slot in counter.slot..counter.slot + counter.slots() {
+            let column = &mut columns[slot / slots];
+            (column.level, column.figure) = (column.level, column.figure).max((counter.level, counter.figure));
+            column.used += usize::from(counter.figure > 0);
         }
     }
     columns
@@ -124,11 +149,10 @@ fn draw(name: &str, meter: &Meter, widest: usize) -> String {
     let (d, w) = (meter.d(), meter.w());
     let in_use = layout::in_use(meter);
     let axis = TOP + d * (ROW + GAP);
-    let panels = axis + 92;
-    let height = panels + 232;
+    let panels = axis + 86;
     let mut svg = Svg::new(
         WIDTH,
-        height,
+        panels + 262,
         &format!("Traffic meter {name}: {d} rows of {w} slots, widest level {widest}"),
     );
     heading(&mut svg, name, meter, widest, &in_use);
@@ -137,12 +161,12 @@ fn draw(name: &str, meter: &Meter, widest: usize) -> String {
     }
     slots_axis(&mut svg, w, axis);
     histogram(&mut svg, &in_use, panels);
-    legend(&mut svg, panels, (d * w) as u64, &in_use);
+    legend(&mut svg, panels, meter, &in_use);
     svg.finish()
 }
 
 fn heading(svg: &mut Svg, name: &str, meter: &Meter, widest: usize, in_use: &Use) {
-    svg.text(LEFT, 46, Anchor::Start, 24, INK, true, name);
+    svg.text(LEFT, 46, TITLE, name);
     let used: u64 = in_use.used.iter().sum();
     let line = format!(
         "{} {} of {} slots \u{b7} widest level {widest} ({} bits) \u{b7} {} counters in use \u{b7} largest figure {}",
@@ -153,196 +177,149 @@ fn heading(svg: &mut Svg, name: &str, meter: &Meter, widest: usize, in_use: &Use
         thousands(used.into()),
         thousands(in_use.largest.into())
     );
-    svg.text(LEFT, 76, Anchor::Start, 16, INK, false, &line);
-    svg.text(
-        LEFT + STRIP + 14,
-        TOP - 10,
-        Anchor::Start,
-        13,
-        FAINT,
-        false,
-        "row\u{2019}s total",
-    );
+    svg.text(LEFT, 76, LEAD, &line);
+    svg.text(LEFT + STRIP + 14, TOP - 10, NOTE, "row\u{2019}s total");
 }
 
 fn strip(svg: &mut Svg, meter: &Meter, row: usize, top: usize, total: u128) {
-    svg.text(
-        LEFT - 12,
-        top + ROW / 2 + 5,
-        Anchor::End,
-        15,
-        INK,
-        false,
-        &format!("row {row}"),
-    );
-    svg.rect(LEFT, top, STRIP, ROW, CLEAR, "");
+    let middle = top + ROW / 2 + 5;
+    svg.text(LEFT - 12, middle, LABEL.anchored(Anchor::End), &format!("row {row}"));
+    svg.text(LEFT + STRIP + 14, middle, LABEL, &short(total));
+    svg.rect(LEFT, top, STRIP, ROW, &blend((CLEAR, FULL), 0, 1));
     let counters = layout::row(meter, row);
-    let w = meter.w();
-    if w <= COLUMNS {
-        let pixels = STRIP / w;
-        for c in counters.iter().filter(|c| c.level > 0 || c.figure > 0) {
-            let note = format!(
-                "row {row}, slot {}: level {}, figure {}",
-                c.slot,
-                c.level,
-                thousands(c.figure.into())
-            );
-            // a line of the ground between counters, where there is room
-            let between = usize::from(pixels >= 4);
-            column(
-                svg,
-                c.slot * pixels,
-                c.slots() * pixels - between,
-                top,
-                c.level,
-                c.figure,
-                &note,
-            );
-        }
-    } else {
-        let (pixels, slots) = (STRIP / COLUMNS, w / COLUMNS);
-        let columns = columns(&counters, w);
-        for (i, c) in columns.iter().enumerate().filter(|(_, c)| c.level > 0 || c.figure > 0) {
-            let note = format!(
-                "row {row}, slots {} to {}: level {}, up to {}",
-                i * slots,
-                (i + 1) * slots - 1,
-                c.level,
-                thousands(c.figure.into())
-            );
-            column(svg, i * pixels, pixels, top, c.level, c.figure, &note);
-        }
+    if meter.w() > COLUMNS {
+        return binned(svg, &columns(&counters, meter.w()), meter.w() / COLUMNS, row, top);
     }
-    svg.text(
-        LEFT + STRIP + 14,
-        top + ROW / 2 + 5,
-        Anchor::Start,
-        15,
-        INK,
-        false,
-        &short(total),
-    );
+    let pixels = STRIP / meter.w();
+    // a line of the ground between counters, where there is room
+    let between = usize::from(pixels >= 4);
+    for c in counters.iter().filter(|c| c.level > 0 || c.figure > 0) {
+        let figure = thousands(c.figure.into());
+        let note = format!("row {row}, slot {}: level {}, figure {figure}", c.slot, c.level);
+        let (x, tall) = (LEFT + c.slot * pixels, height(c.level));
+        let width = c.slots() * pixels - between;
+        svg.noted(x, top + ROW - tall, width, tall, &shade(c.level, c.figure), &note);
+    }
 }
 
-fn column(svg: &mut Svg, x: usize, width: usize, top: usize, level: usize, figure: u64, note: &str) {
-    let tall = height(level);
-    svg.rect(LEFT + x, top + ROW - tall, width, tall, &shade(level, figure), note);
+/// A strip whose columns show so many slots each, and the band of how many of them are in use.
+fn binned(svg: &mut Svg, columns: &[Column], slots: usize, row: usize, top: usize) {
+    let pixels = STRIP / COLUMNS;
+    for (i, c) in columns.iter().enumerate() {
+        let x = LEFT + i * pixels;
+        let used = (c.used * 16).div_ceil(slots) as u32;
+        let band = top + ROW + ABOVE_BAND;
+        svg.rect(x, band, pixels, BAND, &blend((CLEAR, FULL), used, 16));
+        if c.level == 0 && c.figure == 0 {
+            continue;
+        }
+        let (first, last, figure) = (i * slots, (i + 1) * slots - 1, thousands(c.figure.into()));
+        let note = format!(
+            "row {row}, slots {first} to {last}: level {}, up to {figure}, {} of {slots} in use",
+            c.level, c.used
+        );
+        let tall = height(c.level);
+        svg.noted(x, top + ROW - tall, pixels, tall, &shade(c.level, c.figure), &note);
+    }
 }
 
 fn slots_axis(svg: &mut Svg, w: usize, y: usize) {
     for quarter in 0..=4 {
         let x = LEFT + STRIP * quarter / 4;
-        svg.line(x, y - GAP + 2, x, y - GAP + 9, FAINT);
-        svg.text(
-            x,
-            y + 16,
-            Anchor::Middle,
-            14,
-            INK,
-            false,
-            &thousands((w * quarter / 4) as u128),
-        );
+        svg.line(x, y - 8, x, y, NOTE.fill);
+        let slot = thousands((w * quarter / 4) as u128);
+        svg.text(x, y + 18, NUMBER.anchored(Anchor::Middle), &slot);
     }
     let note = match w / COLUMNS {
         0 | 1 => "slot".to_string(),
-        n => format!("slot \u{2014} each column shows the widest counter of {n} slots and the largest figure at that level"),
+        n => format!(
+            "slot \u{2014} a column is the widest of {n} slots\u{2019} counters and the largest figure at its level; the band below, how many are in use"
+        ),
     };
-    svg.text(LEFT + STRIP / 2, y + 40, Anchor::Middle, 14, FAINT, false, &note);
+    svg.text(LEFT + STRIP / 2, y + 40, NOTE.anchored(Anchor::Middle), &note);
 }
 
 /// Counters by level on a scale of powers of ten: all of them pale, those in use full.
 fn histogram(svg: &mut Svg, in_use: &Use, top: usize) {
     const FROM: usize = LEFT + 62;
     const ROOM: usize = 330;
-    svg.text(LEFT, top, Anchor::Start, 17, INK, true, "Counters by level");
+    const STEP: usize = 36;
+    svg.text(LEFT, top, HEAD, "Counters by level");
     let most = in_use.counters.iter().copied().max().unwrap_or(0).max(10);
     let decades = (most as f64).log10().ceil();
-    let along = |n: u64| {
-        if n == 0 {
-            0
-        } else {
-            // one counter can be seen too
-            ((n as f64).log10() / decades * (ROOM - 6) as f64) as usize + 6
-        }
+    // one counter can be seen too
+    let along = |n: u64| match n {
+        0 => 0,
+        n => ((n as f64).log10() / decades * (ROOM - 6) as f64) as usize + 6,
     };
-    let bottom = top + 26 + LEVELS * 36;
+    let bottom = top + 26 + LEVELS * STEP;
     // there are at most 8 * 65,536 counters
     for (power, label) in (0..=decades as u32).zip(["1", "10", "100", "1 k", "10 k", "100 k", "1 M"]) {
         let x = FROM + along(10u64.pow(power));
         svg.line(x, top + 18, x, bottom, LINE);
-        svg.text(x, bottom + 18, Anchor::Middle, 13, FAINT, false, label);
+        svg.text(x, bottom + 18, NOTE.anchored(Anchor::Middle), label);
     }
     for level in 0..LEVELS {
-        let y = top + 26 + level * 36;
+        let y = top + 26 + level * STEP;
         let (counters, used) = (in_use.counters[level], in_use.used[level]);
-        svg.text(FROM - 10, y + 19, Anchor::End, 15, INK, false, &format!("level {level}"));
-        svg.rect(FROM, y + 2, along(counters), 24, &blend(level, 0, 1), "");
-        svg.rect(FROM, y + 2, along(used), 24, &blend(level, 3, 4), "");
+        svg.text(FROM - 10, y + 19, LABEL.anchored(Anchor::End), &format!("level {level}"));
+        svg.rect(FROM, y + 2, along(counters), 24, &blend(SHADES[level], 0, 1));
+        svg.rect(FROM, y + 2, along(used), 24, &blend(SHADES[level], 3, 4));
         let label = match counters {
             0 => "none".to_string(),
             _ => format!("{} in use of {}", thousands(used.into()), thousands(counters.into())),
         };
-        svg.text(FROM + ROOM + 14, y + 19, Anchor::Start, 14, INK, false, &label);
+        svg.text(FROM + ROOM + 14, y + 19, NUMBER, &label);
     }
-    svg.text(
-        FROM + ROOM / 2,
-        bottom + 40,
-        Anchor::Middle,
-        13,
-        FAINT,
-        false,
-        "counters (each step is ten times as many)",
-    );
+    let note = "counters (each step is ten times as many)";
+    svg.text(FROM + ROOM / 2, bottom + 40, NOTE.anchored(Anchor::Middle), note);
 }
 
 /// What height, hue and lightness mean, and the share of slots that each level has.
-fn legend(svg: &mut Svg, top: usize, slots: u64, in_use: &Use) {
+fn legend(svg: &mut Svg, top: usize, meter: &Meter, in_use: &Use) {
     const FROM: usize = 740;
-    const SHADES_FROM: usize = FROM + 134;
+    const RIGHT: usize = WIDTH - 36;
+    const SCALE: usize = FROM + 134;
     const STEP: usize = 15;
-    svg.text(FROM, top, Anchor::Start, 17, INK, true, "Level and figure");
-    svg.text(WIDTH - 36, top, Anchor::End, 13, FAINT, false, "share of slots");
+    const AFTER: usize = SCALE + 8 * STEP + 12;
+    svg.text(FROM, top, HEAD, "Level and figure");
+    svg.text(RIGHT, top, NOTE.anchored(Anchor::End), "share of slots");
+    let slots = (meter.d() * meter.w()) as u64;
     for level in 0..LEVELS {
         let bottom = top + 52 + level * 36;
-        svg.text(
-            FROM,
-            bottom - 7,
-            Anchor::Start,
-            15,
-            INK,
-            false,
-            &format!("level {level}, {} bits", bits(level)),
-        );
+        svg.text(FROM, bottom - 7, LABEL, &format!("level {level}, {} bits", bits(level)));
         let tall = height(level) * 5 / 8;
         for step in 0..8 {
-            svg.rect(
-                SHADES_FROM + step * STEP,
-                bottom - tall,
-                STEP,
-                tall,
-                &blend(level, step as u32, 7),
-                "",
-            );
+            let colour = blend(SHADES[level], step as u32, 7);
+            svg.rect(SCALE + step * STEP, bottom - tall, STEP, tall, &colour);
         }
         let (from, to) = magnitudes(level);
         let range = match level {
             3 => format!("{} and more", short(1 << from)),
             _ => format!("{} to {}", short(1 << from), short((1u128 << (to + 1)) - 1)),
         };
-        svg.text(SHADES_FROM + 8 * STEP + 12, bottom - 7, Anchor::Start, 14, INK, false, &range);
-        let held = if level == 0 {
-            in_use.used[0]
-        } else {
-            in_use.counters[level] << level
+        svg.text(AFTER, bottom - 7, NUMBER, &range);
+        let held = match level {
+            0 => in_use.used[0],
+            _ => in_use.counters[level] << level,
         };
-        svg.text(WIDTH - 36, bottom - 7, Anchor::End, 14, INK, false, &share(held, slots));
+        svg.text(RIGHT, bottom - 7, NUMBER.anchored(Anchor::End), &share(held, slots));
     }
     let y = top + 52 + LEVELS * 36;
-    svg.text(FROM, y - 5, Anchor::Start, 15, INK, false, "clear slot");
-    svg.rect(SHADES_FROM, y - 18, 8 * STEP, 18, CLEAR, "");
+    svg.text(FROM, y - 5, LABEL, "clear slot");
+    svg.rect(SCALE, y - 18, 8 * STEP, 18, &blend((CLEAR, FULL), 0, 1));
+    svg.text(AFTER, y - 5, NUMBER, "0");
     let clear = in_use.counters[0] - in_use.used[0];
-    svg.text(SHADES_FROM + 8 * STEP + 12, y - 5, Anchor::Start, 14, INK, false, "0");
-    svg.text(WIDTH - 36, y - 5, Anchor::End, 14, INK, false, &share(clear, slots));
+    svg.text(RIGHT, y - 5, NUMBER.anchored(Anchor::End), &share(clear, slots));
+    if meter.w() > COLUMNS {
+        let y = y + 32;
+        svg.text(FROM, y - 1, LABEL, "slots in use");
+        for step in 0..8 {
+            let colour = blend((CLEAR, FULL), step as u32, 7);
+            svg.rect(SCALE + step * STEP, y - BAND - 3, STEP, BAND, &colour);
+        }
+        svg.text(AFTER, y - 1, NUMBER, "none to all");
+    }
 }
 
 /// A share in percent with one digit behind the point; what is there is never 0.

@@ -2,10 +2,26 @@
 
 use std::fmt::Write;
 
+#[derive(Clone, Copy)]
 pub enum Anchor {
     Start,
     Middle,
     End,
+}
+
+/// How a text is set.
+#[derive(Clone, Copy)]
+pub struct Font {
+    pub size: usize,
+    pub fill: &'static str,
+    pub bold: bool,
+    pub anchor: Anchor,
+}
+
+impl Font {
+    pub const fn anchored(self, anchor: Anchor) -> Font {
+        Font { anchor, ..self }
+    }
 }
 
 pub struct Svg {
@@ -20,7 +36,7 @@ impl Svg {
              role=\"img\" font-family=\"Helvetica, Arial, 'DejaVu Sans', sans-serif\">\n<title>{}</title>\n",
             escaped(title)
         ));
-        svg.rect(0, 0, width, height, "#ffffff", "");
+        svg.rect(0, 0, width, height, "#ffffff");
         svg
     }
 
@@ -29,11 +45,12 @@ impl Svg {
         let _ = self.text.write_fmt(what);
     }
 
-    /// A rectangle; the note is what a reader's pointer brings up.
-    pub fn rect(&mut self, x: usize, y: usize, width: usize, height: usize, fill: &str, note: &str) {
-        if width == 0 {
-            return;
-        }
+    pub fn rect(&mut self, x: usize, y: usize, width: usize, height: usize, fill: &str) {
+        self.noted(x, y, width, height, fill, "");
+    }
+
+    /// A rectangle with a note that a reader's pointer brings up.
+    pub fn noted(&mut self, x: usize, y: usize, width: usize, height: usize, fill: &str, note: &str) {
         self.put(format_args!(
             "<rect x=\"{x}\" y=\"{y}\" width=\"{width}\" height=\"{height}\" fill=\"{fill}\""
         ));
@@ -50,14 +67,14 @@ impl Svg {
         ));
     }
 
-    #[allow(clippy::too_many_arguments)]
-    pub fn text(&mut self, x: usize, y: usize, anchor: Anchor, size: usize, fill: &str, bold: bool, content: &str) {
-        let anchor = match anchor {
+    pub fn text(&mut self, x: usize, y: usize, font: Font, content: &str) {
+        let anchor = match font.anchor {
             Anchor::Start => "start",
             Anchor::Middle => "middle",
             Anchor::End => "end",
         };
-        let weight = if bold { " font-weight=\"bold\"" } else { "" };
+        let (size, fill) = (font.size, font.fill);
+        let weight = if font.bold { " font-weight=\"bold\"" } else { "" };
         self.put(format_args!(
             "<text x=\"{x}\" y=\"{y}\" text-anchor=\"{anchor}\" font-size=\"{size}\" fill=\"{fill}\"{weight}>{}</text>\n",
             escaped(content)
