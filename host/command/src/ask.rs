@@ -96,8 +96,9 @@ pub fn run(given: &[OsString]) -> Outcome {
         }
     }
     let meter = image::load(file)?;
+    let mut progress = Progress::beside_lines("ask");
     if let Some(keys) = keys {
-        let content = files::read_all(keys)?;
+        let content = files::read_all(keys, &mut progress)?;
         for (n, line) in text::lines(&content).enumerate() {
             let part = line.trim_ascii();
             if part.is_empty() || part.starts_with(b"#") {
@@ -114,7 +115,6 @@ pub fn run(given: &[OsString]) -> Outcome {
             }
         }
     }
-    let mut progress = Progress::beside_lines("ask");
     let mut figures = Vec::with_capacity(asked.len());
     let mut known = HashSet::new();
     for (n, one) in asked.iter().enumerate() {

@@ -75,9 +75,11 @@ pub fn run(given: &[OsString]) -> Outcome {
 fn from_text(arguments: &Arguments) -> Outcome {
     let file = arguments.file()?;
     files::not_to_a_terminal(arguments.output())?;
-    let content = files::read_all(file)?;
     let mut progress = Progress::new("feed");
-    match text::to_feed(&content, &mut progress) {
+    let content = files::read_all(file, &mut progress)?;
+    let made = text::to_feed(&content, &mut progress);
+    drop(progress);
+    match made {
         Ok(feed) => files::write(arguments.output(), &feed),
         Err(mistake) => refused(format_args!("{}: line {}: {}", files::name(file), mistake.line, mistake.what)),
     }
@@ -85,9 +87,11 @@ fn from_text(arguments: &Arguments) -> Outcome {
 
 fn to_text(arguments: &Arguments) -> Outcome {
     let file = arguments.file()?;
-    let content = files::read_all(file)?;
     let mut progress = Progress::new("feed");
-    match text::from_feed(&content, &mut progress) {
+    let content = files::read_all(file, &mut progress)?;
+    let made = text::from_feed(&content, &mut progress);
+    drop(progress);
+    match made {
         Ok(text) => files::write(arguments.output(), text.as_bytes()),
         Err(r) => refused(format_args!("{}: {}", files::name(file), crate::faulty_word(&r, &content))),
     }

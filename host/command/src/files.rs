@@ -41,13 +41,19 @@ impl Input {
         }
     }
 
-    /// All that is left.
-    pub fn all(&mut self) -> Outcome<Vec<u8>> {
-        let mut bytes = Vec::with_capacity(self.length.unwrap_or(0) as usize);
-        match self.read_to_end(&mut bytes) {
-            Ok(_) => Ok(bytes),
-            Err(error) => refused(format_args!("{}: {error}", self.name)),
+    /// The bytes up to the end, or so many of them.
+    fn up_to(&mut self, most: usize, progress: &mut Progress) -> Outcome<Vec<u8>> {
+        let mut bytes = Vec::new();
+        let mut room = vec![0; 1 << 16];
+        while bytes.len() < most {
+            match self.read(&mut room) {
+                Ok(0) => break,
+                Ok(n) => bytes.extend_from_slice(&room[..n.min(most - bytes.len())]),
+                Err(error) => return refused(format_args!("{}: {error}", self.name)),
+            }
+            progress.now_at(bytes.len() as u64, self.length, "bytes read");
         }
+        Ok(bytes)
     }
 }
 
@@ -64,8 +70,14 @@ impl Read for Input {
     }
 }
 
-pub fn read_all(file: &OsStr) -> Outcome<Vec<u8>> {
-    Input::open(file)?.all()
+/// All bytes of a file.
+pub fn read_all(file: &OsStr, progress: &mut Progress) -> Outcome<Vec<u8>> {
+    Input::open(file)?.up_to(usize::MAX, progress)
+}
+
+/// So many bytes of a file, fewer if it has no more.
+pub fn read_at_most(file: &OsStr, most: usize) -> Outcome<Vec<u8>> {
+    Input::open(file)?.up_to(most, &mut Progress::none())
 }
 
 /// Standard output without the line buffer of `std`, which would write every line by itself.
@@ -201,6 +213,11 @@ impl Progress {
         Progress::watched(what, io::stderr().is_terminal() && !io::stdout().is_terminal())
     }
 
+    /// Of work that is too short to be waited for.
+    pub fn none() -> Progress {
+        Progress::watched("", false)
+    }
+
     fn watched(what: &'static str, watched: bool) -> Progress {
         Progress {
             what,
@@ -213,9 +230,13 @@ impl Progress {
     /// So much is done, of so much if that is known. Cheap enough to be called for every record.
     pub fn at(&mut self, done: u64, all: Option<u64>, unit: &str) {
         self.calls = self.calls.wrapping_add(1);
-        if !self.calls.is_multiple_of(1024) {
-            return;
+        if self.calls.is_multiple_of(1024) {
+            self.now_at(done, all, unit);
         }
+    }
+
+    /// The same for longer pieces of work: looks at the clock every time.
+    pub fn now_at(&mut self, done: u64, all: Option<u64>, unit: &str) {
         let Some(due) = self.due else { return };
         let now = Instant::now();
         if now < due {

@@ -44,9 +44,15 @@ pub fn no_leftover(bytes: &[u8]) -> Result<(), Refused> {
     })
 }
 
+/// The bytes of an image file. No image is longer than the largest meter's, so one word more is enough to tell that words are none.
+pub fn read(file: &OsStr) -> Outcome<Vec<u8>> {
+    let most = meter::most_image_words(8, 65_536).unwrap_or(0);
+    files::read_at_most(file, 4 * (most + 1))
+}
+
 /// The meter of an image file.
 pub fn load(file: &OsStr) -> Outcome<Meter> {
-    let bytes = files::read_all(file)?;
+    let bytes = read(file)?;
     match parse(&bytes) {
         Ok(meter) => Ok(meter),
         Err(r) => refused(format_args!(

@@ -57,8 +57,8 @@ pub fn unite(given: &[OsString]) -> Outcome {
     let mut source = sum.clone();
     let mut progress = Progress::new("unite");
     for (n, file) in others.iter().enumerate() {
-        progress.at(n as u64, Some(others.len() as u64), "images");
-        let bytes = files::read_all(file)?;
+        progress.now_at(n as u64, Some(others.len() as u64), "images");
+        let bytes = image::read(file)?;
         // Read into a meter of the first one's d and w, so that the proved call tells another geometry.
         let read = source.read_image(&words::from_bytes(&bytes));
         if let Err(r) = read.and_then(|_| image::no_leftover(&bytes)) {
