@@ -259,12 +259,12 @@ fn histogram(svg: &mut Svg, in_use: &Use, top: usize) {
         svg.line(x, top + 18, x, bottom, LINE);
         svg.text(x, bottom + 18, NOTE.anchored(Anchor::Middle), label);
     }
-    for level in 0..LEVELS {
+    for (level, shades) in SHADES.into_iter().enumerate() {
         let y = top + 26 + level * STEP;
         let (counters, used) = (in_use.counters[level], in_use.used[level]);
         svg.text(FROM - 10, y + 19, LABEL.anchored(Anchor::End), &format!("level {level}"));
-        svg.rect(FROM, y + 2, along(counters), 24, &blend(SHADES[level], 0, 1));
-        svg.rect(FROM, y + 2, along(used), 24, &blend(SHADES[level], 3, 4));
+        svg.rect(FROM, y + 2, along(counters), 24, &blend(shades, 0, 1));
+        svg.rect(FROM, y + 2, along(used), 24, &blend(shades, 3, 4));
         let label = match counters {
             0 => "none".to_string(),
             _ => format!("{} in use of {}", thousands(used.into()), thousands(counters.into())),
@@ -285,12 +285,12 @@ fn legend(svg: &mut Svg, top: usize, meter: &Meter, in_use: &Use) {
     svg.text(FROM, top, HEAD, "Level and figure");
     svg.text(RIGHT, top, NOTE.anchored(Anchor::End), "share of slots");
     let slots = (meter.d() * meter.w()) as u64;
-    for level in 0..LEVELS {
+    for (level, shades) in SHADES.into_iter().enumerate() {
         let bottom = top + 52 + level * 36;
         svg.text(FROM, bottom - 7, LABEL, &format!("level {level}, {} bits", bits(level)));
         let tall = height(level) * 5 / 8;
         for step in 0..8 {
-            let colour = blend(SHADES[level], step as u32, 7);
+            let colour = blend(shades, step as u32, 7);
             svg.rect(SCALE + step * STEP, bottom - tall, STEP, tall, &colour);
         }
         let (from, to) = magnitudes(level);
