@@ -21,7 +21,7 @@ Either IMAGE or FILE may be -, standard input. Keys that start with - come after
 
   --keys FILE   keys, a line each; blank lines and lines that start with # are skipped. Keys of the command line come first.
   --top N       the N keys with the largest figures, largest first, each key once; equal figures in the order given
-  --ip          keys are IP addresses, as those of meter feed --from-pcap --key src|dst
+  --ip          keys are IP addresses, as those of meter feed --from-pcap --key src|dst: 192.0.2.17, 2001:db8::1 or 0x and digits
 ";
 
 /// A key and what it was called.
@@ -32,27 +32,7 @@ struct Asked {
 
 fn parse(part: &[u8], ip: bool) -> Result<Asked, String> {
     if ip {
-        let address = std::str::from_utf8(part).ok().and_then(|part| part.parse::<IpAddr>().ok());
-        let (address, bytes) = match address {
-            Some(IpAddr::V4(a)) => (IpAddr::V4(a), a.octets().to_vec()),
-            Some(IpAddr::V6(a)) => (IpAddr::V6(a), a.octets().to_vec()),
-            None => match text::parse_key(part) {
-                // as --list writes them
-                Ok(key) if part.starts_with(b"0x") && matches!(key.bytes().len(), 4 | 16) => {
-                    return Ok(Asked {
-                        name: address_of(key.bytes()),
-                        key,
-                    })
-                }
-                _ => return Err(format!("{} is no IP address", shown(part))),
-            },
-        };
-        return Key::new(&bytes)
-            .map(|key| Asked {
-                key,
-                name: address.to_string(),
-            })
-            .ok_or_else(|| "no key".to_string());
+        return parse_address(part).ok_or_else(|| format!("{} is no IP address", shown(part)));
     }
     let key = text::parse_key(part)?;
     let mut name = String::new();
@@ -60,12 +40,24 @@ fn parse(part: &[u8], ip: bool) -> Result<Asked, String> {
     Ok(Asked { key, name })
 }
 
-fn address_of(bytes: &[u8]) -> String {
-    match (<[u8; 4]>::try_from(bytes), <[u8; 16]>::try_from(bytes)) {
-        (Ok(four), _) => IpAddr::from(four).to_string(),
-        (_, Ok(sixteen)) => IpAddr::from(sixteen).to_string(),
-        _ => String::new(),
-    }
+/// An address as people write it, or as `meter feed --list` does.
+fn parse_address(part: &[u8]) -> Option<Asked> {
+    let address = match std::str::from_utf8(part).ok()?.parse() {
+        Ok(address) => address,
+        Err(_) if text::is_hexadecimal(part) => address_of(text::parse_key(part).ok()?.bytes())?,
+        Err(_) => return None,
+    };
+    let key = match address {
+        IpAddr::V4(four) => Key::new(&four.octets()),
+        IpAddr::V6(sixteen) => Key::new(&sixteen.octets()),
+    }?;
+    let name = address.to_string();
+    Some(Asked { key, name })
+}
+
+fn address_of(bytes: &[u8]) -> Option<IpAddr> {
+    let four = <[u8; 4]>::try_from(bytes).map(IpAddr::from);
+    four.or_else(|_| <[u8; 16]>::try_from(bytes).map(IpAddr::from)).ok()
 }
 
 pub fn run(given: &[OsString]) -> Outcome {

@@ -36,7 +36,7 @@ are skipped; lines end with a newline, or a return and a newline.
                      IPv4, 37 for IPv6. Fragments and protocols without ports have ports 0.
   --geometry D W     the meter of a capture's feed; left out, 4 rows of 4096
   --ask              ask for each distinct key before the end
-  --list             write the distinct keys as text, a line each, and no feed; meter ask --keys takes them
+  --list             write the distinct keys in hexadecimal digits, a line each, and no feed; meter ask --keys takes them
   -o FILE            what to write
 
 The amount of a packet is its length on the wire. VLAN tags are passed over. Packets that are not IP, that were captured too short
@@ -154,7 +154,7 @@ fn from_capture(capture: &OsStr, arguments: &Arguments) -> Outcome {
     if list {
         let mut text = String::new();
         for key in &keys {
-            text::show_key(key.bytes(), &mut text);
+            text::show_hexadecimal(key.bytes(), &mut text);
             text.push('\n');
         }
         files::write(arguments.output(), text.as_bytes())?;

@@ -89,12 +89,9 @@ fn check(arguments: &Arguments) -> Outcome {
     let file = arguments.file()?;
     let meter = load(file)?;
     let words = expect(meter.image())?.len();
-    files::print(format!(
-        "{}: an image of {} rows of {} slots, {words} words\n",
-        files::name(file),
-        meter.d(),
-        meter.w()
-    ))
+    let (name, d, w) = (files::name(file), meter.d(), meter.w());
+    let rows = if d == 1 { "row" } else { "rows" };
+    files::print(format!("{name}: an image of {d} {rows} of {w} slots, {words} words\n"))
 }
 
 fn info(arguments: &Arguments) -> Outcome {

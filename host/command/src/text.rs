@@ -22,12 +22,17 @@ pub struct Mistake {
     pub what: String,
 }
 
+/// Whether a part of a text is a key in hexadecimal digits, be they right or wrong.
+pub fn is_hexadecimal(part: &[u8]) -> bool {
+    part.starts_with(b"0x") || part.starts_with(b"0X")
+}
+
 /// The key that a part of a text stands for: its own bytes, or any bytes in hexadecimal after 0x.
 pub fn parse_key(part: &[u8]) -> Result<Key, String> {
     let wrong_length = |n| format!("a key has 1 to 64 bytes, not {n} (number 4)");
-    let (b"0x" | b"0X") = &part[..part.len().min(2)] else {
+    if !is_hexadecimal(part) {
         return Key::new(part).ok_or_else(|| wrong_length(part.len()));
-    };
+    }
     let digits = &part[2..];
     let slip = || "0x needs an even number of hexadecimal digits".to_string();
     if digits.is_empty() || !digits.len().is_multiple_of(2) {
@@ -43,11 +48,15 @@ pub fn parse_key(part: &[u8]) -> Result<Key, String> {
 
 /// A key as a part of a text: its bytes if they are printable and not taken for hexadecimal digits, else 0x and digits.
 pub fn show_key(key: &[u8], text: &mut String) {
-    let plain = key.iter().all(u8::is_ascii_graphic) && !key.starts_with(b"0x") && !key.starts_with(b"0X");
-    if plain {
+    if key.iter().all(u8::is_ascii_graphic) && !is_hexadecimal(key) {
         text.extend(key.iter().map(|b| *b as char));
-        return;
+    } else {
+        show_hexadecimal(key, text);
     }
+}
+
+/// A key as 0x and digits.
+pub fn show_hexadecimal(key: &[u8], text: &mut String) {
     text.push_str("0x");
     for byte in key {
         for digit in [byte >> 4, byte & 15] {

@@ -274,6 +274,15 @@ fn geometry_asking_and_lists() {
         text(&good(&["ask", &image, "--ip", "10.0.0.1", "2001:db8::1"], b"")),
         "10.0.0.1 300\n2001:db8::1 70\n"
     );
+
+    // an address whose bytes are letters stays an address
+    let mut packet = version4(6, 0, 0);
+    packet[12..16].copy_from_slice(b"ABCD");
+    let capture = FORMS[0].capture(&[(frame(&[], 0x0800, &packet), 64)]);
+    assert_eq!(text(&good(&with(&["--list"]), &capture)), "0x41424344\n");
+    good(&["run", "-o", &image], &good(&from, &capture));
+    let asked = good(&["ask", &image, "--ip", "--keys", "-"], b"0x41424344\n65.66.67.68\n");
+    assert_eq!(text(&asked), "65.66.67.68 64\n65.66.67.68 64\n");
 }
 
 #[test]

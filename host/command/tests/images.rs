@@ -135,7 +135,7 @@ fn check_names_the_faulty_word() {
     let file = folder.put("clear", &clear);
     assert_eq!(
         text(&good(&["image", "check", &file], b"")),
-        format!("{file}: an image of 1 rows of 32 slots, 35 words\n")
+        format!("{file}: an image of 1 row of 32 slots, 35 words\n")
     );
     for cut in 0..clear.len() {
         let message = bad(&["image", "check"], &clear[..cut], 1);
@@ -266,6 +266,12 @@ fn figures() {
     let wrong = folder.put("wrong", b"a\n0x4\n");
     assert!(bad(&["ask", &file, "--keys", &wrong], b"", 1).contains("/wrong: line 2: 0x needs"));
     assert!(bad(&["ask", &file, &"k".repeat(65)], b"", 1).contains("not 65 (number 4)"));
+    for key in ["abcd", "0abc", "0x4141", "10.0.0", "1.2.3.4.5", "::g"] {
+        assert!(
+            bad(&["ask", &file, "--ip", key], b"", 1).contains(" is no IP address"),
+            "{key}"
+        );
+    }
     assert!(bad(&["ask", &file, "--ip", "10.0.0"], b"", 1).contains("10.0.0 is no IP address"));
     for wrong in [
         &["ask"][..],
