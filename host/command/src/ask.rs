@@ -11,17 +11,22 @@ use std::net::IpAddr;
 use std::os::unix::ffi::OsStrExt;
 
 pub const HELP: &str = "\
-Says what a meter's image has counted for keys: a line for each, the key and its figure.
+Says what a meter's image has counted for keys: a line for each, the key and its
+figure. A figure is never below what was counted for the key.
 
-usage: meter ask IMAGE KEY.. [--ip]
-       meter ask IMAGE --keys FILE [--top N] [--ip]
+usage: meter ask IMAGE KEY.. [--top N] [--ip]
+       meter ask IMAGE [KEY..] --keys FILE [--top N] [--ip]
 
-A figure is never below what the key sent. A key is 1 to 64 bytes without blanks, or 0x and hexadecimal digits for any bytes.
-Either IMAGE or FILE may be -, standard input. Keys that start with - come after --.
+A key is 1 to 64 bytes without blanks, or 0x and hexadecimal digits for any
+bytes. Keys that start with - come after --. IMAGE or FILE may be -, standard
+input.
 
-  --keys FILE   keys, a line each; blank lines and lines that start with # are skipped. Keys of the command line come first.
-  --top N       the N keys with the largest figures, largest first, each key once; equal figures in the order given
-  --ip          keys are IP addresses, as those of meter feed --from-pcap --key src|dst: 192.0.2.17, 2001:db8::1 or 0x and digits
+  --keys FILE   more keys, a line each; blank lines and lines that start with #
+                are skipped
+  --top N       the N keys with the largest figures, largest first, each key
+                once; equal figures in the order given
+  --ip          keys are IP addresses, as 192.0.2.17, 2001:db8::1 or in
+                hexadecimal digits: those of meter feed --key src|dst
 ";
 
 /// A key and what it was called.

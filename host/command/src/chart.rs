@@ -15,10 +15,13 @@ Draws an image as SVG: rows as strips, counters by level, a legend.
 
 usage: meter chart [IMAGE] -o FILE.svg
 
-A file left out or - is standard input; -o - is standard output. A strip is one row from slot 0 on. Height and hue of a counter
-are its level, lightness its figure: the darker, the larger within what the level can hold. Of rows wider than 512 slots each column
-of the picture shows several slots: the widest counter's level, the largest figure at that level, and in a band below how many of
-the slots are in use.
+A file left out or - is standard input; -o - is standard output.
+
+A strip is one row from slot 0 on. Height and hue of a counter are its level,
+lightness its figure: the darker, the larger within what the level can hold. Of
+rows wider than 512 slots each column shows several slots: the widest counter's
+level, the largest figure at that level, and in a band below how many of the
+slots are in use.
 ";
 
 pub fn run(given: &[OsString]) -> Outcome {

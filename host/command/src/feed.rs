@@ -11,13 +11,15 @@ use std::ffi::{OsStr, OsString};
 use std::os::unix::ffi::OsStrExt;
 
 pub const HELP: &str = "\
-Makes a feed, from text or from a capture file, or turns a feed back into text.
+Makes a feed from text or from a capture file, or turns a feed into text.
 
 usage: meter feed [TEXT] [-o FEED]
        meter feed --text [FEED] [-o TEXT]
-       meter feed --from-pcap CAPTURE --key src|dst|flow [--geometry D W] [--ask | --list] [-o FEED]
+       meter feed --from-pcap CAPTURE --key src|dst|flow [--geometry D W]
+                  [--ask | --list] [-o FEED]
 
-A file left out or - is standard input or output. What is refused writes nothing.
+A file left out or - is standard input or output. If anything is refused,
+nothing is written.
 
 The text has a line for the meter, for each record and for the end:
 
@@ -26,21 +28,28 @@ The text has a line for the meter, for each record and for the end:
     ask KEY
     end
 
-A key is 1 to 64 bytes without blanks, or 0x and hexadecimal digits for any bytes. Blank lines and lines that start with #
-are skipped; lines end with a newline, or a return and a newline.
+A key is 1 to 64 bytes without blanks, or 0x and hexadecimal digits for any
+bytes. Blank lines and lines that start with # are skipped. A line ends with a
+newline, or with a return and a newline.
 
-  --text             turn a feed into text; a faulty word is named with its index and number
-  --from-pcap FILE   a capture in the classic pcap format, Ethernet, of either byte order and time unit
+  --text             turn a feed into text
+  --from-pcap FILE   make a feed from a capture: classic pcap, Ethernet, of
+                     either byte order and time unit
   --key src|dst      the key is the IP address, 4 or 16 bytes
-  --key flow         the key is source address, destination address, source port, destination port and protocol: 13 bytes for
-                     IPv4, 37 for IPv6. Fragments and protocols without ports have ports 0.
-  --geometry D W     the meter of a capture's feed; left out, 4 rows of 4096
+  --key flow         the key is source address, destination address, source
+                     port, destination port and protocol: 13 bytes for IPv4,
+                     37 for IPv6. Fragments and protocols without ports have
+                     ports 0.
+  --geometry D W     the meter of the capture's feed; left out, 4 rows of 4096
   --ask              ask for each distinct key before the end
-  --list             write the distinct keys in hexadecimal digits, a line each, and no feed; meter ask --keys takes them
-  -o FILE            what to write
+  --list             write no feed but its distinct keys, a line of hexadecimal
+                     digits each; meter ask --keys takes them
+  -o FILE            the file to write
 
-The amount of a packet is its length on the wire. VLAN tags are passed over. Packets that are not IP, that were captured too short
-to show the key, or whose IP head is malformed are skipped and counted on standard error; a damaged capture is refused with its offset.
+The amount of a packet is its length on the wire. VLAN tags are passed over.
+Packets that are not IP, were captured too short to show the key, or have a
+malformed IP head are skipped and counted on standard error. A damaged capture
+is refused with its offset.
 ";
 
 pub fn run(given: &[OsString]) -> Outcome {

@@ -89,11 +89,15 @@ pub struct Output {
 impl Output {
     pub fn standard() -> Outcome<Output> {
         match io::stdout().as_fd().try_clone_to_owned() {
-            Ok(fd) => Ok(Output {
-                file: File::from(fd),
-                held: Vec::with_capacity(1 << 16),
-            }),
+            Ok(fd) => Ok(Output::to(File::from(fd))),
             Err(error) => refused(format_args!("standard output: {error}")),
+        }
+    }
+
+    pub fn to(file: File) -> Output {
+        Output {
+            file,
+            held: Vec::with_capacity(1 << 16),
         }
     }
 

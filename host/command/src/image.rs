@@ -17,13 +17,16 @@ usage: meter image info [IMAGE] [--json]
 
 A file left out or - is standard input.
 
-  info     d, w, words, the widest level, counters and slots by level, the total of each row. A counter is in use if its figure is
-           not 0. All rows count the same traffic, so their totals are equal, unless the image was made by other means.
-  check    whether the words are an image; if not, the first faulty word, its number and the reason, and status 1
-  dump     the counters as JSON, a line each: row, first slot, level, bits, figure
+  info     d, w, words, the widest level, counters and slots by level, the total
+           of each row. A counter is in use if its figure is not 0. Every row
+           counts all traffic, so the totals of the rows are equal.
+  check    whether the words are an image; if not, the first faulty word, its
+           number and the reason, and status 1
+  dump     the counters as JSON, a line each: row, first slot, level, bits,
+           figure
 
   --json   info as one line of JSON
-  --used   dump only counters whose figure is not 0
+  --used   dump only counters that are in use
 ";
 
 /// The meter of an image's bytes.

@@ -26,9 +26,10 @@ Feeds, images and pictures of a traffic meter whose counting is proved.
 
 usage: meter SUBCOMMAND ...
 
-  feed     make a feed from text or from a capture file, or turn one back into text
+  feed     make a feed from text or from a capture file, or turn one into text
   run      run a feed and print a line for its head, each record and its end
-  image    info, check or dump: what is in an image, whether it is one, its counters
+  image    info, check or dump: what is in an image, whether it is one, its
+           counters
   unite    add images up into one
   ask      what a meter's image has counted for keys
   new      write the image of a clear meter
@@ -37,8 +38,11 @@ usage: meter SUBCOMMAND ...
 
   --help, --version
 
-meter SUBCOMMAND --help says more. A file named - is standard input or output. Words in files have 32 bits, high byte first.
-The exit status is 0 if all was accepted, 1 if anything was refused or could not be read or written, 2 for wrong usage.
+meter SUBCOMMAND --help says more. A file named - is standard input or output.
+Words in files have 32 bits, high byte first.
+
+The status is 0 if all was accepted, 1 if anything was refused or could not be
+read or written, 2 for wrong usage.
 ";
 
 /// A subcommand: its help and what it does.

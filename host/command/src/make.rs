@@ -14,8 +14,8 @@ Writes the image of a clear meter.
 
 usage: meter new D W -o IMAGE
 
-D is the number of rows, 1 to 8, and W the slots of a row, a power of two from 32 to 65536. meter size D W says what that means.
--o - is standard output.
+D is the number of rows, 1 to 8, and W the slots of a row, a power of two from
+32 to 65536; meter size D W says what that means. -o - is standard output.
 ";
 
 pub fn new(given: &[OsString]) -> Outcome {
@@ -39,8 +39,10 @@ Adds images of meters of the same d and w up into one.
 
 usage: meter unite IMAGE.. -o OUT
 
-The meter of OUT has counted all that the meters of the images have. One of the images may be -, standard input. Nothing is written if an
-image is refused, is of another d or w than the first (number 10), or would make a counter of 64 bits overflow (number 6).
+The meter of OUT has counted all that the meters of the images have. One of the
+images may be -, standard input; -o - is standard output. Nothing is written if
+an image is refused, is of another d or w than the first (number 10) or would
+make a counter of 64 bits overflow (number 6).
 ";
 
 pub fn unite(given: &[OsString]) -> Outcome {
@@ -76,8 +78,10 @@ Says what a meter of d rows of w slots takes, and what it tells apart.
 
 usage: meter size D W [--total T]
 
-Prints the bytes of its memory, the words of an image at least and at most, and what share of all traffic a slot of a row has if
-the traffic is spread evenly: a figure is above the key's own total by what other keys put into its counter, in the best of the rows.
+Prints the bytes of its memory, the words of an image at least and at most, and
+a counter's share of all traffic if that is spread evenly over a row. A figure
+is above the key's own total by what other keys put into its counter, in the
+best of the rows.
 
   --total T   the shares of this total too, in its unit, rounded up
 ";

@@ -1,30 +1,35 @@
 //! `meter run`: a feed through the proved calls, each line as soon as its record is there.
 
-use crate::cli::{refused, Arguments, Failure, Outcome};
-use crate::files::{self, Input, Output, Progress};
+use crate::cli::{refused, usage, Arguments, Failure, Outcome};
+use crate::files::{Input, Output, Progress};
 use crate::words::{self, END, LONGEST_RECORD};
 use meter::{Meter, Reason, Refused};
 use std::ffi::OsString;
 use std::io::Read;
 
 pub const HELP: &str = "\
-Runs a feed into a clear meter and prints a line for its head, each record and its end.
+Runs a feed into a clear meter and prints a line for its head, each record and
+its end.
 
 usage: meter run [FEED] [--wide] [-o IMAGE]
 
-A file left out or - is standard input. Each line is printed as soon as the words of its record are there, so that a feed can be
-a live pipe:
+A file left out or - is standard input. Each line is printed as soon as the
+words of its record are there, so that a feed can be a live pipe:
 
     geometry D W       the head
     updated            an update
     estimate FIGURE    what was asked for
-    refused 6          an update that would make a counter of 64 bits overflow; the feed goes on
+    refused 6          an update that would make a counter of 64 bits overflow;
+                       the feed goes on
     end RECORDS        the end
-    stopped N at I     word I, counted from 0, was refused with number N, and no more is read
+    stopped N at I     word I, counted from 0, was refused with number N, and no
+                       more is read
 
-On standard error each refusal is said in words. The status is 0 if the feed ended and nothing was refused.
+Standard error says each refusal in words. The status is 0 if the feed ended and
+nothing was refused.
 
-  --wide     take feeds of more than 4,096 slots a row too; without it they are stopped with 3 at word 0, as by the program run_feed
+  --wide     take feeds of more than 4,096 slots a row; without it they are
+             stopped with 3 at word 0, as by the program run_feed
   -o IMAGE   write the meter's image once the feed has ended
 ";
 
@@ -83,6 +88,22 @@ struct Run {
 }
 
 impl Run {
+    fn new(input: Input, output: Output) -> Run {
+        Run {
+            words: Words {
+                input,
+                bytes: Vec::new(),
+                start: 0,
+                over: false,
+            },
+            output,
+            progress: Progress::beside_lines("run"),
+            before: 0,
+            records: 0,
+            clean: true,
+        }
+    }
+
     fn stopped(&mut self, r: Refused) -> Outcome<Failure> {
         self.output
             .put(format!("stopped {} at {}\n", r.number(), r.place).as_bytes())?;
@@ -185,29 +206,53 @@ impl Run {
 
 pub fn run(given: &[OsString]) -> Outcome {
     let arguments = Arguments::parse(given, &[("--wide", 0), ("-o", 1)])?;
-    let mut run = Run {
-        words: Words {
-            input: Input::open(arguments.file()?)?,
-            bytes: Vec::new(),
-            start: 0,
-            over: false,
-        },
-        output: Output::standard()?,
-        progress: Progress::beside_lines("run"),
-        before: 0,
-        records: 0,
-        clean: true,
-    };
+    if arguments.value("-o").is_some_and(|file| file == "-") {
+        return usage("standard output has the lines; the image needs a file");
+    }
+    let mut run = Run::new(Input::open(arguments.file()?)?, Output::standard()?);
     let mut meter = run.head(arguments.has("--wide"))?;
     while !run.record(&mut meter)? {}
     run.after_end()?;
     if let Some(file) = arguments.value("-o") {
-        files::not_to_a_terminal(file)?;
         crate::image::save(file, &meter)?;
     }
     if run.clean {
         Ok(())
     } else {
         Err(Failure::Quiet)
+    }
+}
+
+#[cfg(test)]
+mod tests {
+    use super::*;
+    use crate::words::{Feed, Key};
+    use std::fs::{self, File};
+
+    /// A full counter refuses an update and the feed goes on. No feed of a size to test with fills one, so the meter is handed in.
+    #[test]
+    fn a_full_counter() {
+        let folder = std::env::temp_dir().join(format!("meter-run-{}", std::process::id()));
+        fs::create_dir_all(&folder).unwrap();
+        let key = Key::new(b"A").unwrap();
+        let mut feed = Feed::new(1, 32);
+        feed.update(&key, 1);
+        feed.update(&key, 0);
+        feed.ask(&key);
+        fs::write(folder.join("feed"), feed.ended()).unwrap();
+        let output = Output::to(File::create(folder.join("lines")).unwrap());
+        let mut run = Run::new(Input::open(folder.join("feed").as_os_str()).unwrap(), output);
+        run.head(false).unwrap();
+        let full = [[0xff; 32].to_vec(), vec![0x7f; 4]].concat();
+        let mut meter = Meter::from_bytes(1, 32, full).unwrap();
+        while !run.record(&mut meter).unwrap() {}
+        run.after_end().unwrap();
+        assert!(!run.clean);
+        let lines = fs::read_to_string(folder.join("lines")).unwrap();
+        assert_eq!(
+            lines,
+            format!("geometry 1 32\nrefused 6\nupdated\nestimate {}\nend 3\n", u64::MAX)
+        );
+        fs::remove_dir_all(&folder).unwrap();
     }
 }

@@ -234,5 +234,6 @@ fn wide_feeds_and_images() {
 fn wrong_usage() {
     bad(&["run", "a", "b"], b"", 2);
     bad(&["run", "--what"], b"", 2);
+    bad(&["run", "-o", "-"], b"", 2);
     assert!(bad(&["run", "no such file"], b"", 1).contains("no such file: "));
 }

@@ -17,7 +17,7 @@ fn help_and_version() {
         assert!(all.contains(&format!("\n  {name:<8} ")), "{name}");
         let help = text(&good(&[name, "--help"], b""));
         assert!(help.contains(&format!("usage: meter {name}")), "{help}");
-        assert!(help.lines().all(|line| line.chars().count() <= 140), "{name}");
+        assert!(help.lines().all(|line| line.chars().count() <= 80), "{name}");
         assert_eq!(text(&good(&[name, "whatever", "-h"], b"")), help);
     }
     assert_eq!(
