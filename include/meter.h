@@ -2,27 +2,16 @@
  * The traffic meter: SALSA Count-Min with sum merging over 32-bit FNV-1a. Link with libmeter_c.a.
  *
  * A meter is a lent memory with the depth d (rows, 1 to 8) and the width w (slots of a row, a power of two from 32 to 65,536) that
- * it was cleared with. The memory is exactly d * w * 9 / 8 bytes long, of any alignment; it holds neither d nor w.
+ * it was cleared with. The memory is exactly METER_SIZE(d, w) bytes long, of any alignment; it holds neither d nor w.
  *
- * Every call ends, whatever is in the memory, the key and the words, and returns a number. It writes *place and *figure always.
+ * Every call ends, whatever is in the memory, the key and the words, and returns a number, one of enum meter_number. It writes
+ * *place and *figure always. METER_ACCEPTED, 0, is acceptance. Any other number says why the call was refused; then the figure is
+ * 0 and every lent byte and word is as before. So test every number: only of an accepted call the figure says anything.
  *
- *   0   accepted. The place is 0. The figure is the estimate, the widest level, the layout code, the payload of a feed's head or
- *       the count of an image's words, written or read; else 0.
- *
- * Any other number says why the call was refused, and then the figure is 0 and every lent byte and word is as before. The
- * first line that applies is returned. The place is an index, from 0, into the lent words where a word is at fault, else 0;
- * a missing word's index is the number of words lent.
- *
- *   1   d is not 1 to 8.
- *   2   w is not a power of two from 32 to 65,536.
- *   3   a lent memory, the target's or the source's, has another length than d * w * 9 / 8.
- *   4   the key length is not 1 to 64.
- *   5   a merge byte of a group that the call reads is not one of the 26 valid ones.
- *   6   an update or a union would make a counter of 64 bits overflow.
- *   7   the lent words are fewer than the image has.
- *   8   a word is missing, has a kind that is not due there, or follows an image's end.
- *   9   a payload breaks a rule of its kind; or a layout code to unpack is 456,976 or more.
- *  10   an image's head is sound but has another d or w than the call.
+ * The first number that applies is returned, in this order: 1 to 4 for the call's own d, w, memories and key; then the words, of
+ * which the first faulty one decides, by 8, 9 and 10, then in a feed's head by 1 and 2 and for a record's key length by 4; then 5, 6
+ * and 7. The place is an index, from 0, into the lent words where a word is at fault, else 0; a missing word's index is the number
+ * of words lent.
  *
  * What the caller owes: a pointer points to as many bytes or words as the length beside it says, place and figure to one number
  * each and merges to four bytes. No pointer is null, also where the length is 0. Words are aligned for uint32_t, place and figure
@@ -34,9 +23,73 @@
 #include <stddef.h>
 #include <stdint.h>
 
+/* The bytes of a meter's memory, and the most words that its image has; constants where d and w are. */
+#define METER_SIZE(d, w) ((size_t)(d) * ((size_t)(w) + (size_t)(w) / 8))
+#define METER_IMAGE_WORDS(d, w) ((size_t)(d) * (size_t)(w) + (size_t)(d) * (size_t)(w) / 32 + 2)
+
+/* d and w in the figure of an accepted meter_feed_head. The head of an image is the same word. */
+#define METER_HEAD_D(figure) ((size_t)((figure) & 15))
+#define METER_HEAD_W(figure) ((size_t)1 << (((figure) >> 4) & 31))
+
 #ifdef __cplusplus
 extern "C" {
 #endif
+
+enum meter_number {
+    /* The place is 0. The figure is the estimate, the widest level, the layout code, the payload of a feed's head or the count of
+     * an image's words, written or read; else 0. */
+    METER_ACCEPTED = 0,
+    /* d is not 1 to 8. */
+    METER_DEPTH = 1,
+    /* w is not a power of two from 32 to 65,536. */
+    METER_WIDTH = 2,
+    /* A lent memory, the target's or the source's, has another length than d * w * 9 / 8. */
+    METER_LENGTH = 3,
+    /* The key length is not 1 to 64. */
+    METER_KEY_LENGTH = 4,
+    /* A merge byte of a group that the call reads is not one of the 26 valid ones. */
+    METER_MERGE_BYTE = 5,
+    /* An update or a union would make a counter of 64 bits overflow. */
+    METER_COUNTER_FULL = 6,
+    /* The lent words are fewer than the image has. */
+    METER_TOO_FEW_WORDS = 7,
+    /* A word is missing, has a kind that is not due there, or follows an image's end. */
+    METER_WORD = 8,
+    /* A payload breaks a rule of its kind; or a layout code to unpack is 456,976 or more. */
+    METER_PAYLOAD = 9,
+    /* An image's head is sound but has another d or w than the call. */
+    METER_OTHER_GEOMETRY = 10
+};
+
+/* A number in words. */
+static inline const char *meter_text(uint32_t number) {
+    switch (number) {
+    case METER_ACCEPTED:
+        return "accepted";
+    case METER_DEPTH:
+        return "the depth is not 1 to 8";
+    case METER_WIDTH:
+        return "the width is not a power of two from 32 to 65,536";
+    case METER_LENGTH:
+        return "a memory's length is not d * w * 9 / 8";
+    case METER_KEY_LENGTH:
+        return "the key length is not 1 to 64";
+    case METER_MERGE_BYTE:
+        return "a merge byte is not valid";
+    case METER_COUNTER_FULL:
+        return "a counter of 64 bits would overflow";
+    case METER_TOO_FEW_WORDS:
+        return "the lent words are too few for the image";
+    case METER_WORD:
+        return "a word is missing, not due there, or follows the end";
+    case METER_PAYLOAD:
+        return "a payload breaks a rule of its kind";
+    case METER_OTHER_GEOMETRY:
+        return "an image or a source is of another depth or width";
+    default:
+        return "no number of this library";
+    }
+}
 
 /* Sets every byte of the memory to 0, whatever it was. Gives 0 to 3. */
 uint32_t meter_clear(size_t d, size_t w, uint8_t *memory, size_t memory_len, uint64_t *place, uint64_t *figure);
@@ -63,7 +116,7 @@ uint32_t meter_pack(uint8_t m0, uint8_t m1, uint8_t m2, uint8_t m3, uint64_t *pl
 uint32_t meter_unpack(uint32_t code, uint8_t *merges /* exactly 4 */, uint64_t *place, uint64_t *figure);
 
 /* Writes the meter's image into the lent words; words past it stay. The figure is the count of its words. An image has at most
- * d * w + d * w / 32 + 2 words. Gives 0 to 3, 5 and 7. */
+ * METER_IMAGE_WORDS(d, w) words. Gives 0 to 3, 5 and 7. */
 uint32_t meter_image_write(size_t d, size_t w, const uint8_t *memory, size_t memory_len, uint32_t *words, size_t words_len,
                            uint64_t *place, uint64_t *figure);
 
@@ -73,7 +126,7 @@ uint32_t meter_image_read(size_t d, size_t w, uint8_t *memory, size_t memory_len
                           uint64_t *place, uint64_t *figure);
 
 /* The head of a feed, the first of the lent words; no word after it is looked at. The figure of an accepted head is its payload:
- * d in the low four bits, log2 w in the next five. Gives 0, 1, 2, 8 and 9. */
+ * d in the low four bits, log2 w in the next five (METER_HEAD_D, METER_HEAD_W). Gives 0, 1, 2, 8 and 9. */
 uint32_t meter_feed_head(const uint32_t *words, size_t words_len, uint64_t *place, uint64_t *figure);
 
 /* Carries out one record or the end of a feed, which starts at the first of the lent words; no word after it is looked at. Before

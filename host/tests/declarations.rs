@@ -1,5 +1,7 @@
-//! The calls are declared three times: in Rattle, in C and in Rust. No compiler holds these together, so this does.
+//! The calls are declared three times: in Rattle, in C and in Rust. No compiler holds these together, so this does. The numbers have
+//! names and texts in C and in Rust: here the names and numbers are compared, and in tests/header.rs what a compiler makes of them.
 
+use meter::Reason;
 use std::fs;
 use std::path::Path;
 
@@ -77,13 +79,30 @@ fn in_rattle() -> Vec<Call> {
     calls
 }
 
-/// `uint32_t name(type name, ..);` without comments.
-fn in_c() -> Vec<Call> {
+/// The header without comments, directives, the enum and inline functions; and the enum's list.
+fn header() -> (String, String) {
     let mut text = read("../include/meter.h");
-    while let Some(from) = text.find("/*") {
-        let to = from + text[from..].find("*/").expect("the end of a comment") + 2;
+    let cut = |text: &mut String, open: &str, close: &str| {
+        let from = text.find(open)?;
+        let to = from + text[from..].find(close).unwrap_or_else(|| panic!("{close:?} after {open:?}")) + close.len();
+        let part = text[from..to].to_string();
         text.replace_range(from..to, "");
-    }
+        Some(part)
+    };
+    while cut(&mut text, "/*", "*/").is_some() {}
+    text = text
+        .lines()
+        .filter(|line| !line.starts_with('#'))
+        .map(|line| format!("{line}\n"))
+        .collect();
+    while cut(&mut text, "static inline ", "\n}").is_some() {}
+    let numbers = cut(&mut text, "enum meter_number {", "};").expect("the enum of the numbers");
+    (text, numbers)
+}
+
+/// `uint32_t name(type name, ..);`
+fn in_c() -> Vec<Call> {
+    let (text, _) = header();
     let mut calls = Vec::new();
     for declaration in text.split(';').filter(|d| d.contains("meter_")) {
         let (head, list) = declaration.split_once('(').expect("parameters");
@@ -142,4 +161,53 @@ fn declared_alike() {
     assert_eq!(rattle.len(), 11);
     assert_eq!(in_c(), rattle, "include/meter.h and crates/meter_c");
     assert_eq!(in_rust(), rattle, "src/ffi.rs and crates/meter_c");
+}
+
+/// `KeyLength` in C: `METER_KEY_LENGTH`.
+fn name_in_c(reason: Reason) -> String {
+    let mut name = String::from("METER");
+    for c in format!("{reason:?}").chars() {
+        if c.is_uppercase() {
+            name.push('_');
+        }
+        name.extend(c.to_uppercase());
+    }
+    name
+}
+
+/// The enum has every reason by its name and number, and acceptance, and nothing else.
+#[test]
+fn numbered_alike() {
+    let (_, numbers) = header();
+    let (list, _) = between(&numbers, "{", "}").expect("a list");
+    let in_c: Vec<(String, u32)> = list
+        .split(',')
+        .map(|entry| {
+            let (name, number) = entry.split_once('=').expect("a name and a number");
+            (name.trim().into(), number.trim().parse().expect("a number"))
+        })
+        .collect();
+    let mut in_rust = vec![("METER_ACCEPTED".to_string(), 0)];
+    in_rust.extend(
+        (1..)
+            .map_while(Reason::from_number)
+            .take_while(|reason| !matches!(reason, Reason::Unknown(_)))
+            .map(|reason| (name_in_c(reason), reason.number())),
+    );
+    assert_eq!(in_rust.len(), 11);
+    assert_eq!(in_c, in_rust, "include/meter.h and Reason");
+}
+
+/// Nobody drops a plain call's answer unseen.
+#[test]
+fn answers_must_be_used() {
+    let text = read("src/lib.rs");
+    let mut marked = 0;
+    for (before, line) in text.lines().zip(text.lines().skip(1)) {
+        if line.starts_with("pub fn ") {
+            assert!(before.starts_with("#[must_use"), "{line}");
+            marked += 1;
+        }
+    }
+    assert!(marked >= in_rust().len(), "{marked} functions");
 }

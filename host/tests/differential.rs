@@ -112,7 +112,7 @@ fn told(rng: &mut Rng, d: usize, w: usize) -> (usize, usize) {
         3 => (rng.within(1..9), w),
         4 => (d, 32 << rng.below(12)),
         // Other rows of the same memory.
-        5 if d % 2 == 0 && w < 65_536 => (d / 2, w * 2),
+        5 if d & 1 == 0 && w < 65_536 => (d / 2, w * 2),
         6 if d <= 4 && w > 32 => (d * 2, w / 2),
         _ => (d, w),
     }
@@ -267,7 +267,7 @@ impl List {
                     self.image_read(td, tw, &mut target, &words)
                 }
                 23 => {
-                    let mut words = vec![0x1000_0000 | self.rng.below(16) as u32 | self.rng.below(32) as u32 * 16];
+                    let mut words = vec![0x1000_0000 | self.rng.below(512) as u32];
                     damage(&mut self.rng, &mut words);
                     self.feed_head(&words)
                 }

@@ -1,4 +1,4 @@
-//! The C example is compiled with include/meter.h and the static library, and run; it and the Rust example print the same.
+//! The examples in C are compiled with include/meter.h and the static library, and run; those in C and in Rust print the same.
 
 use std::env;
 use std::path::{Path, PathBuf};
@@ -16,32 +16,50 @@ fn host() -> &'static Path {
     Path::new(env!("CARGO_MANIFEST_DIR"))
 }
 
-fn expected() -> String {
-    std::fs::read_to_string(host().join("examples/meter.out")).expect("the expected output")
+fn expected(name: &str) -> String {
+    std::fs::read_to_string(host().join(format!("examples/{name}.out"))).expect("the expected output")
 }
 
-#[test]
-fn c_example() {
+fn c_example(name: &str) {
     let library = env::var_os("METER_LIB_DIR").map_or_else(|| host().join("../target/staticlib"), PathBuf::from);
-    let program = Path::new(env!("CARGO_TARGET_TMPDIR")).join("meter_c_example");
+    let program = Path::new(env!("CARGO_TARGET_TMPDIR")).join(format!("{name}_c_example"));
     let cc = env::var_os("CC").unwrap_or_else(|| "cc".into());
     output(
         Command::new(cc)
             .args(["-std=c99", "-O2", "-Wall", "-Wextra", "-Wpedantic", "-Werror", "-I"])
             .arg(host().join("../include"))
-            .arg(host().join("examples/meter.c"))
+            .arg(host().join(format!("examples/{name}.c")))
             .arg(library.join("libmeter_c.a"))
             .arg("-o")
             .arg(&program),
     );
-    assert_eq!(output(&mut Command::new(program)), expected());
+    assert_eq!(output(&mut Command::new(program)), expected(name));
+}
+
+fn rust_example(name: &str) {
+    let cargo = env::var_os("CARGO").unwrap_or_else(|| "cargo".into());
+    let mut run = Command::new(cargo);
+    run.args(["run", "--offline", "--quiet", "--example", name])
+        .current_dir(host());
+    assert_eq!(output(&mut run), expected(name));
 }
 
 #[test]
-fn rust_example() {
-    let cargo = env::var_os("CARGO").unwrap_or_else(|| "cargo".into());
-    let mut run = Command::new(cargo);
-    run.args(["run", "--offline", "--quiet", "--example", "meter"])
-        .current_dir(host());
-    assert_eq!(output(&mut run), expected());
+fn in_c() {
+    c_example("meter");
+}
+
+#[test]
+fn in_rust() {
+    rust_example("meter");
+}
+
+#[test]
+fn short_in_c() {
+    c_example("short");
+}
+
+#[test]
+fn short_in_rust() {
+    rust_example("short");
 }

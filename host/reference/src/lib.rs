@@ -169,7 +169,8 @@ pub struct Tree {
     counter: [Option<u64>; 16],
 }
 
-/// A group as it may be found in a memory.
+/// A group as it may be found in a memory. Nearly all are sound, so a box for the larger case would save nothing.
+#[allow(clippy::large_enum_variant)]
 #[derive(Clone, Copy, PartialEq, Eq, Debug)]
 pub enum Group {
     Sound(Tree),
@@ -262,8 +263,8 @@ impl Tree {
     fn unite(&self, source: &Tree) -> Option<Tree> {
         let merged = self.merge() | source.merge();
         let mut total = [0; 16];
-        for n in 1..16 {
-            total[n] = self.total(n) + source.total(n);
+        for (n, sum) in total.iter_mut().enumerate().skip(ROOT) {
+            *sum = self.total(n) + source.total(n);
         }
         let suitable: Vec<&(u8, Layout)> = layouts()
             .all
@@ -304,9 +305,9 @@ impl Group {
     }
 
     /// The count bytes and the merge byte, for comparison.
-    fn to_bytes(&self) -> ([u8; 8], u8) {
+    fn to_bytes(self) -> ([u8; 8], u8) {
         let tree = match self {
-            Group::Damaged { counts, merge } => return (*counts, *merge),
+            Group::Damaged { counts, merge } => return (counts, merge),
             Group::Sound(tree) => tree,
         };
         let mut counts = [0; 8];
