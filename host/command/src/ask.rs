@@ -97,14 +97,12 @@ pub fn run(given: &[OsString]) -> Outcome {
     if let Some(keys) = keys {
         let content = files::read_all(keys, &mut progress)?;
         for (n, line) in text::lines(&content).enumerate() {
-            let part = line.trim_ascii();
-            if part.is_empty() || part.starts_with(b"#") {
-                continue;
-            }
-            let one = if part.iter().any(|b| matches!(b, b' ' | b'\t')) {
-                Err("one key a line".to_string())
-            } else {
-                parse(part, ip)
+            let (part, count) = text::parts(line);
+            let one = match count {
+                0 => continue,
+                _ if part[0].starts_with(b"#") => continue,
+                1 => parse(part[0], ip),
+                _ => Err("one key a line".to_string()),
             };
             match one {
                 Ok(one) => asked.push(one),

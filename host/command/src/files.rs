@@ -255,12 +255,17 @@ impl Progress {
         // nothing depends on it
         let _ = write!(io::stderr(), "\r\x1b[Kmeter {}: {done} {unit}{share}", self.what);
     }
+    /// Makes room for a line.
+    pub fn hide(&mut self) {
+        if self.shown {
+            self.shown = false;
+            let _ = write!(io::stderr(), "\r\x1b[K");
+        }
+    }
 }
 
 impl Drop for Progress {
     fn drop(&mut self) {
-        if self.shown {
-            let _ = write!(io::stderr(), "\r\x1b[K");
-        }
+        self.hide();
     }
 }

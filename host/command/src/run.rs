@@ -171,6 +171,7 @@ impl Run {
             Err(r) if r.reason == Reason::CounterFull => {
                 self.clean = false;
                 self.output.put(b"refused 6\n")?;
+                self.progress.hide();
                 crate::say(format_args!(
                     "meter run: {}: record at word {} refused: number 6: {}",
                     self.words.input.name, self.before, r.reason

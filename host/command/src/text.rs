@@ -74,8 +74,8 @@ pub fn lines(text: &[u8]) -> impl Iterator<Item = &[u8]> {
         .map(|line| line.strip_suffix(b"\r").unwrap_or(line))
 }
 
-/// The parts of a line, up to four: more than any line has.
-fn parts(line: &[u8]) -> ([&[u8]; 4], usize) {
+/// The parts of a line between blanks, up to four: more than any line has.
+pub fn parts(line: &[u8]) -> ([&[u8]; 4], usize) {
     let mut parts = [&b""[..]; 4];
     let mut n = 0;
     for part in line.split(|b| matches!(b, b' ' | b'\t')).filter(|part| !part.is_empty()) {

@@ -261,6 +261,12 @@ fn figures() {
         "c 70\n"
     );
 
+    // only blanks are no part of a key
+    assert_eq!(
+        text(&good(&["ask", &file, "--keys", "-"], b"\ta\t \na\x0c\n\ra\r\n")),
+        "a 70000\n0x610c 0\n0x0d61 0\n"
+    );
+
     let wrong = folder.put("wrong", b"a\n\nb c\n");
     assert!(bad(&["ask", &file, "--keys", &wrong], b"", 1).contains("/wrong: line 3: one key a line"));
     let wrong = folder.put("wrong", b"a\n0x4\n");
