@@ -1,0 +1,140 @@
+//! Help, exit statuses, files written whole, pipes that close.
+
+mod common;
+
+use common::{bad, good, meter, random_feed, text, to_bytes, Folder, Rng, METER};
+use std::fs;
+use std::io::{Read, Write};
+use std::os::unix::fs::{symlink, PermissionsExt};
+use std::process::{Command, Stdio};
+
+const SUBCOMMANDS: [&str; 8] = ["feed", "run", "image", "unite", "ask", "new", "size", "chart"];
+
+#[test]
+fn help_and_version() {
+    let all = text(&good(&["--help"], b""));
+    for name in SUBCOMMANDS {
+        assert!(all.contains(&format!("\n  {name:<8} ")), "{name}");
+        let help = text(&good(&[name, "--help"], b""));
+        assert!(help.contains(&format!("usage: meter {name}")), "{help}");
+        assert!(help.lines().all(|line| line.chars().count() <= 80), "{name}");
+        assert_eq!(text(&good(&[name, "whatever", "-h"], b"")), help);
+    }
+    assert_eq!(
+        text(&good(&["image", "info", "--help"], b"")),
+        text(&good(&["image", "--help"], b""))
+    );
+    assert_eq!(
+        text(&good(&["--version"], b"")),
+        format!("meter {}\n", env!("CARGO_PKG_VERSION"))
+    );
+}
+
+#[test]
+fn wrong_usage_is_2() {
+    for wrong in [
+        &[][..],
+        &["what"],
+        &["--what"],
+        &["image"],
+        &["image", "what"],
+        &["image", "info", "a", "b"],
+        &["feed", "a", "b"],
+        &["feed", "-x"],
+        &["feed", "-o"],
+    ] {
+        let message = bad(wrong, b"", 2);
+        assert!(message.contains("--help says how it is used"), "{message}");
+    }
+}
+
+#[test]
+fn what_cannot_be_read_or_written_is_1() {
+    let folder = Folder::new();
+    let missing = folder.path("missing");
+    for wrong in [
+        &["feed", &missing][..],
+        &["feed", "--text", &missing],
+        &["feed", "--from-pcap", &missing, "--key", "src"],
+        &["run", &missing],
+        &["image", "info", &missing],
+        &["unite", &missing, "-o", "-"],
+        &["ask", &missing, "A"],
+        &["chart", &missing, "-o", "-"],
+    ] {
+        assert!(bad(wrong, b"", 1).contains("missing: No such file"), "{wrong:?}");
+    }
+    bad(&["feed", &folder.path("")], b"", 1);
+    let nowhere = folder.path("no/folder");
+    assert!(bad(&["new", "1", "32", "-o", &nowhere], b"", 1).contains("no/folder: No such file"));
+    bad(&["new", "1", "32", "-o", &folder.path("")], b"", 1);
+    assert!(folder.names().is_empty());
+}
+
+#[test]
+fn files_are_replaced_whole() {
+    let folder = Folder::new();
+    let clear = good(&["new", "1", "32", "-o", "-"], b"");
+    let file = folder.put("image", b"something else");
+    fs::set_permissions(&file, fs::Permissions::from_mode(0o640)).unwrap();
+    good(&["new", "1", "32", "-o", &file], b"");
+    assert_eq!(fs::read(&file).unwrap(), clear);
+    assert_eq!(fs::metadata(&file).unwrap().permissions().mode() & 0o777, 0o640);
+
+    // behind a link the file is written and the link stays
+    let link = folder.path("link");
+    symlink("image", &link).unwrap();
+    good(&["new", "1", "64", "-o", &link], b"");
+    assert!(fs::symlink_metadata(&link).unwrap().is_symlink());
+    assert_ne!(fs::read(&file).unwrap(), clear);
+    assert_eq!(folder.names(), ["image", "link"]);
+
+    // what is no file is written as it is
+    let output = meter(&["new", "1", "32", "-o", "/dev/stdout"], b"");
+    assert_eq!((output.status.code(), output.stdout), (Some(0), clear));
+}
+
+/// Nobody reads on: the command stops with 1, and says nothing.
+#[test]
+fn closed_pipes() {
+    let folder = Folder::new();
+    let image = folder.path("image");
+    good(&["new", "8", "65536", "-o", &image], b"");
+    let feed = to_bytes(&random_feed(&mut Rng::new("closed_pipes"), 1, 32, 100_000));
+    for (arguments, input) in [
+        (&["image", "dump", &image][..], &b""[..]),
+        (&["run"], &feed),
+        (&["feed", "--text"], &feed),
+        (&["chart", &image, "-o", "-"], b""),
+        (&["--help"], b""),
+    ] {
+        let mut child = Command::new(METER)
+            .args(arguments)
+            .stdin(Stdio::piped())
+            .stdout(Stdio::piped())
+            .stderr(Stdio::piped())
+            .spawn()
+            .unwrap();
+        let mut output = child.stdout.take().unwrap();
+        if arguments[0] == "run" {
+            // it reads some and then no more
+            let mut stdin = child.stdin.take().unwrap();
+            let _ = stdin.write_all(&input[..4]);
+            let mut some = [0; 4];
+            output.read_exact(&mut some).unwrap();
+            drop(output);
+            let _ = stdin.write_all(&input[4..]);
+        } else {
+            drop(output);
+            let _ = child.stdin.take().unwrap().write_all(input);
+        }
+        let mut message = String::new();
+        child.stderr.take().unwrap().read_to_string(&mut message).unwrap();
+        let status = child.wait().unwrap().code();
+        // help is so short that it may be written before the pipe is closed
+        if arguments[0] != "--help" {
+            assert_eq!((status, message.as_str()), (Some(1), ""), "{arguments:?}");
+        }
+        assert!(!message.contains("panicked"), "{message}");
+    }
+}
