@@ -137,7 +137,7 @@ uint32_t meter_feed_record(size_t d, size_t w, uint8_t *memory, size_t memory_le
                            size_t words_len, uint64_t *place, uint64_t *figure);
 
 /* How many words the record or the end takes that starts at the first of the lent words: where the next record starts. It gives no
- * number and writes nothing; of a record that is not accepted it says nothing. */
+ * number and writes nothing; of a record with a faulty word it says nothing. */
 size_t meter_feed_taken(const uint32_t *words, size_t words_len);
 
 #ifdef __cplusplus

@@ -212,8 +212,8 @@ pub fn feed_record(d: usize, w: usize, memory: &mut [u8], before: u64, words: &[
     })
 }
 
-/// How many words the record or the end takes that the words start with, so that the next record is found behind it. Of a record that
-/// is not accepted it says nothing.
+/// How many words the record or the end takes that the words start with, so that the next record is found behind it. Of one with a
+/// faulty word it says nothing.
 #[must_use = "it does nothing else"]
 pub fn feed_taken(words: &[u32]) -> usize {
     unsafe { ffi::meter_feed_taken(words.as_ptr(), words.len()) }

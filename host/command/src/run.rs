@@ -3,7 +3,7 @@
 use crate::cli::{refused, usage, Arguments, Failure, Outcome};
 use crate::files::{Input, Output, Progress};
 use crate::words::{self, END, LONGEST_RECORD};
-use meter::{Meter, Reason, Refused};
+use meter::{feed_taken, Meter, Reason, Refused};
 use std::ffi::OsString;
 use std::io::Read;
 
@@ -182,7 +182,7 @@ impl Run {
                 return Err(self.stopped(r)?);
             }
         }
-        let taken = words::taken(room[0]);
+        let taken = feed_taken(&room[..n]);
         self.words.start += 4 * taken;
         self.before += taken as u64;
         self.records += u64::from(!ends);

@@ -10,7 +10,7 @@
 use crate::cli::{decimal, geometry, shown};
 use crate::files::Progress;
 use crate::words::{self, Feed, Key, AMOUNT, ASK, LONGEST_RECORD, UPDATE};
-use meter::{Meter, Reason, Refused};
+use meter::{feed_taken, Meter, Reason, Refused};
 use std::fmt::Write;
 
 pub const DEFAULT: (usize, usize) = (4, 4096);
@@ -177,7 +177,7 @@ pub fn from_feed(bytes: &[u8], progress: &mut Progress) -> Result<String, Refuse
                 })
             }
         }
-        let record = &ahead[..words::taken(ahead[0])];
+        let record = &ahead[..feed_taken(ahead)];
         at += record.len();
         let kind = record[0] >> 28;
         if kind != UPDATE && kind != ASK {

@@ -13,17 +13,6 @@ pub const LONGEST_KEY: usize = 64;
 /// The words of the longest record: an update by a key of 64 bytes.
 pub const LONGEST_RECORD: usize = 25;
 
-/// The words that a record or the end takes, from its first word. Of a word that starts neither, that word alone.
-pub fn taken(first: u32) -> usize {
-    let length = (first & 0x0fff_ffff) as usize;
-    match first >> 28 {
-        _ if length > LONGEST_KEY => 1,
-        UPDATE => 3 + length.div_ceil(3),
-        ASK => 1 + length.div_ceil(3),
-        _ => 1,
-    }
-}
-
 /// The whole words of some bytes.
 pub fn from_bytes(bytes: &[u8]) -> Vec<u32> {
     bytes.chunks_exact(4).map(word).collect()
