@@ -3,30 +3,14 @@
 //! Each case is measured five times for each, turn by turn, by processor time, and the median is printed. Outputs are compared as
 //! it goes. Memories are cleared, or copied from the same start, before each measured run, and that is not measured.
 
-use bench::{plain, CountMin};
+use bench::traffic::{packet, Rng, Zipf};
+use bench::{hash, plain, CountMin};
 use std::cell::RefCell;
 use std::hint::black_box;
 
 const ROUNDS: usize = 5;
 const KEYS: usize = 100_000;
 const CALLS: usize = 200_000;
-
-/// SplitMix64.
-struct Rng(u64);
-
-impl Rng {
-    fn next(&mut self) -> u64 {
-        self.0 = self.0.wrapping_add(0x9e37_79b9_7f4a_7c15);
-        let mut z = self.0;
-        z = (z ^ (z >> 30)).wrapping_mul(0xbf58_476d_1ce4_e5b9);
-        z = (z ^ (z >> 27)).wrapping_mul(0x94d0_49bb_1331_11eb);
-        z ^ (z >> 31)
-    }
-
-    fn below(&mut self, n: usize) -> usize {
-        (self.next() % n as u64) as usize
-    }
-}
 
 /// Calls to measure: keys of one length side by side, and an amount for each, a packet's bytes.
 struct Calls {
@@ -38,25 +22,14 @@ struct Calls {
 impl Calls {
     fn new(length: usize, zipf: bool) -> Calls {
         let mut rng = Rng(7);
-        let names: Vec<Vec<u8>> = (0..KEYS).map(|_| (0..length).map(|_| rng.next() as u8).collect()).collect();
-        // Zipf with exponent 1, by its distribution function.
-        let mut sums = Vec::with_capacity(KEYS);
-        let mut sum = 0.0;
-        for rank in 1..=KEYS {
-            sum += 1.0 / rank as f64;
-            sums.push(sum);
-        }
+        let names: Vec<Vec<u8>> = (0..KEYS).map(|_| (0..length).map(|_| rng.draw() as u8).collect()).collect();
+        let ranks = Zipf::new(KEYS);
         let mut keys = Vec::with_capacity(CALLS * length);
         let mut amounts = Vec::with_capacity(CALLS);
         for _ in 0..CALLS {
-            let at = if zipf {
-                let x = (rng.next() >> 11) as f64 / (1u64 << 53) as f64 * sum;
-                sums.partition_point(|&s| s < x).min(KEYS - 1)
-            } else {
-                rng.below(KEYS)
-            };
+            let at = if zipf { ranks.pick(&mut rng) } else { rng.below(KEYS) };
             keys.extend(&names[at]);
-            amounts.push(64 + rng.below(1437) as u32);
+            amounts.push(packet(&mut rng));
         }
         Calls { length, keys, amounts }
     }
@@ -220,13 +193,118 @@ fn keyed() {
     }
 }
 
+/// Speed by the number of rows.
+fn by_rows() {
+    println!("\n| w 1024, Zipf, speed, proved to C | d 1 | d 2 | d 3 | d 4 | d 5 | d 6 | d 7 | d 8 |");
+    println!("|---|---|---|---|---|---|---|---|---|");
+    let w = 1_024;
+    let mut lines = Vec::new();
+    for length in [4, 13, 37] {
+        let calls = Calls::new(length, true);
+        let (mut updates, mut estimates) = (Vec::new(), Vec::new());
+        for d in 1..=8 {
+            let (a, b) = (RefCell::new(vec![0; size(d, w)]), RefCell::new(vec![0; size(d, w)]));
+            let times = time(vec![
+                (&mut || a.borrow_mut().fill(0), &mut || {
+                    let mut m = a.borrow_mut();
+                    for (key, amount) in calls.each() {
+                        black_box(meter::update(d, w, &mut m, key, amount));
+                    }
+                }),
+                (&mut || b.borrow_mut().fill(0), &mut || {
+                    let mut m = b.borrow_mut();
+                    for (key, amount) in calls.each() {
+                        black_box(plain::update(d, w, &mut m, key, amount));
+                    }
+                }),
+            ]);
+            updates.push(format!("{:.2}", times[1] / times[0]));
+            let (a, b) = (a.into_inner(), b.into_inner());
+            assert!(a == b, "d {d}: the proved memory and the C version's");
+            let times = time(vec![
+                (&mut || {}, &mut || {
+                    for (key, _) in calls.each() {
+                        black_box(meter::estimate(d, w, &a, key));
+                    }
+                }),
+                (&mut || {}, &mut || {
+                    for (key, _) in calls.each() {
+                        black_box(plain::estimate(d, w, &b, key));
+                    }
+                }),
+            ]);
+            estimates.push(format!("{:.2}", times[1] / times[0]));
+        }
+        lines.push((format!("update, {length} bytes"), updates));
+        lines.push((format!("estimate, {length} bytes"), estimates));
+    }
+    lines.sort_by_key(|(name, _)| name.starts_with("estimate"));
+    for (name, ratios) in lines {
+        println!("| {name} | {} |", ratios.join(" | "));
+    }
+}
+
+/// The hash alone beside the calls that it is a part of.
+fn hash_alone() {
+    println!("\n| w 1024, Zipf, nanoseconds a call | the hash alone | two rows to a register | estimate, proved | estimate, plain C | update, proved | update, plain C |");
+    println!("|---|---|---|---|---|---|---|");
+    let w = 1_024;
+    for length in [4, 13, 37] {
+        let calls = Calls::new(length, true);
+        for d in [1, 4, 8] {
+            let cells = [RefCell::new(vec![0; size(d, w)]), RefCell::new(vec![0; size(d, w)])];
+            let mut read = vec![0; size(d, w)];
+            for (key, amount) in calls.each() {
+                assert_eq!(hash::lanes(d, w, key)[..d], hash::pairs(d, w, key)[..d], "slots");
+                meter::update(d, w, &mut read, key, amount);
+            }
+            let times = time(vec![
+                (&mut || {}, &mut || {
+                    for (key, _) in calls.each() {
+                        black_box(hash::lanes(d, w, key));
+                    }
+                }),
+                (&mut || {}, &mut || {
+                    for (key, _) in calls.each() {
+                        black_box(hash::pairs(d, w, key));
+                    }
+                }),
+                (&mut || {}, &mut || {
+                    for (key, _) in calls.each() {
+                        black_box(meter::estimate(d, w, &read, key));
+                    }
+                }),
+                (&mut || {}, &mut || {
+                    for (key, _) in calls.each() {
+                        black_box(plain::estimate(d, w, &read, key));
+                    }
+                }),
+                (&mut || cells[0].borrow_mut().fill(0), &mut || {
+                    let mut m = cells[0].borrow_mut();
+                    for (key, amount) in calls.each() {
+                        black_box(meter::update(d, w, &mut m, key, amount));
+                    }
+                }),
+                (&mut || cells[1].borrow_mut().fill(0), &mut || {
+                    let mut m = cells[1].borrow_mut();
+                    for (key, amount) in calls.each() {
+                        black_box(plain::update(d, w, &mut m, key, amount));
+                    }
+                }),
+            ]);
+            let times: Vec<String> = times.iter().map(|t| format!("{:.1}", t * 1e9 / CALLS as f64)).collect();
+            println!("| d {d}, {length} bytes | {} |", times.join(" | "));
+        }
+    }
+}
+
 /// A meter with nothing merged, or with every layout, whose union with itself is accepted.
 fn filled(d: usize, w: usize, all_levels: bool) -> Vec<u8> {
     let mut rng = Rng(11);
     let mut memory = vec![0; size(d, w)];
     if !all_levels {
         for row in memory.chunks_mut(w / 8 * 9) {
-            row[..w].fill_with(|| (rng.next() % 128) as u8);
+            row[..w].fill_with(|| (rng.draw() % 128) as u8);
         }
         return memory;
     }
@@ -234,7 +312,7 @@ fn filled(d: usize, w: usize, all_levels: bool) -> Vec<u8> {
     for row in memory.chunks_mut(w / 8 * 9) {
         for g in 0..w / 8 {
             let merge = merges[rng.below(26)];
-            row[8 * g..8 * g + 8].copy_from_slice(&rng.next().to_le_bytes());
+            row[8 * g..8 * g + 8].copy_from_slice(&rng.draw().to_le_bytes());
             if merge == 0x7f {
                 row[8 * g + 7] /= 2;
             }
@@ -440,6 +518,8 @@ fn main() {
     );
     println!("Median of {ROUNDS} rounds; {CALLS} calls a round on {KEYS} keys.");
     keyed();
+    by_rows();
+    hash_alone();
     feeds();
     whole_meters();
     growth();
