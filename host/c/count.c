@@ -59,7 +59,7 @@ static void keyed(size_t d, size_t key_len) {
     told("feed record, asking", d, key_len);
 }
 
-/* A union, an image written and an image read; numbers are for each group. */
+/* A union of two meters and of one with its copy, an image written and an image read; numbers are for each group. */
 static void whole(size_t d, size_t w, int all_levels) {
     size_t len = d * (w / 8 * 9), room = d * w + d * w / 32 + 2, groups = d * w / 8;
     uint8_t *target = malloc(len), *source = malloc(len);
@@ -72,6 +72,10 @@ static void whole(size_t d, size_t w, int all_levels) {
     CALLGRIND_ZERO_STATS;
     accepted(call(unite)(d, w, target, len, source, len, &place, &figure));
     told_by_group("union", all_levels, groups);
+    memcpy(target, source, len);
+    CALLGRIND_ZERO_STATS;
+    accepted(call(unite)(d, w, target, len, source, len, &place, &figure));
+    told_by_group("union with a copy", all_levels, groups);
     accepted(call(image_write)(d, w, source, len, words, room, &place, &figure));
     told_by_group("image written", all_levels, groups);
     accepted(call(image_read)(d, w, target, len, words, figure, &place, &figure));

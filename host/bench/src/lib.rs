@@ -136,19 +136,15 @@ pub mod hash {
     }
 
     /// As the plain C version does it: four rows side by side.
-    pub fn lanes(d: usize, w: usize, key: &[u8]) -> [u32; 8] {
+    pub fn lanes(slots: &mut [u32; 8], d: usize, w: usize, key: &[u8]) {
         assert!(valid(d, w));
-        let mut slots = [0; 8];
         unsafe { ffi::hash_lanes(slots.as_mut_ptr(), d, w, key.as_ptr(), key.len()) };
-        slots
     }
 
     /// By hand in SSE2: two rows to a vector register.
-    pub fn pairs(d: usize, w: usize, key: &[u8]) -> [u32; 8] {
+    pub fn pairs(slots: &mut [u32; 8], d: usize, w: usize, key: &[u8]) {
         assert!(valid(d, w));
-        let mut slots = [0; 8];
         unsafe { ffi::hash_pairs(slots.as_mut_ptr(), d, w, key.as_ptr(), key.len()) };
-        slots
     }
 }
 

@@ -21,8 +21,14 @@ struct Calls {
 
 impl Calls {
     fn new(length: usize, zipf: bool) -> Calls {
+        Calls::with_packets(length, zipf, 8)
+    }
+
+    /// The keys are the same for every seed.
+    fn with_packets(length: usize, zipf: bool, seed: u64) -> Calls {
         let mut rng = Rng(7);
         let names: Vec<Vec<u8>> = (0..KEYS).map(|_| (0..length).map(|_| rng.draw() as u8).collect()).collect();
+        let mut rng = Rng(seed);
         let ranks = Zipf::new(KEYS);
         let mut keys = Vec::with_capacity(CALLS * length);
         let mut amounts = Vec::with_capacity(CALLS);
@@ -255,18 +261,23 @@ fn hash_alone() {
             let cells = [RefCell::new(vec![0; size(d, w)]), RefCell::new(vec![0; size(d, w)])];
             let mut read = vec![0; size(d, w)];
             for (key, amount) in calls.each() {
-                assert_eq!(hash::lanes(d, w, key)[..d], hash::pairs(d, w, key)[..d], "slots");
+                let (mut lanes, mut pairs) = ([0; 8], [0; 8]);
+                hash::lanes(&mut lanes, d, w, key);
+                hash::pairs(&mut pairs, d, w, key);
+                assert_eq!(lanes[..d], pairs[..d], "slots");
                 meter::update(d, w, &mut read, key, amount);
             }
             let times = time(vec![
                 (&mut || {}, &mut || {
+                    let mut slots = [0; 8];
                     for (key, _) in calls.each() {
-                        black_box(hash::lanes(d, w, key));
+                        hash::lanes(black_box(&mut slots), d, w, key);
                     }
                 }),
                 (&mut || {}, &mut || {
+                    let mut slots = [0; 8];
                     for (key, _) in calls.each() {
-                        black_box(hash::pairs(d, w, key));
+                        hash::pairs(black_box(&mut slots), d, w, key);
                     }
                 }),
                 (&mut || {}, &mut || {
@@ -298,61 +309,97 @@ fn hash_alone() {
     }
 }
 
-/// A meter with nothing merged, or with every layout, whose union with itself is accepted.
-fn filled(d: usize, w: usize, all_levels: bool) -> Vec<u8> {
-    let mut rng = Rng(11);
-    let mut memory = vec![0; size(d, w)];
-    if !all_levels {
-        for row in memory.chunks_mut(w / 8 * 9) {
-            row[..w].fill_with(|| (rng.draw() % 128) as u8);
-        }
-        return memory;
-    }
-    let merges: Vec<u8> = (0..26).map(|code| meter::unpack(code).1[3]).collect();
-    for row in memory.chunks_mut(w / 8 * 9) {
-        for g in 0..w / 8 {
-            let merge = merges[rng.below(26)];
-            row[8 * g..8 * g + 8].copy_from_slice(&rng.draw().to_le_bytes());
-            if merge == 0x7f {
-                row[8 * g + 7] /= 2;
-            }
-            row[w + g] = merge;
-        }
-    }
-    memory
+/// What a whole meter holds.
+#[derive(Clone, Copy)]
+enum Kind {
+    NothingMerged,
+    /// Calls with Zipf keys of 13 bytes.
+    Traffic,
+    /// Every layout equally often, groups at random.
+    AllLevels,
 }
 
-/// A union, an image written and an image read, of meters of one kind; how often, and the times of all.
-fn whole(d: usize, w: usize, all_levels: bool) -> [(usize, Vec<f64>); 3] {
-    let start = filled(d, w, all_levels);
-    let source = filled(d, w, all_levels);
+const KINDS: [Kind; 3] = [Kind::NothingMerged, Kind::Traffic, Kind::AllLevels];
+
+impl Kind {
+    fn name(self) -> &'static str {
+        match self {
+            Kind::NothingMerged => "nothing merged",
+            Kind::Traffic => "after traffic",
+            Kind::AllLevels => "all levels",
+        }
+    }
+
+    /// Such a meter, whose union with any other such is accepted.
+    fn filled(self, d: usize, w: usize, seed: u64) -> Vec<u8> {
+        let mut rng = Rng(seed);
+        let mut memory = vec![0; size(d, w)];
+        match self {
+            Kind::NothingMerged => {
+                for row in memory.chunks_mut(w / 8 * 9) {
+                    row[..w].fill_with(|| (rng.draw() % 128) as u8);
+                }
+            }
+            Kind::Traffic => {
+                // The same keys for every seed, and other packets.
+                for (key, amount) in Calls::with_packets(13, true, seed).each() {
+                    meter::update(d, w, &mut memory, key, amount);
+                }
+            }
+            Kind::AllLevels => {
+                let merges: Vec<u8> = (0..26).map(|code| meter::unpack(code).1[3]).collect();
+                for row in memory.chunks_mut(w / 8 * 9) {
+                    for g in 0..w / 8 {
+                        let merge = merges[rng.below(26)];
+                        row[8 * g..8 * g + 8].copy_from_slice(&rng.draw().to_le_bytes());
+                        if merge == 0x7f {
+                            row[8 * g + 7] /= 2;
+                        }
+                        row[w + g] = merge;
+                    }
+                }
+            }
+        }
+        memory
+    }
+}
+
+const WHOLE: [&str; 4] = ["union", "union with a copy", "image written", "image read"];
+
+/// A union of two meters of one kind and of one with its copy, an image written and an image read; how often, and the times of all.
+fn whole(d: usize, w: usize, kind: Kind) -> [(usize, Vec<f64>); 4] {
+    let start = kind.filled(d, w, 11);
+    let other = kind.filled(d, w, 12);
     let repeat = (65_536 * 8 / (d * w)).max(1) * 4;
 
-    let mut a: Vec<Vec<u8>> = vec![start.clone(); repeat];
-    let mut b = a.clone();
-    let cells = (RefCell::new(&mut a), RefCell::new(&mut b));
-    let restore = |m: &mut Vec<Vec<u8>>| m.iter_mut().for_each(|m| m.copy_from_slice(&start));
-    let mut count_min = CountMin::new(d, w);
-    let count_source = CountMin::new(d, w);
-    let unions = time(vec![
-        (&mut || restore(*cells.0.borrow_mut()), &mut || {
-            for m in cells.0.borrow_mut().iter_mut() {
-                black_box(meter::unite(d, w, m, &source));
-            }
-        }),
-        (&mut || restore(*cells.1.borrow_mut()), &mut || {
-            for m in cells.1.borrow_mut().iter_mut() {
-                black_box(plain::unite(d, w, m, &source));
-            }
-        }),
-        (&mut || {}, &mut || {
-            for _ in 0..repeat {
-                count_min.unite(black_box(&count_source));
-            }
-        }),
-    ]);
-    assert!(a == b, "union: the proved memory and the C version's");
-    assert!(a[0] != start, "union: accepted");
+    let [unions, copies] = [&other, &start].map(|source| {
+        let mut a: Vec<Vec<u8>> = vec![start.clone(); repeat];
+        let mut b = a.clone();
+        let cells = (RefCell::new(&mut a), RefCell::new(&mut b));
+        let restore = |m: &mut Vec<Vec<u8>>| m.iter_mut().for_each(|m| m.copy_from_slice(&start));
+        let mut count_min = CountMin::new(d, w);
+        let count_source = CountMin::new(d, w);
+        let times = time(vec![
+            (&mut || restore(*cells.0.borrow_mut()), &mut || {
+                for m in cells.0.borrow_mut().iter_mut() {
+                    black_box(meter::unite(d, w, m, source));
+                }
+            }),
+            (&mut || restore(*cells.1.borrow_mut()), &mut || {
+                for m in cells.1.borrow_mut().iter_mut() {
+                    black_box(plain::unite(d, w, m, source));
+                }
+            }),
+            (&mut || {}, &mut || {
+                for _ in 0..repeat {
+                    count_min.unite(black_box(&count_source));
+                }
+            }),
+        ]);
+        assert!(a == b, "union: the proved memory and the C version's");
+        assert!(a[0] != start, "union: accepted");
+        times
+    });
 
     let room = d * w + d * w / 32 + 2;
     let (mut x, mut y) = (vec![0; room], vec![0; room]);
@@ -389,7 +436,7 @@ fn whole(d: usize, w: usize, all_levels: bool) -> [(usize, Vec<f64>); 3] {
         }),
     ]);
     assert!(p == start && q == start, "image read: the memory is restored");
-    [(repeat, unions), (repeat, writes), (repeat, reads)]
+    [unions, copies, writes, reads].map(|times| (repeat, times))
 }
 
 /// Records of a feed, one call each: their words side by side, and where each starts.
@@ -462,20 +509,11 @@ fn feeds() {
     }
 }
 
-fn kind(all_levels: bool) -> &'static str {
-    if all_levels {
-        "all levels"
-    } else {
-        "nothing merged"
-    }
-}
-
 fn whole_meters() {
     heading("d 8, w 65,536, calls a second");
-    for all_levels in [false, true] {
-        let results = whole(8, 65_536, all_levels);
-        for (call, (repeat, times)) in ["union", "image written", "image read"].iter().zip(&results) {
-            line(&format!("{call}, {}", kind(all_levels)), *repeat, times);
+    for kind in KINDS {
+        for (call, (repeat, times)) in WHOLE.iter().zip(&whole(8, 65_536, kind)) {
+            line(&format!("{call}, {}", kind.name()), *repeat, times);
         }
     }
 }
@@ -484,22 +522,17 @@ fn whole_meters() {
 fn growth() {
     println!("\n| nanoseconds a group, d 8, proved (plain C) | w 1,024 | w 4,096 | w 16,384 | w 65,536 |");
     println!("|---|---|---|---|---|");
-    let mut rows: Vec<Vec<String>> = vec![Vec::new(); 6];
-    for w in [1_024, 4_096, 16_384, 65_536] {
-        for all_levels in [false, true] {
-            for (i, (repeat, times)) in whole(8, w, all_levels).iter().enumerate() {
+    for kind in KINDS {
+        let mut rows: [Vec<String>; 4] = Default::default();
+        for w in [1_024, 4_096, 16_384, 65_536] {
+            for (row, (repeat, times)) in rows.iter_mut().zip(&whole(8, w, kind)) {
                 let groups = (repeat * w) as f64;
-                rows[3 * all_levels as usize + i].push(format!(
-                    "{:.1} ({:.1})",
-                    times[0] * 1e9 / groups,
-                    times[1] * 1e9 / groups
-                ));
+                row.push(format!("{:.1} ({:.1})", times[0] * 1e9 / groups, times[1] * 1e9 / groups));
             }
         }
-    }
-    for (i, row) in rows.iter().enumerate() {
-        let call = ["union", "image written", "image read"][i % 3];
-        println!("| {call}, {} | {} |", kind(i >= 3), row.join(" | "));
+        for (call, row) in WHOLE.iter().zip(&rows) {
+            println!("| {call}, {} | {} |", kind.name(), row.join(" | "));
+        }
     }
 }
 
