@@ -7,6 +7,7 @@ use bench::traffic::{packet, Rng, Zipf};
 use bench::{hash, plain, CountMin};
 use std::cell::RefCell;
 use std::hint::black_box;
+use std::sync::OnceLock;
 
 const ROUNDS: usize = 5;
 const KEYS: usize = 100_000;
@@ -21,14 +22,8 @@ struct Calls {
 
 impl Calls {
     fn new(length: usize, zipf: bool) -> Calls {
-        Calls::with_packets(length, zipf, 8)
-    }
-
-    /// The keys are the same for every seed.
-    fn with_packets(length: usize, zipf: bool, seed: u64) -> Calls {
         let mut rng = Rng(7);
         let names: Vec<Vec<u8>> = (0..KEYS).map(|_| (0..length).map(|_| rng.draw() as u8).collect()).collect();
-        let mut rng = Rng(seed);
         let ranks = Zipf::new(KEYS);
         let mut keys = Vec::with_capacity(CALLS * length);
         let mut amounts = Vec::with_capacity(CALLS);
@@ -313,7 +308,7 @@ fn hash_alone() {
 #[derive(Clone, Copy)]
 enum Kind {
     NothingMerged,
-    /// Calls with Zipf keys of 13 bytes.
+    /// Three packets a slot, for Zipf keys.
     Traffic,
     /// Every layout equally often, groups at random.
     AllLevels,
@@ -341,9 +336,17 @@ impl Kind {
                 }
             }
             Kind::Traffic => {
-                // The same keys for every seed, and other packets.
-                for (key, amount) in Calls::with_packets(13, true, seed).each() {
-                    meter::update(d, w, &mut memory, key, amount);
+                static RANKS: OnceLock<Zipf> = OnceLock::new();
+                let ranks = RANKS.get_or_init(|| Zipf::new(KEYS));
+                for _ in 0..3 * w {
+                    let key = (ranks.pick(&mut rng) as u64)
+                        .wrapping_mul(0x9e37_79b9_7f4a_7c15)
+                        .to_le_bytes();
+                    assert_eq!(
+                        meter::update(d, w, &mut memory, &key, packet(&mut rng)).number,
+                        0,
+                        "an update"
+                    );
                 }
             }
             Kind::AllLevels => {
@@ -367,26 +370,28 @@ impl Kind {
 const WHOLE: [&str; 4] = ["union", "union with a copy", "image written", "image read"];
 
 /// A union of two meters of one kind and of one with its copy, an image written and an image read; how often, and the times of all.
+/// No meter is taken twice in a round, so that what the processor remembers of one does not help with the next.
 fn whole(d: usize, w: usize, kind: Kind) -> [(usize, Vec<f64>); 4] {
-    let start = kind.filled(d, w, 11);
-    let other = kind.filled(d, w, 12);
     let repeat = (65_536 * 8 / (d * w)).max(1) * 4;
+    let mut seeds = 11..;
+    let mut meters = || -> Vec<Vec<u8>> { (&mut seeds).take(repeat).map(|seed| kind.filled(d, w, seed)).collect() };
+    let (starts, others) = (meters(), meters());
 
-    let [unions, copies] = [&other, &start].map(|source| {
-        let mut a: Vec<Vec<u8>> = vec![start.clone(); repeat];
-        let mut b = a.clone();
+    let [unions, copies] = [&others, &starts].map(|sources| {
+        let mut a = starts.clone();
+        let mut b = starts.clone();
         let cells = (RefCell::new(&mut a), RefCell::new(&mut b));
-        let restore = |m: &mut Vec<Vec<u8>>| m.iter_mut().for_each(|m| m.copy_from_slice(&start));
+        let restore = |meters: &mut [Vec<u8>]| meters.iter_mut().zip(&starts).for_each(|(m, start)| m.copy_from_slice(start));
         let mut count_min = CountMin::new(d, w);
         let count_source = CountMin::new(d, w);
         let times = time(vec![
-            (&mut || restore(*cells.0.borrow_mut()), &mut || {
-                for m in cells.0.borrow_mut().iter_mut() {
+            (&mut || restore(&mut cells.0.borrow_mut()), &mut || {
+                for (m, source) in cells.0.borrow_mut().iter_mut().zip(sources) {
                     black_box(meter::unite(d, w, m, source));
                 }
             }),
-            (&mut || restore(*cells.1.borrow_mut()), &mut || {
-                for m in cells.1.borrow_mut().iter_mut() {
+            (&mut || restore(&mut cells.1.borrow_mut()), &mut || {
+                for (m, source) in cells.1.borrow_mut().iter_mut().zip(sources) {
                     black_box(plain::unite(d, w, m, source));
                 }
             }),
@@ -397,45 +402,45 @@ fn whole(d: usize, w: usize, kind: Kind) -> [(usize, Vec<f64>); 4] {
             }),
         ]);
         assert!(a == b, "union: the proved memory and the C version's");
-        assert!(a[0] != start, "union: accepted");
+        assert!(a.iter().zip(&starts).all(|(m, start)| m != start), "union: accepted");
         times
     });
 
     let room = d * w + d * w / 32 + 2;
-    let (mut x, mut y) = (vec![0; room], vec![0; room]);
+    let (mut x, mut y) = (vec![vec![0; room]; repeat], vec![vec![0; room]; repeat]);
     let writes = time(vec![
         (&mut || {}, &mut || {
-            for _ in 0..repeat {
-                black_box(meter::image_write(d, w, black_box(&start), &mut x));
+            for (start, words) in starts.iter().zip(&mut x) {
+                black_box(meter::image_write(d, w, start, words));
             }
         }),
         (&mut || {}, &mut || {
-            for _ in 0..repeat {
-                black_box(plain::image_write(d, w, black_box(&start), &mut y));
+            for (start, words) in starts.iter().zip(&mut y) {
+                black_box(plain::image_write(d, w, start, words));
             }
         }),
     ]);
-    let count = meter::image_write(d, w, &start, &mut x);
-    assert!(
-        count.number == 0 && count == plain::image_write(d, w, &start, &mut y) && x == y,
-        "images"
-    );
+    assert!(x == y, "images");
+    for (start, words) in starts.iter().zip(&mut x) {
+        let count = meter::image_write(d, w, start, words);
+        assert_eq!(count.number, 0, "an image");
+        words.truncate(count.figure as usize);
+    }
 
-    let image = &x[..count.figure as usize];
-    let (mut p, mut q) = (vec![0; size(d, w)], vec![0; size(d, w)]);
+    let (mut p, mut q) = (vec![vec![0; size(d, w)]; repeat], vec![vec![0; size(d, w)]; repeat]);
     let reads = time(vec![
         (&mut || {}, &mut || {
-            for _ in 0..repeat {
-                black_box(meter::image_read(d, w, &mut p, black_box(image)));
+            for (m, image) in p.iter_mut().zip(&x) {
+                black_box(meter::image_read(d, w, m, image));
             }
         }),
         (&mut || {}, &mut || {
-            for _ in 0..repeat {
-                black_box(plain::image_read(d, w, &mut q, black_box(image)));
+            for (m, image) in q.iter_mut().zip(&x) {
+                black_box(plain::image_read(d, w, m, image));
             }
         }),
     ]);
-    assert!(p == start && q == start, "image read: the memory is restored");
+    assert!(p == starts && q == starts, "image read: the memory is restored");
     [unions, copies, writes, reads].map(|times| (repeat, times))
 }
 
