@@ -525,11 +525,11 @@ fn whole_meters() {
 
 /// The cost of a call by the width: time for one group.
 fn growth() {
-    println!("\n| nanoseconds a group, d 8, proved (plain C) | w 1,024 | w 4,096 | w 16,384 | w 65,536 |");
-    println!("|---|---|---|---|---|");
+    println!("\n| nanoseconds a group, d 8, proved (plain C) | w 32 | w 256 | w 1,024 | w 8,192 | w 65,536 |");
+    println!("|---|---|---|---|---|---|");
     for kind in KINDS {
         let mut rows: [Vec<String>; 4] = Default::default();
-        for w in [1_024, 4_096, 16_384, 65_536] {
+        for w in [32, 256, 1_024, 8_192, 65_536] {
             for (row, (repeat, times)) in rows.iter_mut().zip(&whole(8, w, kind)) {
                 let groups = (repeat * w) as f64;
                 row.push(format!("{:.1} ({:.1})", times[0] * 1e9 / groups, times[1] * 1e9 / groups));
