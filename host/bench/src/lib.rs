@@ -67,6 +67,8 @@ mod ffi {
             place: *mut u64,
             figure: *mut u64,
         ) -> u32;
+        pub fn hash_lanes(slots: *mut u32, d: usize, w: usize, key: *const u8, key_len: usize);
+        pub fn hash_pairs(slots: *mut u32, d: usize, w: usize, key: *const u8, key_len: usize);
         pub fn countmin_update(d: usize, w: usize, counters: *mut u64, key: *const u8, key_len: usize, amount: u32);
         pub fn countmin_estimate(d: usize, w: usize, counters: *const u64, key: *const u8, key_len: usize) -> u64;
         pub fn countmin_unite(d: usize, w: usize, counters: *mut u64, source: *const u64);
@@ -122,6 +124,72 @@ pub mod plain {
                 f,
             )
         })
+    }
+}
+
+/// The hash alone: the slots of a key in the first d rows of w, d up to 8 and w a power of two from 2 on.
+pub mod hash {
+    use super::ffi;
+
+    fn valid(d: usize, w: usize) -> bool {
+        (1..=8).contains(&d) && w.is_power_of_two() && (2..=65_536).contains(&w)
+    }
+
+    /// As the plain C version does it: four rows side by side.
+    pub fn lanes(slots: &mut [u32; 8], d: usize, w: usize, key: &[u8]) {
+        assert!(valid(d, w));
+        unsafe { ffi::hash_lanes(slots.as_mut_ptr(), d, w, key.as_ptr(), key.len()) };
+    }
+
+    /// By hand in SSE2: two rows to a vector register.
+    pub fn pairs(slots: &mut [u32; 8], d: usize, w: usize, key: &[u8]) {
+        assert!(valid(d, w));
+        unsafe { ffi::hash_pairs(slots.as_mut_ptr(), d, w, key.as_ptr(), key.len()) };
+    }
+}
+
+/// Traffic made up from a seed, the same on every machine.
+pub mod traffic {
+    /// SplitMix64.
+    pub struct Rng(pub u64);
+
+    impl Rng {
+        pub fn draw(&mut self) -> u64 {
+            self.0 = self.0.wrapping_add(0x9e37_79b9_7f4a_7c15);
+            let mut z = self.0;
+            z = (z ^ (z >> 30)).wrapping_mul(0xbf58_476d_1ce4_e5b9);
+            z = (z ^ (z >> 27)).wrapping_mul(0x94d0_49bb_1331_11eb);
+            z ^ (z >> 31)
+        }
+
+        pub fn below(&mut self, n: usize) -> usize {
+            (self.draw() % n as u64) as usize
+        }
+    }
+
+    /// Ranks, from 0, by Zipf's law with exponent 1.
+    pub struct Zipf(Vec<f64>);
+
+    impl Zipf {
+        pub fn new(ranks: usize) -> Zipf {
+            let mut sum = 0.0;
+            let sums = (1..=ranks).map(|rank| {
+                sum += 1.0 / rank as f64;
+                sum
+            });
+            Zipf(sums.collect())
+        }
+
+        pub fn pick(&self, rng: &mut Rng) -> usize {
+            let last = self.0.len() - 1;
+            let x = (rng.draw() >> 11) as f64 / (1u64 << 53) as f64 * self.0[last];
+            self.0.partition_point(|&s| s < x).min(last)
+        }
+    }
+
+    /// A packet's bytes, 64 to 1,500.
+    pub fn packet(rng: &mut Rng) -> u32 {
+        64 + rng.below(1_437) as u32
     }
 }
 

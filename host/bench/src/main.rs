@@ -3,30 +3,15 @@
 //! Each case is measured five times for each, turn by turn, by processor time, and the median is printed. Outputs are compared as
 //! it goes. Memories are cleared, or copied from the same start, before each measured run, and that is not measured.
 
-use bench::{plain, CountMin};
+use bench::traffic::{packet, Rng, Zipf};
+use bench::{hash, plain, CountMin};
 use std::cell::RefCell;
 use std::hint::black_box;
+use std::sync::OnceLock;
 
 const ROUNDS: usize = 5;
 const KEYS: usize = 100_000;
 const CALLS: usize = 200_000;
-
-/// SplitMix64.
-struct Rng(u64);
-
-impl Rng {
-    fn next(&mut self) -> u64 {
-        self.0 = self.0.wrapping_add(0x9e37_79b9_7f4a_7c15);
-        let mut z = self.0;
-        z = (z ^ (z >> 30)).wrapping_mul(0xbf58_476d_1ce4_e5b9);
-        z = (z ^ (z >> 27)).wrapping_mul(0x94d0_49bb_1331_11eb);
-        z ^ (z >> 31)
-    }
-
-    fn below(&mut self, n: usize) -> usize {
-        (self.next() % n as u64) as usize
-    }
-}
 
 /// Calls to measure: keys of one length side by side, and an amount for each, a packet's bytes.
 struct Calls {
@@ -38,25 +23,14 @@ struct Calls {
 impl Calls {
     fn new(length: usize, zipf: bool) -> Calls {
         let mut rng = Rng(7);
-        let names: Vec<Vec<u8>> = (0..KEYS).map(|_| (0..length).map(|_| rng.next() as u8).collect()).collect();
-        // Zipf with exponent 1, by its distribution function.
-        let mut sums = Vec::with_capacity(KEYS);
-        let mut sum = 0.0;
-        for rank in 1..=KEYS {
-            sum += 1.0 / rank as f64;
-            sums.push(sum);
-        }
+        let names: Vec<Vec<u8>> = (0..KEYS).map(|_| (0..length).map(|_| rng.draw() as u8).collect()).collect();
+        let ranks = Zipf::new(KEYS);
         let mut keys = Vec::with_capacity(CALLS * length);
         let mut amounts = Vec::with_capacity(CALLS);
         for _ in 0..CALLS {
-            let at = if zipf {
-                let x = (rng.next() >> 11) as f64 / (1u64 << 53) as f64 * sum;
-                sums.partition_point(|&s| s < x).min(KEYS - 1)
-            } else {
-                rng.below(KEYS)
-            };
+            let at = if zipf { ranks.pick(&mut rng) } else { rng.below(KEYS) };
             keys.extend(&names[at]);
-            amounts.push(64 + rng.below(1437) as u32);
+            amounts.push(packet(&mut rng));
         }
         Calls { length, keys, amounts }
     }
@@ -220,98 +194,254 @@ fn keyed() {
     }
 }
 
-/// A meter with nothing merged, or with every layout, whose union with itself is accepted.
-fn filled(d: usize, w: usize, all_levels: bool) -> Vec<u8> {
-    let mut rng = Rng(11);
-    let mut memory = vec![0; size(d, w)];
-    if !all_levels {
-        for row in memory.chunks_mut(w / 8 * 9) {
-            row[..w].fill_with(|| (rng.next() % 128) as u8);
+/// Speed by the number of rows.
+fn by_rows() {
+    println!("\n| w 1024, Zipf, speed, proved to C | d 1 | d 2 | d 3 | d 4 | d 5 | d 6 | d 7 | d 8 |");
+    println!("|---|---|---|---|---|---|---|---|---|");
+    let w = 1_024;
+    let mut lines = Vec::new();
+    for length in [4, 13, 37] {
+        let calls = Calls::new(length, true);
+        let (mut updates, mut estimates) = (Vec::new(), Vec::new());
+        for d in 1..=8 {
+            let (a, b) = (RefCell::new(vec![0; size(d, w)]), RefCell::new(vec![0; size(d, w)]));
+            let times = time(vec![
+                (&mut || a.borrow_mut().fill(0), &mut || {
+                    let mut m = a.borrow_mut();
+                    for (key, amount) in calls.each() {
+                        black_box(meter::update(d, w, &mut m, key, amount));
+                    }
+                }),
+                (&mut || b.borrow_mut().fill(0), &mut || {
+                    let mut m = b.borrow_mut();
+                    for (key, amount) in calls.each() {
+                        black_box(plain::update(d, w, &mut m, key, amount));
+                    }
+                }),
+            ]);
+            updates.push(format!("{:.2}", times[1] / times[0]));
+            let (a, b) = (a.into_inner(), b.into_inner());
+            assert!(a == b, "d {d}: the proved memory and the C version's");
+            let times = time(vec![
+                (&mut || {}, &mut || {
+                    for (key, _) in calls.each() {
+                        black_box(meter::estimate(d, w, &a, key));
+                    }
+                }),
+                (&mut || {}, &mut || {
+                    for (key, _) in calls.each() {
+                        black_box(plain::estimate(d, w, &b, key));
+                    }
+                }),
+            ]);
+            estimates.push(format!("{:.2}", times[1] / times[0]));
         }
-        return memory;
+        lines.push((format!("update, {length} bytes"), updates));
+        lines.push((format!("estimate, {length} bytes"), estimates));
     }
-    let merges: Vec<u8> = (0..26).map(|code| meter::unpack(code).1[3]).collect();
-    for row in memory.chunks_mut(w / 8 * 9) {
-        for g in 0..w / 8 {
-            let merge = merges[rng.below(26)];
-            row[8 * g..8 * g + 8].copy_from_slice(&rng.next().to_le_bytes());
-            if merge == 0x7f {
-                row[8 * g + 7] /= 2;
-            }
-            row[w + g] = merge;
-        }
+    lines.sort_by_key(|(name, _)| name.starts_with("estimate"));
+    for (name, ratios) in lines {
+        println!("| {name} | {} |", ratios.join(" | "));
     }
-    memory
 }
 
-/// A union, an image written and an image read, of meters of one kind; how often, and the times of all.
-fn whole(d: usize, w: usize, all_levels: bool) -> [(usize, Vec<f64>); 3] {
-    let start = filled(d, w, all_levels);
-    let source = filled(d, w, all_levels);
-    let repeat = (65_536 * 8 / (d * w)).max(1) * 4;
+/// The hash alone beside the calls that it is a part of.
+fn hash_alone() {
+    println!("\n| w 1024, Zipf, nanoseconds a call | the hash alone | two rows to a register | estimate, proved | estimate, plain C | update, proved | update, plain C |");
+    println!("|---|---|---|---|---|---|---|");
+    let w = 1_024;
+    for length in [4, 13, 37] {
+        let calls = Calls::new(length, true);
+        for d in [1, 4, 8] {
+            let cells = [RefCell::new(vec![0; size(d, w)]), RefCell::new(vec![0; size(d, w)])];
+            let mut read = vec![0; size(d, w)];
+            for (key, amount) in calls.each() {
+                let (mut lanes, mut pairs) = ([0; 8], [0; 8]);
+                hash::lanes(&mut lanes, d, w, key);
+                hash::pairs(&mut pairs, d, w, key);
+                assert_eq!(lanes[..d], pairs[..d], "slots");
+                meter::update(d, w, &mut read, key, amount);
+            }
+            let times = time(vec![
+                (&mut || {}, &mut || {
+                    let mut slots = [0; 8];
+                    for (key, _) in calls.each() {
+                        hash::lanes(black_box(&mut slots), d, w, key);
+                    }
+                }),
+                (&mut || {}, &mut || {
+                    let mut slots = [0; 8];
+                    for (key, _) in calls.each() {
+                        hash::pairs(black_box(&mut slots), d, w, key);
+                    }
+                }),
+                (&mut || {}, &mut || {
+                    for (key, _) in calls.each() {
+                        black_box(meter::estimate(d, w, &read, key));
+                    }
+                }),
+                (&mut || {}, &mut || {
+                    for (key, _) in calls.each() {
+                        black_box(plain::estimate(d, w, &read, key));
+                    }
+                }),
+                (&mut || cells[0].borrow_mut().fill(0), &mut || {
+                    let mut m = cells[0].borrow_mut();
+                    for (key, amount) in calls.each() {
+                        black_box(meter::update(d, w, &mut m, key, amount));
+                    }
+                }),
+                (&mut || cells[1].borrow_mut().fill(0), &mut || {
+                    let mut m = cells[1].borrow_mut();
+                    for (key, amount) in calls.each() {
+                        black_box(plain::update(d, w, &mut m, key, amount));
+                    }
+                }),
+            ]);
+            let times: Vec<String> = times.iter().map(|t| format!("{:.1}", t * 1e9 / CALLS as f64)).collect();
+            println!("| d {d}, {length} bytes | {} |", times.join(" | "));
+        }
+    }
+}
 
-    let mut a: Vec<Vec<u8>> = vec![start.clone(); repeat];
-    let mut b = a.clone();
-    let cells = (RefCell::new(&mut a), RefCell::new(&mut b));
-    let restore = |m: &mut Vec<Vec<u8>>| m.iter_mut().for_each(|m| m.copy_from_slice(&start));
-    let mut count_min = CountMin::new(d, w);
-    let count_source = CountMin::new(d, w);
-    let unions = time(vec![
-        (&mut || restore(*cells.0.borrow_mut()), &mut || {
-            for m in cells.0.borrow_mut().iter_mut() {
-                black_box(meter::unite(d, w, m, &source));
+/// What a whole meter holds.
+#[derive(Clone, Copy)]
+enum Kind {
+    NothingMerged,
+    /// Three packets a slot, for Zipf keys.
+    Traffic,
+    /// Every layout equally often, groups at random.
+    AllLevels,
+}
+
+const KINDS: [Kind; 3] = [Kind::NothingMerged, Kind::Traffic, Kind::AllLevels];
+
+impl Kind {
+    fn name(self) -> &'static str {
+        match self {
+            Kind::NothingMerged => "nothing merged",
+            Kind::Traffic => "after traffic",
+            Kind::AllLevels => "all levels",
+        }
+    }
+
+    /// Such a meter, whose union with any other such is accepted.
+    fn filled(self, d: usize, w: usize, seed: u64) -> Vec<u8> {
+        let mut rng = Rng(seed);
+        let mut memory = vec![0; size(d, w)];
+        match self {
+            Kind::NothingMerged => {
+                for row in memory.chunks_mut(w / 8 * 9) {
+                    row[..w].fill_with(|| (rng.draw() % 128) as u8);
+                }
             }
-        }),
-        (&mut || restore(*cells.1.borrow_mut()), &mut || {
-            for m in cells.1.borrow_mut().iter_mut() {
-                black_box(plain::unite(d, w, m, &source));
+            Kind::Traffic => {
+                static RANKS: OnceLock<Zipf> = OnceLock::new();
+                let ranks = RANKS.get_or_init(|| Zipf::new(KEYS));
+                for _ in 0..3 * w {
+                    let key = (ranks.pick(&mut rng) as u64)
+                        .wrapping_mul(0x9e37_79b9_7f4a_7c15)
+                        .to_le_bytes();
+                    assert_eq!(
+                        meter::update(d, w, &mut memory, &key, packet(&mut rng)).number,
+                        0,
+                        "an update"
+                    );
+                }
             }
-        }),
-        (&mut || {}, &mut || {
-            for _ in 0..repeat {
-                count_min.unite(black_box(&count_source));
+            Kind::AllLevels => {
+                let merges: Vec<u8> = (0..26).map(|code| meter::unpack(code).1[3]).collect();
+                for row in memory.chunks_mut(w / 8 * 9) {
+                    for g in 0..w / 8 {
+                        let merge = merges[rng.below(26)];
+                        row[8 * g..8 * g + 8].copy_from_slice(&rng.draw().to_le_bytes());
+                        if merge == 0x7f {
+                            row[8 * g + 7] /= 2;
+                        }
+                        row[w + g] = merge;
+                    }
+                }
             }
-        }),
-    ]);
-    assert!(a == b, "union: the proved memory and the C version's");
-    assert!(a[0] != start, "union: accepted");
+        }
+        memory
+    }
+}
+
+const WHOLE: [&str; 4] = ["union", "union with a copy", "image written", "image read"];
+
+/// A union of two meters of one kind and of one with its copy, an image written and an image read; how often, and the times of all.
+/// No meter is taken twice in a round, so that what the processor remembers of one does not help with the next.
+fn whole(d: usize, w: usize, kind: Kind) -> [(usize, Vec<f64>); 4] {
+    let repeat = (65_536 * 8 / (d * w)).max(1) * 4;
+    let mut seeds = 11..;
+    let mut meters = || -> Vec<Vec<u8>> { (&mut seeds).take(repeat).map(|seed| kind.filled(d, w, seed)).collect() };
+    let (starts, others) = (meters(), meters());
+
+    let [unions, copies] = [&others, &starts].map(|sources| {
+        let mut a = starts.clone();
+        let mut b = starts.clone();
+        let cells = (RefCell::new(&mut a), RefCell::new(&mut b));
+        let restore = |meters: &mut [Vec<u8>]| meters.iter_mut().zip(&starts).for_each(|(m, start)| m.copy_from_slice(start));
+        let mut count_min = CountMin::new(d, w);
+        let count_source = CountMin::new(d, w);
+        let times = time(vec![
+            (&mut || restore(&mut cells.0.borrow_mut()), &mut || {
+                for (m, source) in cells.0.borrow_mut().iter_mut().zip(sources) {
+                    black_box(meter::unite(d, w, m, source));
+                }
+            }),
+            (&mut || restore(&mut cells.1.borrow_mut()), &mut || {
+                for (m, source) in cells.1.borrow_mut().iter_mut().zip(sources) {
+                    black_box(plain::unite(d, w, m, source));
+                }
+            }),
+            (&mut || {}, &mut || {
+                for _ in 0..repeat {
+                    count_min.unite(black_box(&count_source));
+                }
+            }),
+        ]);
+        assert!(a == b, "union: the proved memory and the C version's");
+        assert!(a.iter().zip(&starts).all(|(m, start)| m != start), "union: accepted");
+        times
+    });
 
     let room = d * w + d * w / 32 + 2;
-    let (mut x, mut y) = (vec![0; room], vec![0; room]);
+    let (mut x, mut y) = (vec![vec![0; room]; repeat], vec![vec![0; room]; repeat]);
     let writes = time(vec![
         (&mut || {}, &mut || {
-            for _ in 0..repeat {
-                black_box(meter::image_write(d, w, black_box(&start), &mut x));
+            for (start, words) in starts.iter().zip(&mut x) {
+                black_box(meter::image_write(d, w, start, words));
             }
         }),
         (&mut || {}, &mut || {
-            for _ in 0..repeat {
-                black_box(plain::image_write(d, w, black_box(&start), &mut y));
+            for (start, words) in starts.iter().zip(&mut y) {
+                black_box(plain::image_write(d, w, start, words));
             }
         }),
     ]);
-    let count = meter::image_write(d, w, &start, &mut x);
-    assert!(
-        count.number == 0 && count == plain::image_write(d, w, &start, &mut y) && x == y,
-        "images"
-    );
+    assert!(x == y, "images");
+    for (start, words) in starts.iter().zip(&mut x) {
+        let count = meter::image_write(d, w, start, words);
+        assert_eq!(count.number, 0, "an image");
+        words.truncate(count.figure as usize);
+    }
 
-    let image = &x[..count.figure as usize];
-    let (mut p, mut q) = (vec![0; size(d, w)], vec![0; size(d, w)]);
+    let (mut p, mut q) = (vec![vec![0; size(d, w)]; repeat], vec![vec![0; size(d, w)]; repeat]);
     let reads = time(vec![
         (&mut || {}, &mut || {
-            for _ in 0..repeat {
-                black_box(meter::image_read(d, w, &mut p, black_box(image)));
+            for (m, image) in p.iter_mut().zip(&x) {
+                black_box(meter::image_read(d, w, m, image));
             }
         }),
         (&mut || {}, &mut || {
-            for _ in 0..repeat {
-                black_box(plain::image_read(d, w, &mut q, black_box(image)));
+            for (m, image) in q.iter_mut().zip(&x) {
+                black_box(plain::image_read(d, w, m, image));
             }
         }),
     ]);
-    assert!(p == start && q == start, "image read: the memory is restored");
-    [(repeat, unions), (repeat, writes), (repeat, reads)]
+    assert!(p == starts && q == starts, "image read: the memory is restored");
+    [unions, copies, writes, reads].map(|times| (repeat, times))
 }
 
 /// Records of a feed, one call each: their words side by side, and where each starts.
@@ -384,44 +514,30 @@ fn feeds() {
     }
 }
 
-fn kind(all_levels: bool) -> &'static str {
-    if all_levels {
-        "all levels"
-    } else {
-        "nothing merged"
-    }
-}
-
 fn whole_meters() {
     heading("d 8, w 65,536, calls a second");
-    for all_levels in [false, true] {
-        let results = whole(8, 65_536, all_levels);
-        for (call, (repeat, times)) in ["union", "image written", "image read"].iter().zip(&results) {
-            line(&format!("{call}, {}", kind(all_levels)), *repeat, times);
+    for kind in KINDS {
+        for (call, (repeat, times)) in WHOLE.iter().zip(&whole(8, 65_536, kind)) {
+            line(&format!("{call}, {}", kind.name()), *repeat, times);
         }
     }
 }
 
 /// The cost of a call by the width: time for one group.
 fn growth() {
-    println!("\n| nanoseconds a group, d 8, proved (plain C) | w 1,024 | w 4,096 | w 16,384 | w 65,536 |");
-    println!("|---|---|---|---|---|");
-    let mut rows: Vec<Vec<String>> = vec![Vec::new(); 6];
-    for w in [1_024, 4_096, 16_384, 65_536] {
-        for all_levels in [false, true] {
-            for (i, (repeat, times)) in whole(8, w, all_levels).iter().enumerate() {
+    println!("\n| nanoseconds a group, d 8, proved (plain C) | w 32 | w 256 | w 1,024 | w 8,192 | w 65,536 |");
+    println!("|---|---|---|---|---|---|");
+    for kind in KINDS {
+        let mut rows: [Vec<String>; 4] = Default::default();
+        for w in [32, 256, 1_024, 8_192, 65_536] {
+            for (row, (repeat, times)) in rows.iter_mut().zip(&whole(8, w, kind)) {
                 let groups = (repeat * w) as f64;
-                rows[3 * all_levels as usize + i].push(format!(
-                    "{:.1} ({:.1})",
-                    times[0] * 1e9 / groups,
-                    times[1] * 1e9 / groups
-                ));
+                row.push(format!("{:.1} ({:.1})", times[0] * 1e9 / groups, times[1] * 1e9 / groups));
             }
         }
-    }
-    for (i, row) in rows.iter().enumerate() {
-        let call = ["union", "image written", "image read"][i % 3];
-        println!("| {call}, {} | {} |", kind(i >= 3), row.join(" | "));
+        for (call, row) in WHOLE.iter().zip(&rows) {
+            println!("| {call}, {} | {} |", kind.name(), row.join(" | "));
+        }
     }
 }
 
@@ -440,6 +556,8 @@ fn main() {
     );
     println!("Median of {ROUNDS} rounds; {CALLS} calls a round on {KEYS} keys.");
     keyed();
+    by_rows();
+    hash_alone();
     feeds();
     whole_meters();
     growth();

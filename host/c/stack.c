@@ -1,0 +1,115 @@
+/* What host/bench/measure-stack runs: the stack that each call writes, found by filling the stack below the call before it and looking for
+ * the lowest byte that changed after it. On a stack of its own, so that nothing else writes there. */
+#define _GNU_SOURCE
+#include <pthread.h>
+#include <stdio.h>
+#include <stdlib.h>
+#include <string.h>
+#include <sys/mman.h>
+
+#include "either.h"
+
+enum { STACK = 1 << 20, DEEP = 1 << 13, CALLS = 40000, WIDEST = 4096 };
+
+enum { UPDATE, ESTIMATE, RECORD, UNITE, WRITE, READ, COUNT };
+static const char *const names[COUNT] = {"update", "estimate", "feed record", "union", "image written", "image read"};
+static size_t most[COUNT];
+
+static size_t d, w, len, key_len, image_len;
+static uint8_t memory[8 * WIDEST / 8 * 9], source[sizeof memory], key[64];
+static uint32_t words[8 * WIDEST + 8 * WIDEST / 32 + 2], record[3 + 22], amount;
+
+/* Makes the call with the stack below filled with a byte; how much of it was written. Nothing of this function's own frame is below. */
+__attribute__((noinline)) static size_t written(int which, int fill) {
+    uint64_t place, figure;
+    volatile uint8_t *top, *at;
+    __asm__ volatile("mov %%rsp, %0" : "=r"(top));
+    for (at = top - DEEP; at < top; at++)
+        *at = (uint8_t)fill;
+    switch (which) {
+    case UPDATE:
+        call(update)(d, w, memory, len, key, key_len, amount, &place, &figure);
+        break;
+    case ESTIMATE:
+        call(estimate)(d, w, memory, len, key, key_len, &place, &figure);
+        break;
+    case RECORD:
+        call(feed_record)(d, w, memory, len, 1, record, sizeof record / 4, &place, &figure);
+        break;
+    case UNITE:
+        call(unite)(d, w, memory, len, source, len, &place, &figure);
+        break;
+    case WRITE:
+        call(image_write)(d, w, memory, len, words, sizeof words / 4, &place, &figure);
+        image_len = figure;
+        break;
+    case READ:
+        call(image_read)(d, w, memory, len, words, image_len, &place, &figure);
+        break;
+    }
+    for (at = top - DEEP; at < top && *at == (uint8_t)fill; at++) {
+    }
+    if (at == top - DEEP) {
+        fprintf(stderr, "a call wrote more than %d bytes of stack\n", DEEP);
+        exit(1);
+    }
+    return (size_t)(top - at);
+}
+
+/* Twice, with two bytes: what a call writes may be the byte that was there. */
+static void measure(int which) {
+    static uint8_t before[sizeof memory];
+    memcpy(before, memory, len);
+    size_t a = written(which, 0xa5);
+    memcpy(memory, before, len);
+    size_t b = written(which, 0x5a);
+    size_t deeper = a > b ? a : b;
+    if (deeper > most[which])
+        most[which] = deeper;
+}
+
+static void *run(void *unused) {
+    uint64_t place, figure;
+    for (size_t i = 0; i < CALLS; i++) {
+        /* Meters of all sizes, clear, with nothing merged or with every layout; 500 calls go on from one another. */
+        if (i % 500 == 0) {
+            static const size_t widths[3] = {32, 256, WIDEST};
+            d = 1 + i / 500 % 8;
+            w = widths[draw() % 3];
+            len = d * (w / 8 * 9);
+            call(clear)(d, w, memory, len, &place, &figure);
+            if (i / 500 % 3 != 0)
+                fill(d, w, memory, i / 500 % 3 == 1);
+        }
+        key_len = 1 + draw() % 64;
+        for (size_t k = 0; k < key_len; k++)
+            key[k] = (uint8_t)draw();
+        /* Below 2^32, of all magnitudes. */
+        amount = (uint32_t)(draw() >> 32) >> draw() % 32;
+        make_record(record, key, key_len, draw() % 4 ? &amount : NULL);
+        measure(UPDATE);
+        measure(ESTIMATE);
+        measure(RECORD);
+        if (i % 50 == 49) {
+            fill(d, w, source, (int)(draw() % 2));
+            measure(UNITE);
+            measure(WRITE);
+            measure(READ);
+        }
+    }
+    return unused;
+}
+
+int main(void) {
+    void *stack = mmap(NULL, STACK, PROT_READ | PROT_WRITE, MAP_PRIVATE | MAP_ANONYMOUS, -1, 0);
+    pthread_attr_t attr;
+    pthread_t thread;
+    if (stack == MAP_FAILED || pthread_attr_init(&attr) != 0 || pthread_attr_setstack(&attr, stack, STACK) != 0 ||
+        pthread_create(&thread, &attr, run, NULL) != 0 || pthread_join(thread, NULL) != 0) {
+        fprintf(stderr, "no thread with a stack of its own\n");
+        return 1;
+    }
+    for (int i = 0; i < COUNT; i++)
+        printf("%s;%zu\n", names[i], most[i]);
+    return 0;
+}
