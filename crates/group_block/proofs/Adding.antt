@@ -1,15 +1,13 @@
 -- Laws of adding and uniting, for any level.
-use mathlib.Core.Path.{_≡_, refl, sym, ap, _∙_}
-use mathlib.Core.Bool.{Bool, true, false, cond, true≢false}
+use mathlib.Core.Path.{_≡_, refl, sym, _∙_}
+use mathlib.Core.Bool.{Bool, true, false, cond}
 use Prim.Native.Nat.{ℕ, suc, _+_, _-_, _^_, _≤_, _<_}
 use native.Mathlib.Omega.{arith}
-use borrow.Author.Tests.{lt-ltb, ltb-true, ltb-false}
+use borrow.Author.Tests.{ltb-true, ltb-false}
 use lib.Dec.{ltb}
-use Rattle.group_layout.specs.Layout.{Layout, merged, halves}
-use Rattle.group_block.specs.declared.Counter.{Counter}
 use Rattle.group_block.specs.Kind.{Kind}
-use Rattle.group_block.specs.Block.{BlockOf, Block, counter, split, cap, Fits, shape, counterAt, total}
-use Rattle.group_block.specs.Sum.{SumOf, Sum, fits, over, held, join, add, unite, sumTotal}
+use Rattle.group_block.specs.Block.{BlockOf, Block, counter, split, Fits, total}
+use Rattle.group_block.specs.Sum.{SumOf, fits, over, held, join, add, unite, sumTotal}
 use Rattle.group_block.proofs.Sums.{Sums, ordinary-sums, swap, cross}
 
 -- a block whose counters hold their values, or a sum that does not fit

@@ -1,16 +1,15 @@
--- What the code's addition and union ask of their recursive calls and of `join`, and what these give, in a block of two halves.
-use mathlib.Core.Path.{_≡_, refl, sym, _∙_}
+-- What the code's addition asks of its recursive calls and of `join`, and what these give, in a block of two halves.
+use mathlib.Core.Path.{_≡_, sym, _∙_}
 use mathlib.Core.Bool.{true, false}
 use Prim.Native.Nat.{ℕ, _+_, _-_, _^_, _≤_, _<_}
 use native.Mathlib.Omega.{arith}
 use lib.Dec.{ltb}
 use Rattle.group_block.specs.declared.Summed.{Summed}
-use Rattle.group_block.specs.Block.{Block, counter, split, block, total}
-use Rattle.group_block.specs.Sum.{fits, held, join, add, unite, sumTotal}
+use Rattle.group_block.specs.Block.{block, total}
+use Rattle.group_block.specs.Sum.{fits, join, add, sumTotal}
 use Rattle.group_block.specs.Passed.{summed, sumOf, Sane, Apt}
-use Rattle.group_block.proofs.Adding.{Sound}
-use Rattle.group_block.proofs.Adding.{add-total, add-sound, unite-total, unite-sound}
-use Rattle.group_block.proofs.Halves.{Apart, both-apart, join-asks, join-gives, apart-is, left-sane, right-sane, left-is, right-is, left-fits, right-fits, total-apart}
+use Rattle.group_block.proofs.Adding.{Sound, add-total, add-sound}
+use Rattle.group_block.proofs.Halves.{Apart, join-asks, join-gives, apart-is, left-sane, right-sane, left-is, right-is, left-fits, right-fits, total-apart}
 
 -- what the code's recursive calls ask of halves, and its join of two results
 abbrev pub Asked : ℕ → Summed → ℕ → Type 0

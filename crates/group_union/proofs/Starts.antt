@@ -9,7 +9,7 @@ use native.Mathlib.Omega.{arith}
 use borrow.Author.Tests.{eqb-true, eq-eqb, lt-ltb, le-ltb}
 use lib.Arith.{digits-lt, digits-mod}
 use lib.Bits.{bitAnd, bitXor, and-zero-r, and-le-r, and-block, and-high, xor-add-and, xor-shr, xor-lt, block-half, block-odd}
-use lib.Dec.{eqb, ltb}
+use lib.Dec.{eqb}
 use lib.Pow.{pow-pos, pow-mono, pow-add, shr-shr, high, ones-lt}
 use Rattle.group_layout.specs.Layout.{Layout, merged, halves, bit, ones, marks, layout, valid}
 use Rattle.group_layout.proofs.Laws.{marks-lt, marks-in, bit-halves, marks-layout}
