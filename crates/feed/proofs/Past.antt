@@ -10,11 +10,11 @@ use Rattle.feed_records.specs.declared.Opening.the-variants as opening
 use Rattle.feed_records.specs.declared.Body.{Body}
 use Rattle.feed_records.specs.declared.Body.the-variants as body
 use Rattle.feed_keys.specs.Keys.{keyOf}
-use Rattle.feed_records.specs.Words.{opened, updateBody, queryBody, wordsTaken}
+use Rattle.feed_records.specs.Words.{opened, updateBody, queryBody, wordsNeeded}
 use Rattle.feed.specs.Record.{updateOutcome, queried, openedOutcome, recordOutcome, recorded}
 use Rattle.feed.proofs.Cases.{carriedUpdate, carried, carriedAfter, by-cases}
 use Rattle.feed_keys.proofs.Places.{key-same}
-use Rattle.feed_records.proofs.Past.{taken, some-taken, opened-taken, update-same, query-same, opened-same}
+use Rattle.feed_records.proofs.Past.{taken, some-needed, opened-needed, update-same, query-same, opened-same}
 
 module _ (words : List ℕ) (n : ℕ) where
   abbrev front : List ℕ
@@ -38,12 +38,12 @@ module _ (words : List ℕ) (n : ℕ) where
     carried-same opening.End h = refl
     carried-same (opening.Refused s) h = refl
 
-    after-same : (s before : ℕ) → wordsTaken words ≤ n → carriedAfter s d w memory before front ≡ carriedAfter s d w memory before words
+    after-same : (s before : ℕ) → wordsNeeded words ≤ n → carriedAfter s d w memory before front ≡ carriedAfter s d w memory before words
     unfolding carriedAfter recordOutcome
     after-same zero before h =
-        let l = some-taken words in
-        rw (opened-same words n before (omega arith)) (carried-same (opened before words) (omega (arith, opened-taken before words)))
+        let l = some-needed words in
+        rw (opened-same words n before (omega arith)) (carried-same (opened before words) (omega (arith, opened-needed before words)))
     after-same (suc s) before h = refl
 
-    pub record-alone : (before : ℕ) → wordsTaken words ≤ n → recorded d w memory before (take n words) ≡ recorded d w memory before words
+    pub record-alone : (before : ℕ) → wordsNeeded words ≤ n → recorded d w memory before (take n words) ≡ recorded d w memory before words
     record-alone before h = rw (by-cases d w memory before front, by-cases d w memory before words) (after-same (badShape d w (length memory)) before h)

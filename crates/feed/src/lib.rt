@@ -5,6 +5,7 @@ pub use feed_head::head_depth;
 pub use feed_head::head_width;
 use feed_records::Body;
 use feed_records::Opening;
+pub use feed_records::words_needed;
 pub use feed_records::words_taken;
 ghost use mathlib.Core.Path.{_≡_};
 ghost use Prim.Native.Nat.{_≤_};

@@ -9,10 +9,11 @@ use lib.ListN.{length, take, drop, replicate, length-take, length-drop, length-a
 use lib.Seq.{drop-append-le}
 use Rattle.geometry.specs.Geometry.{size}
 use Rattle.geometry.specs.Checks.{badShape}
-use Rattle.feed_records.specs.Words.{wordsTaken}
-use Rattle.feed_records.proofs.Past.{some-taken}
+use Rattle.feed_records.specs.Words.{wordsTaken, wordsNeeded}
+use Rattle.feed_records.proofs.Past.{some-taken, some-needed, needed-most, taken-same, needed-same}
 use Rattle.feed.specs.Head.{headed}
 use Rattle.feed.specs.Record.{Carried, recorded}
+use Rattle.feed.proofs.Past.{record-alone}
 use Rattle.feed_head.proofs.Laws.{head-alone}
 use Rattle.feed_line.specs.declared.Line.{Line}
 use Rattle.feed_line.specs.declared.Line.the-variants as line
@@ -22,11 +23,11 @@ use Rattle.word_bytes.proofs.Laws.{words-length, words-front}
 use Rattle.feed_lines.specs.declared.Progress.{Progress}
 use Rattle.feed_lines.specs.Line.{headLine, lineOf}
 use Rattle.feed_lines.specs.Feed.{followed, recordLine, afterEnd, past, recordLines, afterHead, feedLines}
-use Rattle.feed_lines.specs.Step.{takenBy, progress, linesFrom, Enough}
+use Rattle.feed_lines.specs.Step.{takenBy, progress, linesFrom, bytesNeeded, Enough}
 use Rattle.feed_lines.specs.Bounds.{Fitting}
 use Rattle.feed_lines.proofs.Heads.{accepted-some, head-fits, head-geometry, fitting-shape}
 use borrow.Table.Steps.{cases}
-use Rattle.feed_lines.proofs.Record.{record-keeps, record-lies, record-lent, taken-lent}
+use Rattle.feed_lines.proofs.Record.{record-keeps, record-lies}
 
 -- lines after a line, where they are printed
 pub followed-same : (l : Line) (a b x y : List Line) → (continues l ≡ true → a ≡ b) → (isEnd l ≡ true → x ≡ y) → followed l a x ≡ followed l b y
@@ -75,7 +76,41 @@ one-more : (n d w : ℕ) (memory : List ℕ) (before records : ℕ) (bytes : Lis
 unfolding recordLines
 one-more n d w memory before records bytes c k e f = rw (e, f)
 
-module _ (d w : ℕ) (memory : List ℕ) (before records : ℕ) (lent rest : List ℕ) (shape : badShape d w (length memory) ≡ 0) (held : Enough lent rest) where
+-- the first word tells how many words are needed
+pub first-needs : (lent rest : List ℕ) → Enough 4 lent rest → wordsNeeded (wholeWords (lent ++ rest)) ≡ wordsNeeded (wholeWords lent)
+first-needs lent rest held =
+    sym (needed-same (wholeWords (lent ++ rest)) 1 (omega arith))
+    ∙ ap wordsNeeded (lent-front 1 lent rest (⊎-elim (λ l. inl (omega arith)) (λ e. inr e) held))
+    ∙ needed-same (wholeWords lent) 1 (omega arith)
+
+-- A record's words at hand are enough: with them alone, or any after them, it does the same.
+module _ (lent rest : List ℕ) (held : Enough (bytesNeeded lent) lent rest) where
+  abbrev hand : List ℕ
+  hand = wholeWords lent
+
+  abbrev need : ℕ
+  need = wordsNeeded hand
+
+  front : take need (wholeWords (lent ++ rest)) ≡ take need hand
+  front = lent-front need lent rest held
+
+  need-same : wordsNeeded (wholeWords (lent ++ rest)) ≡ need
+  need-same = first-needs lent rest (⊎-elim (λ l. inl (omega (arith, some-needed hand))) (λ e. inr e) held)
+
+  record-same : (d w : ℕ) (memory : List ℕ) (before : ℕ) → recorded d w memory before (wholeWords (lent ++ rest)) ≡ recorded d w memory before (take 25 hand)
+  record-same d w memory before =
+      sym (record-alone (wholeWords (lent ++ rest)) need d w memory before (omega (arith, need-same)))
+      ∙ ap (recorded d w memory before) front
+      ∙ record-alone hand need d w memory before (omega arith)
+      ∙ sym (record-alone hand 25 d w memory before (needed-most hand))
+
+  took-same : wordsTaken (wholeWords (lent ++ rest)) ≡ wordsTaken (take 25 hand)
+  took-same =
+      sym (taken-same (wholeWords (lent ++ rest)) need (some-needed hand)) ∙ ap wordsTaken front ∙ taken-same hand need (some-needed hand)
+      ∙ sym (taken-same hand 25 (omega arith))
+
+module _ (d w : ℕ) (memory : List ℕ) (before records : ℕ) (lent rest : List ℕ) (shape : badShape d w (length memory) ≡ 0)
+    (held : Enough (bytesNeeded lent) lent rest) where
   abbrev words : List ℕ
   words = take 25 (wholeWords lent)
 
@@ -90,7 +125,7 @@ module _ (d w : ℕ) (memory : List ℕ) (before records : ℕ) (lent rest : Lis
       rw (words-length (drop (4 * k) lent ++ rest), words-length (lent ++ rest), length-append (drop (4 * k) lent) rest, length-append lent rest, length-drop (4 * k) lent)
       (omega (arith, length-take 25 (wholeWords lent), words-length lent))
 
-  -- One step over the bytes at hand, of which there are those of the longest record or all that come.
+  -- One step over the bytes at hand, of which there are those of the record or all that come.
   pub step-lines : linesFrom d w memory before records (lent ++ rest)
       ≡ followed (done .line) (linesFrom d w (recorded d w memory before words .memory) (done .words) (done .records) (drop (4 * done .taken) lent ++ rest))
       (afterEnd (done .words) (drop (4 * done .taken) lent ++ rest))
@@ -98,9 +133,8 @@ module _ (d w : ℕ) (memory : List ℕ) (before records : ℕ) (lent rest : Lis
   step-lines =
       let all = wholeWords (lent ++ rest) in
       let l = recordLine d w memory before records words in
-      let front = lent-front 25 lent rest held in
-      let same : recorded d w memory before all ≡ recorded d w memory before words = sym (record-lent d w memory before all) ∙ ap (recorded d w memory before) front in
-      let took : wordsTaken all ≡ wordsTaken words = sym (taken-lent all) ∙ ap wordsTaken front in
+      let same = record-same lent rest held d w memory before in
+      let took = took-same lent rest held in
       let lies = record-lies d w memory before words shape records in
       one-more (length all) d w memory before records (lent ++ rest) (recorded d w memory before words) (wordsTaken words) same took
       ∙ followed-same l _ _ _ _
@@ -117,7 +151,7 @@ module _ (d w : ℕ) (memory : List ℕ) (before records : ℕ) (lent rest : Lis
       let k = taken-end l words t in
       rw k (rw (cut (wordsTaken words) (omega (arith, k, lies)))))
 
-module _ (lent rest : List ℕ) (held : Enough lent rest) where
+module _ (lent rest : List ℕ) (held : Enough 4 lent rest) where
   abbrev first : List ℕ
   first = take 1 (wholeWords lent)
 

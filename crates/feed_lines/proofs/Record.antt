@@ -1,15 +1,13 @@
--- A record's call on a meter of the right length stops the feed, or all its words are lent; the longest record has 25 words.
+-- A record's call on a meter of the right length stops the feed, or all its words are lent.
 use mathlib.Core.Logic.{_⊎_, ⊎-elim, inl, inr}
 use mathlib.Core.Path.{_≡_, refl, sym, ap, _∙_}
 use mathlib.Core.Bool.{Bool, true, false, _&&_, _||_, true≢false}
-use mathlib.Core.List.{List, [], _∷_}
-use Prim.Native.Nat.{ℕ, zero, suc, _+_, _-_, _^_, _%_, _≤_, _<_}
-use native.Mathlib.Decide.{decLt}
+use mathlib.Core.List.{List}
+use Prim.Native.Nat.{ℕ, zero, suc, _+_, _-_, _^_, _%_, _≤_}
 use native.Mathlib.Omega.{arith}
-use borrow.Author.Tests.{eqb-true, eq-eqb, leb-true, lt-ltb}
-use borrow.Table.Steps.{cases}
+use borrow.Author.Tests.{eqb-true, eq-eqb}
 use lib.Dec.{eqb, leb}
-use lib.ListN.{length, take}
+use lib.ListN.{length}
 use Rattle.answer.specs.Numbers.{badPayload}
 use Rattle.answer.proofs.Answers.{finish-kept}
 use Rattle.geometry.specs.Checks.{badShape, badKey}
@@ -18,17 +16,14 @@ use Rattle.meter.proofs.Memory.{update-accepted}
 use Rattle.word.specs.declared.Step.{Step}
 use Rattle.word.specs.Word.{endKind, next, payload, isDue, tested, below}
 use Rattle.word.proofs.Laws.{due-in, one-on}
-use Rattle.feed_records.specs.declared.Opening.the-variants as opening
 use Rattle.feed_records.specs.Words.{updateKind, queryKind, keyKind, amountKind, opensKey, opened, keyOf, amountOf, keyWords, keyPayload, keyWord, checkKey, checkAmount, updateStep, queryStep, bodyOf, updateBody, queryBody, wordsTaken}
 use Rattle.feed_keys.proofs.Places.{key-in}
 use Rattle.feed_records.proofs.Places.{update-in}
-use Rattle.feed_records.proofs.Past.{opened-same}
 use Rattle.feed.specs.declared.Recorded.{Recorded}
 use Rattle.feed.specs.declared.Recorded.the-variants as case
-use Rattle.feed.specs.Record.{Carried, outcomeOf, updateOutcome, queried, openedOutcome, recordOutcome, recorded}
-use Rattle.feed.proofs.Cases.{carriedUpdate, carried, carriedAfter, by-cases}
+use Rattle.feed.specs.Record.{Carried, outcomeOf, updateOutcome, queried, openedOutcome, recorded}
+use Rattle.feed.proofs.Cases.{carriedUpdate, carried}
 use Rattle.feed.proofs.Laws.{record-good}
-use Rattle.feed.proofs.Past.{record-alone}
 use Rattle.feed_line.specs.declared.Line.{Line}
 use Rattle.feed_line.specs.Line.{stops, refusedLine, continues, isEnd}
 use Rattle.feed_lines.specs.Line.{lineOf}
@@ -199,36 +194,7 @@ module _ (d w : ℕ) (memory : List ℕ) (before : ℕ) (words : List ℕ) (shap
       (λ h. omega (arith, taken-most (lineOf (outcomeOf (estimated d w memory key) (case.Estimate (estimated d w memory key .value))) before records) words))
       (λ h. h)
 
-long-key : (n : ℕ) → 64 < n → badKey n ≡ 4
-long-key n h = cases (leb n 64) (λ t. absurd (omega (arith, leb-true n 64 t))) (λ t. rw t (cases (leb 1 n) (λ s. rw s) (λ s. rw s)))
-
 -- the same of what the code finds one after another
 pub step-lies : (d w : ℕ) (memory : List ℕ) (before records : ℕ) (words : List ℕ) (r : Recorded) (l : Line) (n : ℕ) → badShape d w (length memory) ≡ 0
     → r ≡ recorded d w memory before words .outcome → l ≡ lineOf r before records → n ≡ takenBy l words → n ≤ length words
 step-lies d w memory before records words r l n shape e f g = rw (g, f, e) (record-lies d w memory before words shape records)
-
--- a record whose words would be more than those of the longest has a key length that is refused
-long-refused : (before : ℕ) (words : List ℕ) → 25 < wordsTaken words → opened before words ≡ opening.Refused 4
-unfolding wordsTaken opened opensKey
-long-refused before words =
-    let n = payload words 0 in
-    cases (isDue words 0 updateKind) (λ u. rw u (λ h. rw (long-key n (omega arith))))
-    (λ u. rw u (cases (isDue words 0 queryKind) (λ q. rw q (λ h. rw (long-key n (omega arith)))) (λ q. rw q (λ h. absurd (omega arith)))))
-
--- A call that is lent the words of the longest record does what one does that is lent all of them.
-pub record-lent : (d w : ℕ) (memory : List ℕ) (before : ℕ) (words : List ℕ) → recorded d w memory before (take 25 words) ≡ recorded d w memory before words
-unfolding carriedAfter recordOutcome carried openedOutcome
-record-lent d w memory before words =
-    elim (decLt 25 (wordsTaken words)) [
-      | yes l ↦ by-cases d w memory before (take 25 words) ∙ after (badShape d w (length memory)) l ∙ sym (by-cases d w memory before words)
-      | no l ↦ record-alone words 25 d w memory before (omega arith)
-    ]
-  where
-    after : (s : ℕ) → 25 < wordsTaken words → carriedAfter s d w memory before (take 25 words) ≡ carriedAfter s d w memory before words
-    after zero l = rw (opened-same words 25 before (omega arith), long-refused before words l)
-    after (suc s) l = refl
-
-pub taken-lent : (words : List ℕ) → wordsTaken (take 25 words) ≡ wordsTaken words
-unfolding wordsTaken isDue payload
-taken-lent [] = refl
-taken-lent (x ∷ xs) = rw (lt-ltb 0 (length (take 25 (x ∷ xs))) (omega arith), lt-ltb 0 (length (x ∷ xs)) (omega arith))

@@ -5,7 +5,7 @@ use mathlib.Core.Path.{_≡_}
 use mathlib.Core.Bool.{cond, _||_}
 use mathlib.Core.List.{List, []}
 use lib.ListN.{length}
-use Rattle.feed_records.specs.Words.{wordsTaken}
+use Rattle.feed_records.specs.Words.{wordsTaken, wordsNeeded}
 use Rattle.feed_line.specs.declared.Line.{Line}
 use Rattle.word_bytes.specs.Words.{wholeWords}
 use Rattle.feed_line.specs.Line.{continues, isEnd}
@@ -27,6 +27,10 @@ progress d w memory before records words =
 abbrev pub linesFrom : ℕ → ℕ → List ℕ → ℕ → ℕ → List ℕ → List Line
 linesFrom d w memory before records bytes = recordLines (suc (length (wholeWords bytes))) d w memory before records bytes
 
--- Bytes at hand before those that are still to come: at least the longest record's, or all.
-abbrev pub Enough : List ℕ → List ℕ → Type 0
-Enough held rest = (4 * 25 ≤ length held) ⊎ (rest ≡ [])
+-- the bytes that must be at hand for the record or the end that they begin with to be carried out
+abbrev pub bytesNeeded : List ℕ → ℕ
+bytesNeeded bytes = 4 * wordsNeeded (wholeWords bytes)
+
+-- Bytes at hand before those that are still to come: at least n, or all.
+abbrev pub Enough : ℕ → List ℕ → List ℕ → Type 0
+Enough n held rest = (n ≤ length held) ⊎ (rest ≡ [])

@@ -4,6 +4,8 @@ use mathlib.Core.Bool.{Bool, true, false, cond}
 use mathlib.Core.List.{List}
 use Prim.Native.Nat.{ℕ, _+_, _%_, _^_, _≤_}
 use native.Mathlib.Omega.{arith}
+use borrow.Author.Tests.{eqb-true}
+use borrow.Table.Steps.{cases}
 use lib.Dec.{eqb}
 use lib.ListN.{take}
 use Rattle.answer.specs.Numbers.{badPayload, badWord}
@@ -15,7 +17,8 @@ use Rattle.feed_keys.proofs.Places.{key-on, key-words-same}
 use Rattle.feed_records.specs.declared.Opening.{Opening}
 use Rattle.feed_records.specs.declared.Opening.the-variants as opening
 use Rattle.feed_keys.specs.Keys.{keyWords, checkKey}
-use Rattle.feed_records.specs.Words.{updateKind, queryKind, amountKind, opensKey, opened, checkAmount, amountOf, updateStep, queryStep, updateBody, queryBody, wordsTaken}
+use Rattle.feed_records.specs.Words.{updateKind, queryKind, amountKind, opensKey, opened, checkAmount, amountOf, updateStep, queryStep, updateBody, queryBody, wordsTaken, wordsNeeded}
+use Rattle.feed_records.proofs.Laws.{key-short}
 
 -- the words that a first word opens
 unfoldable pub taken : Opening → ℕ
@@ -44,7 +47,7 @@ some-taken words = update (isDue words 0 updateKind)
     update true = omega arith
     update false = query (isDue words 0 queryKind)
 
-pub opened-taken : (before : ℕ) (words : List ℕ) → taken (opened before words) ≤ wordsTaken words
+opened-taken : (before : ℕ) (words : List ℕ) → taken (opened before words) ≤ wordsTaken words
 unfolding opened wordsTaken taken
 opened-taken before words = update (isDue words 0 updateKind)
   where
@@ -69,6 +72,38 @@ opened-taken before words = update (isDue words 0 updateKind)
         ≤ cond t (1 + keyWords n + 2) (cond (isDue words 0 queryKind) (1 + keyWords n) 1)
     update true = key-taken n (opening.Update n) (1 + keyWords n + 2) (omega arith) (omega arith)
     update false = query (isDue words 0 queryKind)
+
+-- a record whose key length passes has at most 25 words
+taken-most : (words : List ℕ) → badKey (payload words 0) ≡ 0 → wordsTaken words ≤ 25
+unfolding wordsTaken
+taken-most words h =
+    let l = key-short (payload words 0) h in
+    cases (isDue words 0 updateKind) (λ u. rw u (omega arith))
+    (λ u. rw u (cases (isDue words 0 queryKind) (λ q. rw q (omega arith)) (λ q. rw q (omega arith))))
+
+pub some-needed : (words : List ℕ) → 1 ≤ wordsNeeded words
+unfolding wordsNeeded
+some-needed words = cases (eqb (badKey (payload words 0)) 0) (λ t. rw t (some-taken words)) (λ t. rw t (omega arith))
+
+pub needed-most : (words : List ℕ) → wordsNeeded words ≤ 25
+unfolding wordsNeeded
+needed-most words =
+    cases (eqb (badKey (payload words 0)) 0) (λ t. rw t (taken-most words (eqb-true _ 0 t))) (λ t. rw t (omega arith))
+
+-- a key length that does not pass opens nothing
+none-opened : (before : ℕ) (words : List ℕ) → eqb (badKey (payload words 0)) 0 ≡ false → taken (opened before words) ≤ 1
+unfolding opened opensKey taken
+none-opened before words t =
+    cases (isDue words 0 updateKind) (λ u. rw (u, t) (omega arith))
+    (λ u. rw u (cases (isDue words 0 queryKind) (λ q. rw (q, t) (omega arith))
+    (λ q. rw q (cases (isDue words 0 endKind)
+    (λ e. rw e (cases (eqb (payload words 0) (before % 2 ^ 28)) (λ b. rw b (omega arith)) (λ b. rw b (omega arith)))) (λ e. rw e (omega arith))))))
+
+-- what a first word opens needs no more words
+pub opened-needed : (before : ℕ) (words : List ℕ) → taken (opened before words) ≤ wordsNeeded words
+unfolding wordsNeeded
+opened-needed before words =
+    cases (eqb (badKey (payload words 0)) 0) (λ t. rw t (opened-taken before words)) (λ t. rw t (none-opened before words t))
 
 module _ (words : List ℕ) (n : ℕ) where
   abbrev front : List ℕ
@@ -97,3 +132,12 @@ module _ (words : List ℕ) (n : ℕ) where
   pub opened-same : (before : ℕ) → 1 ≤ n → opened before front ≡ opened before words
   unfolding opened
   opened-same before h = rw (due-same words n 0 updateKind h, due-same words n 0 queryKind h, due-same words n 0 endKind h, payload-same words n 0 h)
+
+  -- the first word tells how many words are taken and needed
+  pub taken-same : 1 ≤ n → wordsTaken front ≡ wordsTaken words
+  unfolding wordsTaken
+  taken-same h = rw (due-same words n 0 updateKind h, due-same words n 0 queryKind h, payload-same words n 0 h)
+
+  pub needed-same : 1 ≤ n → wordsNeeded front ≡ wordsNeeded words
+  unfolding wordsNeeded
+  needed-same h = rw (payload-same words n 0 h, taken-same h)

@@ -65,3 +65,7 @@ queryBody n words = bodyOf (queryStep n words) 0
 unfoldable pub wordsTaken : List ℕ → ℕ
 wordsTaken words =
     cond (isDue words 0 updateKind) (1 + keyWords (payload words 0) + 2) (cond (isDue words 0 queryKind) (1 + keyWords (payload words 0)) 1)
+
+-- The number of words that must be at hand for a record to be carried out: one, and after a first word that opens a record all its words.
+unfoldable pub wordsNeeded : List ℕ → ℕ
+wordsNeeded words = cond (eqb (badKey (payload words 0)) 0) (wordsTaken words) 1

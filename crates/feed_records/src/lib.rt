@@ -11,7 +11,7 @@ ghost use Prim.Native.Nat.{_^_, _<_, _≤_};
 ghost use lib.ListN.{length, take};
 ghost use Rattle.feed_records.specs.Answers.{bodyAnswer};
 ghost use Rattle.feed_keys.specs.Keys.{keyOf};
-ghost use Rattle.feed_records.specs.Words.{opensKey, opened, checkAmount, amountOf, updateStep, bodyOf, updateBody, queryBody, wordsTaken};
+ghost use Rattle.feed_records.specs.Words.{opensKey, opened, checkAmount, amountOf, updateStep, bodyOf, updateBody, queryBody, wordsTaken, wordsNeeded};
 
 // The kinds of a record's words.
 pub const UPDATE: u32 = 5;
@@ -148,4 +148,15 @@ pub fn words_taken(words: &[u32]) -> usize
         return 1 + n;
     }
     1
+}
+
+// The number of words that must be at hand for a record to be carried out, at most those of the longest.
+pub fn words_needed(words: &[u32]) -> usize
+    ensures { λ r. ⌜ r ≡ wordsNeeded (now (words .entry)) ⌝ }
+    ensures { λ r. ⌜ (1 ≤ r) × (r ≤ 25) ⌝ }
+{
+    if geometry::bad_key(payload(words, 0) as usize) != 0 {
+        return 1;
+    }
+    words_taken(words)
 }

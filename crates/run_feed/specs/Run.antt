@@ -1,19 +1,21 @@
 -- What a part of a run prints, by the definition of a feed's lines. The code's own terms.
 -- No contract can say what a read brings or where a written byte goes. So `read` and `sent` are some bytes: those that the part's reads
--- brought and its writes took.
-use Prim.Native.Nat.{ℕ, _+_, _*_, _^_, _<_}
+-- brought and that it handed to writes. If a write failed, `sent` is all the same the start of what was due, and `lost` the rest.
+use Prim.Native.Nat.{ℕ, _+_, _*_, _^_, _≤_, _<_}
+use mathlib.Core.Logic.{_⊎_}
 use mathlib.Core.Path.{_≡_}
-use mathlib.Core.Bool.{Bool, false, cond}
+use mathlib.Core.Bool.{Bool, true, false, cond}
 use mathlib.Core.List.{List, [], _++_}
 use lib.ListN.{length, take, drop, replicate}
 use Rattle.geometry.specs.Geometry.{size}
 use Rattle.feed_line.specs.declared.Line.{Line}
 use Rattle.feed_text.specs.Line.{texts}
 use Rattle.feed_lines.specs.Feed.{afterEnd}
-use Rattle.feed_lines.specs.Step.{linesFrom}
+use Rattle.feed_lines.specs.Step.{linesFrom, bytesNeeded}
 use Rattle.run_feed.specs.declared.State.{State}
-use Rattle.run_feed.specs.declared.input.Input.{Input}
-use Rattle.run_feed.specs.Buffers.{unused}
+use Rattle.feed_io.specs.declared.input.Input.{Input}
+use Rattle.feed_io.specs.declared.output.Output.{Output}
+use Rattle.feed_io.specs.Buffers.{unused, Held, Refilled, Cleared}
 
 -- the lines that are left to print, from the bytes not yet used and those still to come
 abbrev pub left : ℕ → ℕ → List ℕ → State → List ℕ → List Line
@@ -22,32 +24,58 @@ left d w memory s bytes =
 
 -- the text at hand and that of the lines that are left, if `bytes` come
 abbrev pub due : ℕ → ℕ → List ℕ → State → List ℕ → List ℕ → List ℕ → List ℕ
-due d w memory s input output bytes = take (s .out) output ++ texts (left d w memory s (unused (s .input) input ++ bytes))
+due d w memory s input output bytes = take (s .output .at) output ++ texts (left d w memory s (unused (s .input) input ++ bytes))
 
 -- the bytes of the feed up to here
 abbrev pub seen : State → List ℕ → ℕ
 seen s input = 4 * s .words + length (unused (s .input) input)
 
--- From s to r nothing that is due is lost: what was due is what is written and what is now due. Nothing comes after the input's end.
+-- the state with other bytes at hand; a failed write ends the run
+abbrev pub stateWith : State → Input → Output → State
+stateWith s i o =
+    record { input = i; output = o; words = s .words; records = s .records; runs = cond (o .failed) false (s .runs); ended = cond (o .failed) false (s .ended) }
+
+-- At least n bytes at hand, or all, with space for a line. If any was read, no text was left unwritten.
+pub record Received (n : ℕ) (s : State) (input output : List ℕ) (r : State) (input′ : List ℕ) : Type 0 where
+  pub filled : Refilled n (s .input) input (r .input) input′
+  pub reads : Bool
+  pub cleared : Cleared reads output (s .output .at) (r .output)
+  pub flushed : (filled .read ≡ []) ⊎ (r .output .at ≡ 0)
+  pub enough : r .output .failed ≡ false → Held n (r .input) input′
+  pub state : r ≡ stateWith s (r .input) (r .output)
+
+-- From s to r nothing that is due is lost unless a write failed: what was due is what is written and what is now due. Nothing comes after the
+-- input's end, and a failed write ends the run.
 pub record Ran (d w : ℕ) (memory : List ℕ) (s : State) (input output memory′ : List ℕ) (r : State) (input′ output′ : List ℕ) : Type 0 where
   pub read : List ℕ
   pub sent : List ℕ
+  pub lost : List ℕ → List ℕ
   pub same : (rest : List ℕ) → (r .input .more ≡ false → rest ≡ [])
-      → due d w memory s input output (read ++ rest) ≡ sent ++ due d w memory′ r input′ output′ rest
+      → due d w memory s input output (read ++ rest) ≡ sent ++ cond (r .output .failed) (lost rest) (due d w memory′ r input′ output′ rest)
+  pub failed : r .output .failed ≡ true → (0 < length sent) × (r .output .at ≡ 0) × (r .runs ≡ false) × (r .ended ≡ false)
   pub closed : s .input .more ≡ false → (read ≡ []) × (r .input .more ≡ false)
   pub counted : seen s input + length read ≡ seen r input′
 
--- The end of a run, of whose feed so many bytes were seen before: of a feed of fewer than 2^60 bytes all that was due is written or at hand.
-pub record Printed (before : ℕ) (opened : Bool) (text : List ℕ → List ℕ) (n : ℕ) (output : List ℕ) : Type 0 where
+-- One step: no byte is read if those that the record needs are at hand.
+pub record Stepped (d w : ℕ) (memory : List ℕ) (s : State) (input output memory′ : List ℕ) (r : State) (input′ output′ : List ℕ) : Type 0 where
+  pub ran : Ran d w memory s input output memory′ r input′ output′
+  pub spared : bytesNeeded (unused (s .input) input) ≤ length (unused (s .input) input) → ran .read ≡ []
+
+-- The end of a run, of whose feed so many bytes were seen before: of a feed of fewer than 2^60 bytes all that was due is written or at hand,
+-- unless a write failed; then nothing is at hand.
+pub record Printed (before : ℕ) (opened : Bool) (text : List ℕ → List ℕ) (r : Output) (output : List ℕ) : Type 0 where
   pub read : List ℕ
   pub sent : List ℕ
+  pub lost : List ℕ → List ℕ
   pub more : Bool
-  pub same : before + length read < 2 ^ 60 → (rest : List ℕ) → (more ≡ false → rest ≡ []) → text (read ++ rest) ≡ sent ++ take n output
+  pub same : before + length read < 2 ^ 60 → (rest : List ℕ) → (more ≡ false → rest ≡ [])
+      → text (read ++ rest) ≡ sent ++ cond (r .failed) (lost rest) (take (r .at) output)
+  pub failed : r .failed ≡ true → (0 < length sent) × (r .at ≡ 0)
   pub closed : opened ≡ false → (read ≡ []) × (more ≡ false)
 
 -- what is due after the end's line, and after an accepted head's, whose word is the first of the bytes at hand
 abbrev pub dueAfterEnd : State → List ℕ → List ℕ → List ℕ → List ℕ
-dueAfterEnd s input output bytes = take (s .out) output ++ texts (afterEnd (s .words) (unused (s .input) input ++ bytes))
+dueAfterEnd s input output bytes = take (s .output .at) output ++ texts (afterEnd (s .words) (unused (s .input) input ++ bytes))
 
 abbrev pub dueAfterHead : ℕ → ℕ → Input → List ℕ → ℕ → List ℕ → List ℕ → List ℕ
 dueAfterHead d w i input out output bytes =

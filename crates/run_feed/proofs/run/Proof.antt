@@ -27,8 +27,8 @@ head-requires c κs = search needs
 text-of-requires : tie.Need-text-of-requires
 text-of-requires c κs = search needs
 
-put-requires : tie.Need-put-requires
-put-requires c κs = search needs
+append-requires : tie.Need-append-requires
+append-requires c κs = (omega (arith, c .before .before .before .before .before .before .before .before .before .before .before .before .pre .1 .1, c .text-of .ensures .1), c .text-of .ensures .1)
 
 enum-known-line : tie.Need-enum-known-line
 enum-known-line c = search needs
@@ -44,11 +44,12 @@ returns c =
     let s = c .before .before .before .before .before .before .before .before .before .before .before .before .before .before .before .before in
     let f = c .before .before .before .before .before .before .before .before .before .before .before .refill in
     let h = c .before .before .before .before .before .before .head in
-    let o = c .before .before .before .put in (
-      o .ensures .1 .0,
-      whole-stopped (s .args .input .now) (s .args .output .now) (f .result) (f .last .0) (f .ensures) (o .result) (o .last .0)
-          (no-geometry _ (rw (h .ensures .0) at (c .match .keys2)))
-          (o .ensures .1 .1 ∙ c .before .before .before .before .text-of .ensures .0 ∙ ap text (h .ensures .0)),
+    let t = c .before .before .before .before .text-of in
+    let o = c .before .before .before .append in
+    let long : length (o .last .0) ≡ length (s .args .output .now) = search needs in
+    let put = o .ensures .1 ∙ t .ensures .0 ∙ ap text (h .ensures .0) in (
+      omega (arith, o .ensures .0, long, s .pre .1 .1, t .ensures .1),
+      whole-stopped (s .args .input .now) (f .result) (f .last .0) (f .ensures .0) (f .ensures .1) (o .result) (o .last .0) (no-geometry _ (rw (h .ensures .0) at (c .match .keys2))) put,
     )
 
 size-requires : tie.Need-size-requires
@@ -65,17 +66,19 @@ run-meter-requires : tie.Need-run-meter-requires
 run-meter-requires c κs =
     let s = c .before .before .before .before .before .before .before .before .before .before .before .before .before .before .before .before .before .before .before .before .before .before in
     let f = c .before .before .before .before .before .before .before .before .before .before .before .before .before .before .before .before .before .refill in
+    let h = c .before .before .before .before .before .before .before .before .before .before .before .before .head in
+    let t = c .before .before .before .before .before .before .before .before .before .before .text-of in
+    let o = c .before .before .before .before .before .before .before .before .before .append in
     let l = c .before .before .before .before .before .line in
     let n = c .before .before .before .size in
-    let o = c .before .before .before .before .before .before .before .before .before .put in
-    let e = sym (c .before .before .before .before .before .before .before .before .before .before .before .before .head .ensures .0) ∙ l .given .1 in
+    let e = sym (h .ensures .0) ∙ l .given .1 in
     let long : length (take (n .result) (s .args .memory .now)) ≡ n .result = length-take-le (n .result) (s .args .memory .now) (omega (arith, n .ensures .1 .0, s .pre .0)) in
     let i : length (f .last .0) ≡ length (s .args .input .now) = search needs in
     let j : length (o .last .0) ≡ length (s .args .output .now) = search needs in (
       rw long (n .ensures .1 .1),
       (
-        head-word (s .args .input .now) (s .args .output .now) (f .result) (f .last .0) (f .ensures) (o .result) (o .last .0) (l .given .0 .0) (l .given .0 .1 .0) e,
-        (f .ensures .within, (omega (arith, i, s .pre .1 .0), (o .ensures .1 .0, omega (arith, j, s .pre .1 .1)))),
+        head-word (s .args .input .now) (f .result) (f .last .0) (f .ensures .0) (f .ensures .1) (o .result) (o .last .0) (l .given .0 .0) (l .given .0 .1 .0) e,
+        (f .ensures .0 .within, (omega (arith, i, s .pre .1 .0), (omega (arith, o .ensures .0, j, s .pre .1 .1, t .ensures .1), omega (arith, j, s .pre .1 .1)))),
       ),
     )
 
@@ -93,13 +96,14 @@ returns-2 c =
     let s = c .before .before .before .before .before .before .before .before .before .before .before .before .before .before .before .before .before .before .before .before .before .before .before .before .before .before .before .before .before in
     let f = c .before .before .before .before .before .before .before .before .before .before .before .before .before .before .before .before .before .before .before .before .before .before .before .before .refill in
     let h = c .before .before .before .before .before .before .before .before .before .before .before .before .before .before .before .before .before .before .before .head in
-    let o = c .before .before .before .before .before .before .before .before .before .before .before .before .before .before .before .before .put in
+    let t = c .before .before .before .before .before .before .before .before .before .before .before .before .before .before .before .before .before .text-of in
+    let o = c .before .before .before .before .before .before .before .before .before .before .before .before .before .before .before .before .append in
     let l = c .before .before .before .before .before .before .before .before .before .before .before .before .line in
-    let m = c .before .before .before .before .before .before .run-meter in (
+    let m = c .before .before .before .before .before .before .run-meter in
+    let put = o .ensures .1 ∙ t .ensures .0 ∙ ap text (h .ensures .0) in (
       m .ensures .0,
-      whole-run (s .args .input .now) (s .args .output .now) (f .result) (f .last .0) (f .ensures) (o .result) (o .last .0)
-          (l .given .0 .0) (l .given .0 .1 .0) (sym (h .ensures .0) ∙ l .given .1)
-          (o .ensures .1 .1 ∙ c .before .before .before .before .before .before .before .before .before .before .before .before .before .before .before .before .before .text-of .ensures .0 ∙ ap text (h .ensures .0)) (m .result) _ (m .ensures .1),
+      whole-run (s .args .input .now) (f .result) (f .last .0) (f .ensures .0) (f .ensures .1) (o .result) (o .last .0)
+          (l .given .0 .0) (l .given .0 .1 .0) (sym (h .ensures .0) ∙ l .given .1) put (m .result) _ (m .ensures .1),
     )
 
 pub run-spec : {M : Type 1} → statement M
@@ -112,7 +116,7 @@ run-spec =
     part-head-end
     head-requires
     text-of-requires
-    put-requires
+    append-requires
     enum-known-line
     same-length
     same-length-2

@@ -1,10 +1,10 @@
-use borrow.Author.Needs.{needs}
 use mathlib.Core.Path.{_≡_, refl, ap, _∙_}
 use native.Mathlib.Omega.{arith}
 use borrow.Author.Tests.{not-true, not-false}
 use lib.ListN.{length}
 use Rattle.geometry.specs.Checks.{badShape}
 use Rattle.run_feed.proofs.Runs.{ran-from, meter-stopped, meter-ended}
+use borrow.Author.Needs.{needs}
 use Rattle.run_feed.proofs.run_meter.Statement.{statement}
 use Rattle.run_feed.proofs.run_meter.Tie as tie
 
@@ -18,7 +18,7 @@ run-records-requires : tie.Need-run-records-requires
 run-records-requires c κs =
     let s = c .before .before .before .before .before .before .before .before .before .before .before in
     let m : length (c .before .before .before .before .before .before .start .last .1 .1 .0) ≡ length (s .args .memory .now) = search needs in
-    (ap (badShape (s .args .d) (s .args .w)) m ∙ s .pre .0, (refl, (refl, (rw (c .before .before .before .after .ensures) (s .pre .1 .0, s .pre .1 .1 .0 .1), s .pre .1 .1 .1))))
+    (ap (badShape (s .args .d) (s .args .w)) m ∙ s .pre .0, (refl, (refl, (refl, (rw (c .before .before .before .after .ensures) (s .pre .1 .0, s .pre .1 .1 .0 .1), s .pre .1 .1 .1)))))
 
 same-length : tie.Need-same-length
 same-length c = search needs
@@ -31,19 +31,20 @@ same-length-3 c = search needs
 
 returns : tie.Need-returns
 returns c =
-    let s = c .before .before .before .before .before .before .before .before .before .before .before .before .before .before .before .before .before .before .before .before in
+    let s = c .before .before .before .before .before .before .before .before .before .before .before .before .before .before .before .before .before .before .before .before .before in
     let a = s .args in
-    let r = c .before .before .before .before .before .before .before .before .run-records in
+    let r = c .before .before .before .before .before .before .before .before .before .run-records in
     let g = ran-from (a .d) (a .w) (a .i) (a .input .now) (a .out) (a .output .now) (s .pre .1 .1 .0) (s .pre .1 .0) (r .result) (r .last .0) (r .last .1 .1 .1 .0) (r .last .1 .1 .1 .1 .0) _ _
-    (c .before .before .before .before .before .before .before .before .before .before .before .before .before .before .before .start .ensures) (c .before .before .before .before .before .before .before .before .before .before .before .before .after .ensures) (r .ensures .1 .1 .1) in (
+    (c .before .before .before .before .before .before .before .before .before .before .before .before .before .before .before .before .start .ensures) (c .before .before .before .before .before .before .before .before .before .before .before .before .before .after .ensures) (r .ensures .1 .1 .1) in (
       r .ensures .1 .0,
       meter-stopped (a .d) (a .w) (a .i) (a .input .now) (a .out) (a .output .now) (s .pre .1 .1 .0) (s .pre .1 .0) (r .result) (r .last .0) (r .last .1 .1 .1 .0) (r .last .1 .1 .1 .1 .0)
-          g (r .ensures .1 .1 .0) (not-true _ (c .if1 .taken)),
+          g (r .ensures .1 .1 .0) (not-true _ (c .before .if1 .taken)),
     )
 
 after-end-requires : tie.Need-after-end-requires
 after-end-requires c κs =
     let s = c .before .before .before .before .before .before .before .before .before .before .before .before .before .before .before .before .before .before .before .before .before .before in
+    let a = s .args in
     let r = c .before .before .before .before .before .before .before .before .before .before .run-records in
     let i : length (r .last .1 .1 .1 .0) ≡ length (s .args .input .now) = search needs in
     let o : length (r .last .1 .1 .1 .1 .0) ≡ length (s .args .output .now) = search needs in

@@ -1,32 +1,40 @@
 use Prim.Native.Nat.{_+_, _*_, _^_, _≤_, _<_}
 use mathlib.Core.Path.{_≡_, refl, sym, ap, _∙_}
-use mathlib.Core.Bool.{true, true≢false}
+use mathlib.Core.Bool.{true, false, true≢false}
 use native.Mathlib.Omega.{arith}
 use lib.ListN.{length}
 use borrow.Author.Tests.{not-true, not-false}
-use borrow.Author.Needs.{needs}
 use Rattle.geometry.specs.Checks.{badShape}
-use Rattle.run_feed.specs.Buffers.{Within}
+use Rattle.feed_io.specs.Buffers.{Within}
 use Rattle.run_feed.specs.Run.{Ran}
-use Rattle.run_feed.proofs.Runs.{ran-none, ran-then}
+use Rattle.run_feed.proofs.Runs.{ran-none, ran-then, ran-runs}
+use borrow.Author.Needs.{needs}
 use Rattle.run_feed.proofs.run_records.Statement.{statement}
 use Rattle.run_feed.proofs.run_records.Tie as tie
 
 abbrev Inv-loop : tie.InvT-loop
-Inv-loop memory₀ d w input₀ output₀ s₀ turns₀ memory input output s turns = Within (s .input) input × (100 ≤ length input) × (s .out ≤ length output) × (64 ≤ length output) × (s .words + 25 * turns ≤ 25 * 2 ^ 58 + 1)
+Inv-loop memory₀ d w input₀ output₀ s₀ turns₀ memory input output s turns = Within (s .input) input × (100 ≤ length input) × (s .output .at ≤ length output) × (64 ≤ length output) × (s .words + 25 * turns ≤ 25 * 2 ^ 58 + 1)
     × (s .records + turns ≤ 2 ^ 58) × (length memory ≡ length memory₀) × (length input ≡ length input₀) × (length output ≡ length output₀)
     × (badShape d w (length memory) ≡ 0) × (s .runs ≡ true → 2 ^ 58 < s .words + turns) × Ran d w memory₀ s₀ input₀ output₀ memory s input output
 
 abbrev μ-loop : tie.MeasureT-loop
 μ-loop memory₀ d w input₀ output₀ s₀ turns₀ memory input output s turns = turns
 
+-- a run that goes on has lost nothing
+going : (c : tie.Else1 Inv-loop μ-loop) → c .before .before .before .loop .s .output .failed ≡ false
+going c =
+    let l = c .before .before .before .loop in
+    let a = c .before .before .before .before .before .before .before .args in
+    ran-runs (a .d) (a .w) (a .memory .now) (a .first) (a .input .now) (a .output .now) (l .memory) (l .s) (l .input) (l .output) (l .inv .11) (not-false _ (c .if1 .left))
+
 loop-holds : tie.Need-loop-holds Inv-loop μ-loop
-loop-holds c = let st = c .before .before .before in
+loop-holds c =
+    let st = c .before .before .before in
     let p = st .pre in (
-      p .1 .1 .1 .0,
       p .1 .1 .1 .1 .0,
       p .1 .1 .1 .1 .1 .0,
-      p .1 .1 .1 .1 .1 .1,
+      p .1 .1 .1 .1 .1 .1 .0,
+      p .1 .1 .1 .1 .1 .1 .1,
       omega (arith, p .1 .0),
       omega (arith, p .1 .1 .0),
       refl,
@@ -34,7 +42,7 @@ loop-holds c = let st = c .before .before .before in
       refl,
       p .0,
       (λ e. omega (arith, p .1 .0)),
-      ran-none (st .args .d) (st .args .w) (st .args .memory .now) (st .args .first) (st .args .input .now) (st .args .output .now),
+      ran-none (st .args .d) (st .args .w) (st .args .memory .now) (st .args .first) (st .args .input .now) (st .args .output .now) (p .1 .1 .1 .0),
     )
 
 same-length : tie.Need-same-length Inv-loop μ-loop
@@ -50,8 +58,10 @@ returns : tie.Need-returns Inv-loop μ-loop
 returns c = let l = c .before .before .before .loop in (l .inv .0, (l .inv .2, ((λ e. absurd (true≢false (sym e ∙ not-true _ (c .if1 .taken)))), l .inv .11)))
 
 step-requires : tie.Need-step-requires Inv-loop μ-loop
-step-requires c κs = let l = c .before .before .before .before .before .before .loop in
-    (l .inv .9, (not-false _ (c .before .before .before .if1 .left), (l .inv .0, (l .inv .1, (l .inv .2, (l .inv .3, (omega (arith, l .inv .4), omega (arith, l .inv .5))))))))
+step-requires c κs =
+    let l = c .before .before .before .before .before .before .loop in
+    let e = c .before .before .before in
+    (l .inv .9, (not-false _ (e .if1 .left), (going e, (l .inv .0, (l .inv .1, (l .inv .2, (l .inv .3, (omega (arith, l .inv .4), omega (arith, l .inv .5)))))))))
 
 sub-turns : tie.Need-sub-turns Inv-loop μ-loop
 sub-turns c = search needs
@@ -60,7 +70,8 @@ loop-less : tie.Need-loop-less Inv-loop μ-loop
 loop-less c = search needs
 
 loop-again : tie.Need-loop-again Inv-loop μ-loop
-loop-again c = let l = c .before .before .before .before .before .before .before .before .before .before .before .before .before .loop in
+loop-again c =
+    let l = c .before .before .before .before .before .before .before .before .before .before .before .before .before .loop in
     let st = c .before .before .before .before .before .before .before .before .before .before .before .before .before .before .before .before .before in
     let s = c .before .before .before .before .before .before .step in
     let m : length (s .last .0) ≡ length (l .memory) = search needs in
@@ -80,7 +91,7 @@ loop-again c = let l = c .before .before .before .before .before .before .before
       ap (badShape (st .args .d) (st .args .w)) m ∙ l .inv .9,
       (λ e. omega (arith, some, s .ensures .1 .1 .0 .2 e, l .inv .10 runs)),
       ran-then (st .args .d) (st .args .w) (st .args .memory .now) (st .args .first) (st .args .input .now) (st .args .output .now) (l .memory) (l .s) (l .input) (l .output) (s .last .0) (s .result)
-          (s .last .1 .1 .1 .0) (s .last .1 .1 .1 .1 .0) (l .inv .11) (s .ensures .1 .1 .1),
+          (s .last .1 .1 .1 .0) (s .last .1 .1 .1 .1 .0) (going (c .before .before .before .before .before .before .before .before .before .before)) (l .inv .11) (s .ensures .1 .1 .1 .ran),
     )
 
 same-length-4 : tie.Need-same-length-4 Inv-loop μ-loop

@@ -1,48 +1,14 @@
-use mathlib.Core.Path.{_≡_, sym, ap, _∙_}
-use mathlib.Core.List.{List, _++_}
-use Prim.Native.Nat.{ℕ, _+_, _*_, _≤_}
+use mathlib.Core.Path.{_≡_, sym, _∙_}
+use mathlib.Core.Bool.{true≢false}
 use native.Mathlib.Omega.{arith}
-use lib.ListN.{length, take}
-use Rattle.word_bytes.specs.Words.{wholeWords}
-use Rattle.run_feed.specs.Buffers.{unused}
-use Rattle.run_feed.proofs.Buffers.{unused-length}
-use Rattle.run_feed.proofs.Runs.{progressed, state-is, stepped}
+use lib.ListN.{length}
+use Rattle.run_feed.proofs.Runs.{received-kept, called-for, stepped-first, stepped-next, stepped-all}
 use borrow.Author.Needs.{needs}
 use Rattle.run_feed.proofs.step.Statement.{statement}
 use Rattle.run_feed.proofs.step.Tie as tie
 
-refill-requires : tie.Need-refill-requires
-refill-requires c κs = search needs
-
-sub-next : tie.Need-sub-next
-sub-next c = search needs
-
-part-next-start : tie.Need-part-next-start
-part-next-start c = search needs
-
-part-next-end : tie.Need-part-next-end
-part-next-end c = search needs
-
-next-requires : tie.Need-next-requires
-next-requires c κs = search needs
-
-text-of-requires : tie.Need-text-of-requires
-text-of-requires c κs = search needs
-
-put-requires : tie.Need-put-requires
-put-requires c κs = let s = c .before .before .before .before .before .before .before .before .before .before .before .before .before .before .before in (s .pre .1 .1 .1 .1 .0, (c .text-of .ensures .1, s .pre .1 .1 .1 .1 .1 .0))
-
-mul-after : tie.Need-mul-after
-mul-after c = search needs
-
-after-requires : tie.Need-after-requires
-after-requires c κs = search needs
-
-continues-requires : tie.Need-continues-requires
-continues-requires c κs = search needs
-
-is-end-requires : tie.Need-is-end-requires
-is-end-requires c κs = search needs
+receive-requires : tie.Need-receive-requires
+receive-requires c κs = search needs
 
 same-length : tie.Need-same-length
 same-length c = search needs
@@ -50,31 +16,127 @@ same-length c = search needs
 same-length-2 : tie.Need-same-length-2
 same-length-2 c = search needs
 
+returns : tie.Need-returns
+returns c =
+    let s = c .before .before .before .before .before .before .before .before .before in
+    let a = s .args in
+    let p = c .before .before .before .receive in
+    let k = received-kept 4 (a .s) (a .input .now) (a .output .now) (p .result) (p .last .0) (p .ensures) in
+    let g = stepped-first (a .d) (a .w) (a .memory .now) (a .s) (a .input .now) (a .output .now) (p .result) (p .last .0) (p .ensures) in (
+      p .ensures .filled .within,
+      (
+        omega (arith, p .ensures .cleared .space),
+        ((omega (arith, k .0), omega (arith, k .1), λ e. absurd (true≢false (sym e ∙ g .ran .failed (c .if1 .taken) .2))), g),
+      ),
+    )
+
+sub-needed : tie.Need-sub-needed
+sub-needed c = search needs
+
+part-needed-start : tie.Need-part-needed-start
+part-needed-start c = search needs
+
+part-needed-end : tie.Need-part-needed-end
+part-needed-end c = search needs
+
+needed-requires : tie.Need-needed-requires
+needed-requires c κs = search needs
+
+receive-requires-2 : tie.Need-receive-requires-2
+receive-requires-2 c κs =
+    let s = c .before .before .before .before .before .before .before .before .before .before .before .before .before .before in
+    let a = s .args in
+    let p = c .before .before .before .before .before .before .before .before .receive in
+    let long : length (p .last .0) ≡ length (a .input .now) = search needs in (
+      p .ensures .filled .within,
+      (c .before .before .needed .ensures .1, (omega (arith, long, s .pre .1 .1 .1 .1 .0), (omega (arith, p .ensures .cleared .space), s .pre .1 .1 .1 .1 .1 .1 .0))),
+    )
+
 same-length-3 : tie.Need-same-length-3
 same-length-3 c = search needs
 
-returns : tie.Need-returns
-returns c =
-    let s = c .before .before .before .before .before .before .before .before .before .before .before .before .before .before .before .before .before .before .before .before .before .before in
+same-length-4 : tie.Need-same-length-4
+same-length-4 c = search needs
+
+returns-2 : tie.Need-returns-2
+returns-2 c =
+    let s = c .before .before .before .before .before .before .before .before .before .before .before .before .before .before .before .before .before .before in
     let a = s .args in
-    let f = c .before .before .before .before .before .before .before .before .before .before .before .before .before .before .before .before .before .refill in
-    let n = c .before .before .before .before .before .before .before .before .before .before .before .next in
-    let t = c .before .before .before .before .before .before .before .text-of in
-    let o = c .before .before .before .before .before .before .put in
-    let g = c .before .before .after in
-    let i = f .result in
-    let long : length (o .last .0) ≡ length (a .output .now) = search needs in
-    let hand = unused-length i (f .last .0) (f .ensures .within) in
-    let lies : i .start + 4 * n .result .taken ≤ i .end = omega (arith, hand, n .ensures .1 .1 .1, f .ensures .within .0) in
-    let moved = progressed (a .d) (a .w) (a .memory .now) (a .s .words) (a .s .records) (take 25 (wholeWords (unused i (f .last .0)))) (n .result) (n .ensures .0) in
-    let q = state-is i (n .result) (o .result) (g .result) (c .before .continues .result) (c .is-end .result) (g .ensures) (c .before .continues .ensures) (c .is-end .ensures) in (
-      rw (g .ensures) (lies, f .ensures .within .1),
+    let p = c .before .before .before .before .before .before .before .before .before .before .before .before .receive in
+    let r = c .before .before .before .receive2 in
+    let n = c .before .before .before .before .before .before .needed in
+    let k = received-kept 4 (a .s) (a .input .now) (a .output .now) (p .result) (p .last .0) (p .ensures) in
+    let l = received-kept (n .result) (p .result) (p .last .0) (a .output .now) (r .result) (r .last .0) (r .ensures) in
+    let g = stepped-next (a .d) (a .w) (a .memory .now) (a .s) (a .input .now) (a .output .now) (p .result) (p .last .0) (p .ensures)
+    (n .result) (r .result) (r .last .0) (r .ensures) (n .ensures .0) (c .before .before .before .before .before .before .before .before .before .if1 .left) in (
+      r .ensures .filled .within,
       (
-        omega (arith, o .ensures .1 .0, long, s .pre .1 .1 .1 .1 .0),
+        omega (arith, r .ensures .cleared .space),
+        ((omega (arith, k .0, l .0), omega (arith, k .1, l .1), λ e. absurd (true≢false (sym e ∙ g .ran .failed (c .if2 .taken) .2))), g),
+      ),
+    )
+
+carry-out-requires : tie.Need-carry-out-requires
+carry-out-requires c κs =
+    let s = c .before .before .before .before .before .before .before .before .before .before .before .before .before .before .before .before .before .before .before .before .before in
+    let a = s .args in
+    let p = c .before .before .before .before .before .before .before .before .before .before .before .before .before .before .before .receive in
+    let r = c .before .before .before .before .before .before .receive2 in
+    let n = c .before .before .before .before .before .before .before .before .before .needed in
+    let k = received-kept 4 (a .s) (a .input .now) (a .output .now) (p .result) (p .last .0) (p .ensures) in
+    let l = received-kept (n .result) (p .result) (p .last .0) (a .output .now) (r .result) (r .last .0) (r .ensures) in
+    let on = c .before .before .before .before .before .before .before .before .before .before .before .before .if1 .left in
+    let on₂ = c .before .before .before .if2 .left in (
+      s .pre .0,
+      (
+        l .2 on₂ ∙ k .2 on ∙ s .pre .1 .0,
         (
-          (omega (arith, moved .0, n .ensures .1 .1 .0), moved .1, λ e. moved .2 (sym (c .before .continues .ensures) ∙ e)),
-          stepped (a .d) (a .w) (a .memory .now) (a .s) (a .input .now) (a .output .now) i (f .last .0) (n .last .0) (o .last .0) (o .result) (s .pre .0) (s .pre .1 .0) (f .ensures) (n .ensures .1 .0)
-              (n .result) _ (n .ensures .0) lies (o .ensures .1 .1 ∙ ap (λ (x : List ℕ). take (a .s .out) (a .output .now) ++ x) (t .ensures .0)) q,
+          on₂,
+          (
+            r .ensures .filled .within,
+            (
+              called-for (n .result) (p .result) (p .last .0) (a .output .now) (r .result) (r .last .0) (n .ensures .0) (p .ensures .enough on) (r .ensures) on₂,
+              (r .ensures .cleared .space, (omega (arith, k .0, l .0, s .pre .1 .1 .1 .1 .1 .1 .1 .0), omega (arith, k .1, l .1, s .pre .1 .1 .1 .1 .1 .1 .1 .1))),
+            ),
+          ),
+        ),
+      ),
+    )
+
+same-length-5 : tie.Need-same-length-5
+same-length-5 c = search needs
+
+same-length-6 : tie.Need-same-length-6
+same-length-6 c =
+    let s = c .before .before .before .before .before .before .before .before .before .before .before .before .before .before .before .before .before .before .before .before .before .before .before .before .before .before in
+    let a = s .args in
+    let p = c .before .before .before .before .before .before .before .before .before .before .before .before .before .before .before .before .before .before .before .before .receive in
+    let r = c .before .before .before .before .before .before .before .before .before .before .before .receive2 in
+    let i : length (r .last .0) ≡ length (p .last .0) = search needs in
+    let j : length (p .last .0) ≡ length (a .input .now) = search needs in
+    omega (arith, i, j)
+
+same-length-7 : tie.Need-same-length-7
+same-length-7 c = search needs
+
+returns-3 : tie.Need-returns-3
+returns-3 c =
+    let s = c .before .before .before .before .before .before .before .before .before .before .before .before .before .before .before .before .before .before .before .before .before .before .before .before .before .before in
+    let a = s .args in
+    let p = c .before .before .before .before .before .before .before .before .before .before .before .before .before .before .before .before .before .before .before .before .receive in
+    let r = c .before .before .before .before .before .before .before .before .before .before .before .receive2 in
+    let n = c .before .before .before .before .before .before .before .before .before .before .before .before .before .before .needed in
+    let o = c .before .before .before .before .carry-out in
+    let k = received-kept 4 (a .s) (a .input .now) (a .output .now) (p .result) (p .last .0) (p .ensures) in
+    let l = received-kept (n .result) (p .result) (p .last .0) (a .output .now) (r .result) (r .last .0) (r .ensures) in
+    let counts = o .ensures .1 .1 .1 .0 in (
+      o .ensures .0,
+      (
+        o .ensures .1 .0,
+        (
+          (omega (arith, k .0, l .0, counts .0), omega (arith, k .1, l .1, counts .1), λ e. omega (arith, k .0, l .0, counts .2 e)),
+          stepped-all (a .d) (a .w) (a .memory .now) (a .s) (a .input .now) (a .output .now) (p .result) (p .last .0) (p .ensures)
+              (n .result) (r .result) (r .last .0) (r .ensures) (n .ensures .0) (c .before .before .before .before .before .before .before .before .before .before .before .before .before .before .before .before .before .if1 .left) (c .before .before .before .before .before .before .before .before .if2 .left) (o .last .0) (o .result) (o .last .1 .1 .1 .1 .0) (o .ensures .1 .1 .1 .1),
         ),
       ),
     )
@@ -83,18 +145,20 @@ pub step-spec : {M : Type 1} → statement M
 step-spec =
     tie.close
     (tie.spec
-    refill-requires
-    sub-next
-    part-next-start
-    part-next-end
-    next-requires
-    text-of-requires
-    put-requires
-    mul-after
-    after-requires
-    continues-requires
-    is-end-requires
+    receive-requires
     same-length
     same-length-2
+    returns
+    sub-needed
+    part-needed-start
+    part-needed-end
+    needed-requires
+    receive-requires-2
     same-length-3
-    returns)
+    same-length-4
+    returns-2
+    carry-out-requires
+    same-length-5
+    same-length-6
+    same-length-7
+    returns-3)

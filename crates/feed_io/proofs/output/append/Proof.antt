@@ -4,9 +4,10 @@ use native.Mathlib.Numerals.{add-one}
 use lib.Seq.{paste, paste-zero, paste-suc}
 use native.Mathlib.Omega.{arith}
 use lib.ListN.{length, getD, length-set}
+use Rattle.feed_io.proofs.Buffers.{appended}
 use borrow.Author.Needs.{needs}
-use Rattle.run_feed.proofs.output.append.Statement.{statement}
-use Rattle.run_feed.proofs.output.append.Tie as tie
+use Rattle.feed_io.proofs.output.append.Statement.{statement}
+use Rattle.feed_io.proofs.output.append.Tie as tie
 
 abbrev Inv-loop : tie.InvT-loop
 Inv-loop out₀ at bytes n i₀ out i = (i ≤ n) × (n ≤ 64) × (length bytes ≡ 64) × (at + n ≤ length out₀) × (length out ≡ length out₀) × (out ≡ paste out₀ at bytes i)
@@ -55,7 +56,8 @@ same-length c = search needs
 returns : tie.Need-returns Inv-loop μ-loop
 returns c = let l = c .before .loop in
     let e : l .i ≡ c .before .before .before .args .t .length = omega arith in
-    (refl, rw e at (l .inv .5))
+    let a = c .before .before .before .args in
+    (refl, appended (a .out .now) (l .out) (a .at) (a .t) (a .at + a .t .length) (l .inv .3) (l .inv .2) (l .inv .1) refl (rw e at (l .inv .5)))
 
 pub append-spec : {M : Type 1} → statement M
 append-spec =

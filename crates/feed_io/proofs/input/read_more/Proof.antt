@@ -4,8 +4,8 @@ use native.Mathlib.Omega.{arith}
 use Prim.Native.Nat.{_-_}
 use lib.ListN.{length}
 use borrow.Author.Needs.{needs}
-use Rattle.run_feed.proofs.input.read_more.Statement.{statement}
-use Rattle.run_feed.proofs.input.read_more.Tie as tie
+use Rattle.feed_io.proofs.input.read_more.Statement.{statement}
+use Rattle.feed_io.proofs.input.read_more.Tie as tie
 
 sub-read : tie.Need-sub-read
 sub-read c = search needs

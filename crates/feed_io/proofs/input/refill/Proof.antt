@@ -4,20 +4,20 @@ use mathlib.Core.Bool.{true, false}
 use native.Mathlib.Omega.{arith}
 use borrow.Author.Tests.{not-true, not-false}
 use borrow.Author.Needs.{needs}
-use Rattle.run_feed.proofs.Buffers.{held, refilled}
-use Rattle.run_feed.proofs.input.refill.Statement.{statement}
-use Rattle.run_feed.proofs.input.refill.Tie as tie
+use Rattle.feed_io.proofs.Buffers.{held, refilled}
+use Rattle.feed_io.proofs.input.refill.Statement.{statement}
+use Rattle.feed_io.proofs.input.refill.Tie as tie
 
 sub-left : tie.Need-sub-left
 sub-left c = search needs
 
 returns : tie.Need-returns
-returns c = let s = c .before .before .before in held (s .args .i) (s .args .buffer .now) (s .pre .0) (inl (omega arith))
+returns c = let s = c .before .before .before in held (s .args .n) (s .args .i) (s .args .buffer .now) (s .pre .0) (inl (omega arith))
 
 returns-2 : tie.Need-returns-2
 returns-2 c = let s = c .before .before .before .before .before in
     let m : s .args .i .more ≡ false = not-true _ (c .if2 .taken) in
-    held (s .args .i) (s .args .buffer .now) (s .pre .0) (inr m)
+    held (s .args .n) (s .args .i) (s .args .buffer .now) (s .pre .0) (inr m)
 
 shift-requires : tie.Need-shift-requires
 shift-requires c κs = search needs
@@ -33,7 +33,7 @@ returns-3 c = let f = c .before .before .fill in
     let m = c .before .before .before .before .before .before .shift in
     let s = c .before .before .before .before .before .before .before .before .before .before .before .before .before in
     let o : s .args .i .more ≡ true = not-false _ (c .before .before .before .before .before .before .before .before .if2 .left) in
-    refilled (s .args .i) (s .args .buffer .now) (m .last .0) (f .result) (f .last .0) (s .pre .0) o (m .ensures) (f .ensures)
+    refilled (s .args .n) (s .args .i) (s .args .buffer .now) (m .last .0) (f .result) (f .last .0) (s .pre .0) (omega arith) o (m .ensures) (f .ensures)
 
 pub refill-spec : {M : Type 1} → statement M
 refill-spec =

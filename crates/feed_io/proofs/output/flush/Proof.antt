@@ -1,8 +1,8 @@
 use mathlib.Core.Path.{sym}
 use lib.Seq.{length-take-le}
 use borrow.Author.Needs.{needs}
-use Rattle.run_feed.proofs.output.flush.Statement.{statement}
-use Rattle.run_feed.proofs.output.flush.Tie as tie
+use Rattle.feed_io.proofs.output.flush.Statement.{statement}
+use Rattle.feed_io.proofs.output.flush.Tie as tie
 
 slice-aggregate-write-all : tie.Need-slice-aggregate-write-all
 slice-aggregate-write-all c = let s = c .before .before in sym (length-take-le (s .args .at) (s .args .out .now) (s .pre))

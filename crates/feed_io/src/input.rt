@@ -2,9 +2,11 @@
 use libc::STDIN_FILENO;
 ghost use mathlib.Core.Path.{_≡_};
 ghost use mathlib.Core.List.{_++_};
-ghost use Prim.Native.Nat.{_+_, _≤_, _<_};
+ghost use mathlib.Core.Logic.{_⊎_};
+ghost use mathlib.Core.Bool.{false};
+ghost use Prim.Native.Nat.{_+_, _-_, _≤_, _<_};
 ghost use lib.ListN.{length, take, drop};
-ghost use Rattle.run_feed.specs.Buffers.{Within, advanced, Filled, Refilled};
+ghost use Rattle.feed_io.specs.Buffers.{Within, advanced, Filled, Refilled, Held};
 
 // The bytes of the buffer that are read and not yet used, and whether more may come.
 pub struct Input {
@@ -12,9 +14,6 @@ pub struct Input {
     pub end: usize,
     pub more: bool,
 }
-
-// The bytes of the longest record: 25 words.
-pub const LONGEST: usize = 100;
 
 // The n bytes at a place, moved to the front.
 fn shift(buffer: &mut [u8], from: usize, n: usize)
@@ -36,29 +35,41 @@ fn read_more(buffer: &mut [u8], at: usize) -> usize
     io::count(got, &buffer[at..])
 }
 
-// Reads on until a whole record is at hand or the input has ended.
-pub fn refill(buffer: &mut [u8], i: Input) -> Input
-    requires { ⌜ Within i (now buffer) ⌝ ∗ ⌜ 100 ≤ length (now buffer) ⌝ }
-    ensures { λ r. ⌜ Refilled i (now (buffer .entry)) r (now (buffer .exit)) ⌝ }
+// Whether a read is due for n bytes to be at hand.
+pub fn is_short(i: Input, n: usize) -> bool
+    requires { ⌜ i .start ≤ i .end ⌝ }
+    ensures { λ r. ⌜ (r ≡ false → (n ≤ i .end - i .start) ⊎ (i .more ≡ false)) ⌝ }
+{
+    if n <= i.end - i.start {
+        return false;
+    }
+    i.more
+}
+
+// Reads on until n bytes are at hand or the input has ended.
+pub fn refill(buffer: &mut [u8], i: Input, n: usize) -> Input
+    requires { ⌜ Within i (now buffer) ⌝ ∗ ⌜ n ≤ 100 ⌝ ∗ ⌜ 100 ≤ length (now buffer) ⌝ }
+    ensures { λ r. ⌜ Refilled n i (now (buffer .entry)) r (now (buffer .exit)) ⌝ }
+    ensures { λ r. ⌜ Held n r (now (buffer .exit)) ⌝ }
 {
     let left = i.end - i.start;
-    if LONGEST <= left {
+    if n <= left {
         return i;
     }
     if !i.more {
         return i;
     }
     shift(buffer, i.start, left);
-    fill(buffer, left)
+    fill(buffer, left, n)
 }
 
-// The bytes at the front and, behind them, as many as come before a whole record is there.
-fn fill(buffer: &mut [u8], n: usize) -> Input
-    requires { ⌜ n ≤ length (now buffer) ⌝ ∗ ⌜ 100 ≤ length (now buffer) ⌝ }
-    ensures { λ r. ⌜ Filled n (now (buffer .entry)) r (now (buffer .exit)) ⌝ }
+// The bytes at the front and, behind them, as many as come before there are n.
+fn fill(buffer: &mut [u8], front: usize, n: usize) -> Input
+    requires { ⌜ front ≤ length (now buffer) ⌝ ∗ ⌜ n ≤ 100 ⌝ ∗ ⌜ 100 ≤ length (now buffer) ⌝ }
+    ensures { λ r. ⌜ Filled n front (now (buffer .entry)) r (now (buffer .exit)) ⌝ }
 {
-    let mut end = n;
-    while end < LONGEST {
+    let mut end = front;
+    while end < n {
         let got = read_more(buffer, end);
         if got == 0 {
             return Input {

@@ -6,8 +6,8 @@ use native.Mathlib.Numerals.{add-one}
 use lib.ListN.{length, take, drop, getD, length-set, length-drop, take-append-drop}
 use lib.Seq.{take-suc, take-suc-set, drop-set-lt, getD-drop, drop-drop}
 use borrow.Author.Needs.{needs}
-use Rattle.run_feed.proofs.input.shift.Statement.{statement}
-use Rattle.run_feed.proofs.input.shift.Tie as tie
+use Rattle.feed_io.proofs.input.shift.Statement.{statement}
+use Rattle.feed_io.proofs.input.shift.Tie as tie
 
 -- one element less of two lists that end alike
 more : (i : ℕ) (xs ys : List ℕ) → drop i xs ≡ drop i ys → drop (i + 1) xs ≡ drop (i + 1) ys
