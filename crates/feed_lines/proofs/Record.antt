@@ -6,6 +6,7 @@ use mathlib.Core.List.{List}
 use Prim.Native.Nat.{ℕ, zero, suc, _+_, _-_, _^_, _%_, _≤_}
 use native.Mathlib.Omega.{arith}
 use borrow.Author.Tests.{eqb-true, eq-eqb}
+use borrow.Table.Steps.{cases}
 use lib.Dec.{eqb, leb}
 use lib.ListN.{length}
 use Rattle.answer.specs.Numbers.{badPayload}
