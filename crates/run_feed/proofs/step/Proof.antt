@@ -49,7 +49,7 @@ receive-requires-2 c κs =
     let p = c .before .before .before .before .before .before .before .before .receive in
     let long : length (p .last .0) ≡ length (a .input .now) = search needs in (
       p .ensures .filled .within,
-      (c .before .before .needed .ensures .1, (omega (arith, long, s .pre .1 .1 .1 .1 .0), (omega (arith, p .ensures .cleared .space), s .pre .1 .1 .1 .1 .1 .1 .0))),
+      (omega (arith, c .before .before .needed .ensures .1), (omega (arith, long, s .pre .1 .1 .1 .1 .0), (omega (arith, p .ensures .cleared .space), s .pre .1 .1 .1 .1 .1 .1 .0))),
     )
 
 same-length-3 : tie.Need-same-length-3
