@@ -6,8 +6,8 @@ use lib.ListN.{length}
 use borrow.Author.Tests.{not-true, not-false}
 use Rattle.geometry.specs.Checks.{badShape}
 use Rattle.feed_io.specs.Buffers.{Within}
-use Rattle.run_feed.specs.Run.{Ran}
-use Rattle.run_feed.proofs.Runs.{ran-none, ran-then, ran-runs}
+use Rattle.feed_steps.specs.Run.{Ran}
+use Rattle.feed_steps.proofs.Runs.{ran-none, ran-then, ran-runs}
 use borrow.Author.Needs.{needs}
 use Rattle.run_feed.proofs.run_records.Statement.{statement}
 use Rattle.run_feed.proofs.run_records.Tie as tie

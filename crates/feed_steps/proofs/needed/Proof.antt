@@ -4,8 +4,8 @@ use native.Mathlib.Omega.{arith}
 use Rattle.feed_records.proofs.Past.{needed-same}
 use Rattle.word_bytes.specs.Words.{wholeWords}
 use borrow.Author.Needs.{needs}
-use Rattle.run_feed.proofs.needed.Statement.{statement}
-use Rattle.run_feed.proofs.needed.Tie as tie
+use Rattle.feed_steps.proofs.needed.Statement.{statement}
+use Rattle.feed_steps.proofs.needed.Tie as tie
 
 slice-aggregate-assemble : tie.Need-slice-aggregate-assemble
 slice-aggregate-assemble c = search needs

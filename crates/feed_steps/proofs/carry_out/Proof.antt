@@ -6,10 +6,10 @@ use lib.ListN.{length, take}
 use Rattle.word_bytes.specs.Words.{wholeWords}
 use Rattle.feed_io.specs.Buffers.{unused}
 use Rattle.feed_io.proofs.Buffers.{unused-length}
-use Rattle.run_feed.proofs.Runs.{progressed, state-is, stepped}
+use Rattle.feed_steps.proofs.Runs.{progressed, state-is, stepped}
 use borrow.Author.Needs.{needs}
-use Rattle.run_feed.proofs.carry_out.Statement.{statement}
-use Rattle.run_feed.proofs.carry_out.Tie as tie
+use Rattle.feed_steps.proofs.carry_out.Statement.{statement}
+use Rattle.feed_steps.proofs.carry_out.Tie as tie
 
 sub-next : tie.Need-sub-next
 sub-next c = search needs

@@ -1,8 +1,8 @@
 use native.Mathlib.Omega.{arith}
 use Rattle.word_bytes.proofs.Laws.{words-length}
 use borrow.Author.Needs.{needs}
-use Rattle.run_feed.proofs.next.Statement.{statement}
-use Rattle.run_feed.proofs.next.Tie as tie
+use Rattle.feed_steps.proofs.next.Statement.{statement}
+use Rattle.feed_steps.proofs.next.Tie as tie
 
 slice-aggregate-assemble : tie.Need-slice-aggregate-assemble
 slice-aggregate-assemble c = search needs

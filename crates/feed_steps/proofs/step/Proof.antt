@@ -2,10 +2,10 @@ use mathlib.Core.Path.{_≡_, sym, _∙_}
 use mathlib.Core.Bool.{true≢false}
 use native.Mathlib.Omega.{arith}
 use lib.ListN.{length}
-use Rattle.run_feed.proofs.Runs.{received-kept, called-for, stepped-first, stepped-next, stepped-all}
+use Rattle.feed_steps.proofs.Runs.{received-kept, called-for, stepped-first, stepped-next, stepped-all}
 use borrow.Author.Needs.{needs}
-use Rattle.run_feed.proofs.step.Statement.{statement}
-use Rattle.run_feed.proofs.step.Tie as tie
+use Rattle.feed_steps.proofs.step.Statement.{statement}
+use Rattle.feed_steps.proofs.step.Tie as tie
 
 receive-requires : tie.Need-receive-requires
 receive-requires c κs = search needs
@@ -49,7 +49,7 @@ receive-requires-2 c κs =
     let p = c .before .before .before .before .before .before .before .before .receive in
     let long : length (p .last .0) ≡ length (a .input .now) = search needs in (
       p .ensures .filled .within,
-      (c .before .before .needed .ensures .1, (omega (arith, long, s .pre .1 .1 .1 .1 .0), (omega (arith, p .ensures .cleared .space), s .pre .1 .1 .1 .1 .1 .1 .0))),
+      (omega (arith, c .before .before .needed .ensures .1), (omega (arith, long, s .pre .1 .1 .1 .1 .0), (omega (arith, p .ensures .cleared .space), s .pre .1 .1 .1 .1 .1 .1 .0))),
     )
 
 same-length-3 : tie.Need-same-length-3
