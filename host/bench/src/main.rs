@@ -260,7 +260,7 @@ fn hash_alone() {
                 hash::lanes(&mut lanes, d, w, key);
                 hash::pairs(&mut pairs, d, w, key);
                 assert_eq!(lanes[..d], pairs[..d], "slots");
-                meter::update(d, w, &mut read, key, amount);
+                assert_eq!(meter::update(d, w, &mut read, key, amount).number, 0);
             }
             let times = time(vec![
                 (&mut || {}, &mut || {
