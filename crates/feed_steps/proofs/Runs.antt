@@ -108,6 +108,7 @@ received-failed n s input output reads o h c t =
       reads = reads;
       cleared = c;
       flushed = inl refl;
+      stopped = λ e. refl;
       enough = λ e. absurd (true≢false (sym t ∙ e));
       state = rw t;
     }
@@ -124,6 +125,7 @@ received-more n s input output reads o i input′ h spare f k c t =
       flushed =
           cases reads (λ e. inr (c .empty e))
           (λ e. inl (⊎-elim (λ l. f .spared (omega (arith, l, unused-length (s .input) input h))) (λ m. f .closed m .0) (spare e)));
+      stopped = λ e. absurd (true≢false (sym e ∙ t));
       enough = λ e. k;
       state = rw t;
     }
