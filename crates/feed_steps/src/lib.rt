@@ -39,6 +39,9 @@ fn next(memory: &mut [u8], d: usize, w: usize, bytes: &[u8], before: u64, record
     feed_lines::step(d, w, memory, before, records, &words[..n])
 }
 
+// The bytes of the longest record.
+const LONGEST: usize = 100;
+
 // The bytes that must be at hand for the record that bytes begin with.
 fn needed(bytes: &[u8]) -> usize
     ensures { λ r. ⌜ r ≡ bytesNeeded (now (bytes .entry)) ⌝ }
@@ -113,7 +116,7 @@ fn carry_out(
 }
 
 // One record or the end: its first word tells how many bytes have to be at hand.
-pub fn step(
+fn receive_one(
     memory: &mut [u8],
     d: usize,
     w: usize,
@@ -142,4 +145,31 @@ pub fn step(
         return b;
     }
     carry_out(memory, d, w, input, output, b)
+}
+
+// One record or the end. Where the bytes of the longest record are at hand, so are its own, and nothing has to be read for it.
+pub fn step(
+    memory: &mut [u8],
+    d: usize,
+    w: usize,
+    input: &mut [u8],
+    output: &mut [u8],
+    s: State,
+) -> State
+    requires { ⌜ badShape d w (length (now memory)) ≡ 0 ⌝ ∗ ⌜ s .runs ≡ true ⌝ ∗ ⌜ s .output .failed ≡ false ⌝ }
+    requires { ⌜ Within (s .input) (now input) ⌝ ∗ ⌜ 100 ≤ length (now input) ⌝ }
+    requires { ⌜ s .output .at ≤ length (now output) ⌝ ∗ ⌜ 64 ≤ length (now output) ⌝ }
+    requires { ⌜ s .words < 2 ^ 63 ⌝ ∗ ⌜ s .records < 2 ^ 63 ⌝ }
+    ensures { λ r. ⌜ Within (r .input) (now (input .exit)) ⌝ ∗ ⌜ r .output .at ≤ length (now (output .exit)) ⌝ }
+    ensures { λ r. ⌜ (r .words ≤ s .words + 25) × (r .records ≤ s .records + 1) × (r .runs ≡ true → s .words + 1 ≤ r .words) ⌝ }
+    ensures { λ r. ⌜ Stepped d w (now (memory .entry)) s (now (input .entry)) (now (output .entry))
+        (now (memory .exit)) r (now (input .exit)) (now (output .exit)) ⌝ }
+{
+    let i = s.input;
+    if LONGEST <= i.end - i.start {
+        if 64 <= output.len() - s.output.at {
+            return carry_out(memory, d, w, input, output, s);
+        }
+    }
+    receive_one(memory, d, w, input, output, s)
 }
