@@ -13,7 +13,8 @@ ghost use Rattle.geometry.specs.Geometry.{RowsIn};
 ghost use Rattle.geometry.specs.Geometry as geometry;
 ghost use Rattle.answer.specs.Order.{earliest};
 ghost use Rattle.geometry.specs.Rows.{mapRows, ofRows, least, largest};
-ghost use Rattle.meter_row.specs.Row.{rowStatus, rowLevel, sourceStatus, sourceAdded};
+ghost use Rattle.meter_row.specs.Row.{rowStatus, rowLevel};
+ghost use Rattle.meter_union.specs.Union.{sourceStatus, sourceAdded};
 ghost use Rattle.meter_rows.specs.Slots.{SlotsIn, addedStatus, Added, addedRows, slotStatus, slotValue};
 
 // The groups that an update leaves in the rows, and the first status.
@@ -130,7 +131,7 @@ pub fn unite_status(d: usize, w: usize, memory: &[u8], source: &[u8]) -> u8
 {
     let mut status = 0u8;
     for r in 0..d {
-        let next = meter_row::unite_status(row_at(w, memory, r), row_at(w, source, r), w);
+        let next = meter_union::unite_status(row_at(w, memory, r), row_at(w, source, r), w);
         status = earlier(status, next);
     }
     status
@@ -145,6 +146,6 @@ pub fn unite_rows(d: usize, w: usize, memory: &mut [u8], source: &[u8])
     for r in 0..d {
         let start = r * stride;
         let end = start + stride;
-        meter_row::unite_row(&mut memory[start..end], row_at(w, source, r), w);
+        meter_union::unite_row(&mut memory[start..end], row_at(w, source, r), w);
     }
 }

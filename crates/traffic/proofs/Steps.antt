@@ -14,7 +14,8 @@ use Rattle.hash.specs.Hash.{basis}
 use Rattle.geometry.specs.Geometry.{validDepth, validWidth, stride, size, RowsIn}
 use Rattle.geometry.specs.Rows.{groupAt}
 use Rattle.meter_keys.specs.Keys.{keySlot}
-use Rattle.meter_row.specs.Row.{addedIn, unitedAt}
+use Rattle.meter_row.specs.Row.{addedIn}
+use Rattle.meter_union.specs.Union.{unitedAt}
 use Rattle.geometry.proofs.Widths.{depth-in, group-in}
 use Rattle.geometry.proofs.Lists.{row-in}
 use Rattle.meter.specs.Meter.{rowOf, updated, united}

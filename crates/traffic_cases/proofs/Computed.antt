@@ -21,6 +21,7 @@ use Rattle.answer.specs.Answers as answers
 use Rattle.geometry.specs.Rows as rows
 use Rattle.meter_keys.specs.Keys as keys
 use Rattle.meter_row.specs.Row as row
+use Rattle.meter_union.specs.Union as unions
 use Rattle.meter.specs.Meter as meter
 use Rattle.word.specs.Word as words
 use Rattle.image_format.specs.Image as image
@@ -103,8 +104,8 @@ unfolding numbers allRefuse allFit twice calls.recordPair calls.traffic calls.af
     packs.fourMerges packs.unpacked geometry.validDepth geometry.oneOfPowers geometry.validWidth geometry.stride geometry.size
     order.firstOf order.placeIn order.earlier order.earliest answers.answerOf answers.leaves answers.finish rows.mapRows rows.ofRows rows.groupAt rows.withGroup
     rows.ofGroups rows.leastOr rows.least rows.largest keys.keySlot row.addedIn row.updateStatus row.updateRow row.readRow
-    row.levelStatus row.groupLevel row.widestStatus row.widestRow row.unitedAt row.unitedStatus row.uniteStatus row.uniteGroups
-    row.uniteRow meter.cleared meter.badCall meter.updated meter.readStatus meter.readValue meter.estimated meter.widest meter.rowOf
+    row.levelStatus row.groupLevel row.widestStatus row.widestRow unions.unitedAt unions.unitedStatus unions.uniteStatus unions.uniteGroups
+    unions.uniteRow meter.cleared meter.badCall meter.updated meter.readStatus meter.readValue meter.estimated meter.widest meter.rowOf
     meter.sourceStatus meter.sourceAdded meter.united image.word words.next words.payload words.isDue words.tested words.below
     image.logFrom image.logWidth image.headPayload image.wordCount image.parts image.levelAt image.isFirst image.slotWords
     image.slotsWords image.groupWords image.groupsWords image.layoutAt image.fourWords image.rowWords image.rowsWords image.body

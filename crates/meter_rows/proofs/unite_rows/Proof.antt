@@ -5,9 +5,9 @@ use borrow.Author.Needs.{needs}
 use mathlib.Core.List.{List}
 use lib.ListN.{length}
 use Rattle.geometry.specs.Rows.{mapRows}
-use Rattle.meter_row.specs.Row.{uniteRow}
+use Rattle.meter_union.specs.Union.{uniteRow}
 use Rattle.geometry.specs.Rows.{rowOf}
-use Rattle.meter_row.specs.Row.{sourceAdded}
+use Rattle.meter_union.specs.Union.{sourceAdded}
 use Rattle.geometry.proofs.Lists.{one-row, lent, rowsFrom, rows-start, rows-turn, rows-end}
 use Rattle.meter_rows.proofs.unite_rows.Statement.{statement}
 use Rattle.meter_rows.proofs.unite_rows.Tie as tie

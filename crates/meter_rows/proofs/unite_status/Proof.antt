@@ -5,11 +5,11 @@ use borrow.Author.Needs.{needs}
 use mathlib.Core.List.{List}
 use Rattle.geometry.specs.Geometry.{stride}
 use Rattle.geometry.specs.Rows.{rowOf}
-use Rattle.meter_row.specs.Row.{sourceStatus}
+use Rattle.meter_union.specs.Union.{sourceStatus}
 use lib.ListN.{drop}
 use Rattle.answer.specs.Order.{earlier, earliest}
 use Rattle.geometry.specs.Rows.{ofRows}
-use Rattle.meter_row.specs.Row.{uniteStatus}
+use Rattle.meter_union.specs.Union.{uniteStatus}
 use Rattle.geometry.proofs.Lists.{one-row}
 use Rattle.meter_rows.proofs.Gather.{status-turn, status-end, rows-start}
 use Rattle.meter_rows.proofs.unite_status.Statement.{statement}

@@ -1,11 +1,11 @@
 use mathlib.Core.Path.{sym, _∙_}
 use native.Mathlib.Omega.{arith}
 use Rattle.laws.proofs.Lists.{Bytes}
-use Rattle.meter_row.proofs.Runs.{status-none}
+use Rattle.meter_union.proofs.Runs.{status-none}
 use Rattle.geometry.proofs.Widths.{stride-is}
 use borrow.Author.Needs.{needs}
-use Rattle.meter_row.proofs.unite_status.Statement.{statement}
-use Rattle.meter_row.proofs.unite_status.Tie as tie
+use Rattle.meter_union.proofs.unite_status.Statement.{statement}
+use Rattle.meter_union.proofs.unite_status.Tie as tie
 
 none-merged-requires : tie.Need-none-merged-requires
 none-merged-requires c κs = let s = c .before .before in

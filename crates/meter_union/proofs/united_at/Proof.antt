@@ -1,7 +1,7 @@
-use Rattle.meter_row.specs.Row.{unitedAt}
+use Rattle.meter_union.specs.Union.{unitedAt}
 use borrow.Author.Needs.{needs}
-use Rattle.meter_row.proofs.united_at.Statement.{statement}
-use Rattle.meter_row.proofs.united_at.Tie as tie
+use Rattle.meter_union.proofs.united_at.Statement.{statement}
+use Rattle.meter_union.proofs.united_at.Tie as tie
 
 load-requires : tie.Need-load-requires
 load-requires c κs = search needs

@@ -3,11 +3,11 @@ use Prim.Native.Nat.{ℕ, _+_, _-_, _*_, _/_, _%_, _≤_}
 use native.Mathlib.Omega.{arith}
 use borrow.Author.Needs.{needs}
 use lib.ListN.{length}
-use Rattle.meter_row.specs.Row.{uniteRow, uniteGroups}
-use Rattle.meter_row.proofs.Unions.{unite-run}
+use Rattle.meter_union.specs.Union.{uniteRow, uniteGroups}
+use Rattle.meter_union.proofs.Unions.{unite-run}
 use Rattle.geometry.proofs.Widths.{stride-is}
-use Rattle.meter_row.proofs.unite_row.Statement.{statement}
-use Rattle.meter_row.proofs.unite_row.Tie as tie
+use Rattle.meter_union.proofs.unite_row.Statement.{statement}
+use Rattle.meter_union.proofs.unite_row.Tie as tie
 
 abbrev Inv-loop : tie.InvT-loop
 Inv-loop row₀ source w e₀ e-end row e = (e ≤ e-end) × (e-end ≡ w / 64) × (uniteGroups w source (w / 8 - 8 * e) (8 * e) row ≡ uniteRow w source row₀) × (length row ≡ length row₀)

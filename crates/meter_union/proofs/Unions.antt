@@ -9,7 +9,7 @@ use Rattle.group.specs.declared.Group.{Group}
 use Rattle.group.specs.Group.{unitedGroups}
 use Rattle.group.proofs.Outcomes.{united-eight}
 use Rattle.geometry.specs.Rows.{groupAt, withGroup}
-use Rattle.meter_row.specs.Row.{unitedAt, uniteGroups}
+use Rattle.meter_union.specs.Union.{unitedAt, uniteGroups}
 use Rattle.geometry.proofs.Groups.{length-with, group-same, group-other, eight-at}
 
 module _ (w : ℕ) (source : List ℕ) where

@@ -24,8 +24,8 @@ use Rattle.geometry.specs.Rows.{ofGroups, groupAt, withGroup}
 use Rattle.geometry.proofs.Lists.{same-from}
 use Rattle.geometry.proofs.Widths.{group-in, stride-is}
 use Rattle.geometry.proofs.Groups.{eight-at, with-counts}
-use Rattle.meter_row.specs.Row.{unitedAt, unitedStatus, uniteStatus, uniteGroups}
-use Rattle.meter_row.specs.Runs.{mergesOf, countsOf, noneMerged, sideBySide}
+use Rattle.meter_union.specs.Union.{unitedAt, unitedStatus, uniteStatus, uniteGroups}
+use Rattle.meter_union.specs.Runs.{mergesOf, countsOf, noneMerged, sideBySide}
 
 -- the merge bytes of the groups are 0
 module _ (w n g : ℕ) (row source : List ℕ) (e : noneMerged w n g row source ≡ true) where

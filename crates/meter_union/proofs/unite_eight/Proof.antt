@@ -1,10 +1,10 @@
 use mathlib.Core.Path.{ap, _∙_}
 use mathlib.Core.List.{List}
 use Prim.Native.Nat.{ℕ}
-use Rattle.meter_row.specs.Row.{uniteGroups}
+use Rattle.meter_union.specs.Union.{uniteGroups}
 use borrow.Author.Needs.{needs}
-use Rattle.meter_row.proofs.unite_eight.Statement.{statement}
-use Rattle.meter_row.proofs.unite_eight.Tie as tie
+use Rattle.meter_union.proofs.unite_eight.Statement.{statement}
+use Rattle.meter_union.proofs.unite_eight.Tie as tie
 
 unite-side-requires : tie.Need-unite-side-requires
 unite-side-requires c κs = search needs

@@ -4,11 +4,11 @@ use native.Mathlib.Omega.{arith}
 use borrow.Author.Needs.{needs}
 use lib.ListN.{length}
 use Rattle.group.specs.declared.Outcome.{Outcome}
-use Rattle.meter_row.specs.Row.{uniteGroups}
+use Rattle.meter_union.specs.Union.{uniteGroups}
 use Rattle.geometry.specs.Rows.{withGroup}
-use Rattle.meter_row.proofs.Unions.{unite-turn, unite-end}
-use Rattle.meter_row.proofs.unite_groups.Statement.{statement}
-use Rattle.meter_row.proofs.unite_groups.Tie as tie
+use Rattle.meter_union.proofs.Unions.{unite-turn, unite-end}
+use Rattle.meter_union.proofs.unite_groups.Statement.{statement}
+use Rattle.meter_union.proofs.unite_groups.Tie as tie
 
 abbrev Inv-loop : tie.InvT-loop
 Inv-loop row₀ source w first n g₀ g-end row g = (first ≤ g) × (g ≤ g-end) × (g-end ≡ first + n) × (uniteGroups w source (g-end - g) g row ≡ uniteGroups w source n first row₀)

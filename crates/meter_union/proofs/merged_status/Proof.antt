@@ -1,6 +1,6 @@
 use Rattle.group.specs.declared.Group.{Group}
 use Rattle.group.specs.Group.{unitedGroups}
-use Rattle.meter_row.specs.Row.{unitedAt, unitedStatus, uniteStatus}
+use Rattle.meter_union.specs.Union.{unitedAt, unitedStatus, uniteStatus}
 use Rattle.geometry.proofs.Lists.{status-start, status-turn, status-end}
 use mathlib.Core.Path.{_≡_, refl, sym, ap₂, _∙_}
 use Prim.Native.Nat.{_-_, _/_, _≤_}
@@ -9,8 +9,8 @@ use borrow.Author.Needs.{needs}
 use Rattle.geometry.proofs.Widths.{group-in}
 use Rattle.answer.specs.Order.{earlier, earliest}
 use Rattle.geometry.specs.Rows.{ofGroups}
-use Rattle.meter_row.proofs.merged_status.Statement.{statement}
-use Rattle.meter_row.proofs.merged_status.Tie as tie
+use Rattle.meter_union.proofs.merged_status.Statement.{statement}
+use Rattle.meter_union.proofs.merged_status.Tie as tie
 
 abbrev Inv-loop : tie.InvT-loop
 Inv-loop row source w status₀ g₀ g-end status g = (g ≤ g-end) × (g-end ≡ w / 8) × (earlier status (earliest (ofGroups (unitedStatus w source row) (g-end - g) g)) ≡ uniteStatus w source row)

@@ -2,11 +2,11 @@ use mathlib.Core.Path.{refl, sym, _∙_}
 use Prim.Native.Nat.{_*_}
 use borrow.Author.Tests.{not-true, not-false}
 use Rattle.geometry.proofs.Lists.{lent}
-use Rattle.meter_row.specs.Runs.{sideBySide}
-use Rattle.meter_row.proofs.Runs.{side-back}
+use Rattle.meter_union.specs.Runs.{sideBySide}
+use Rattle.meter_union.proofs.Runs.{side-back}
 use borrow.Author.Needs.{needs}
-use Rattle.meter_row.proofs.unite_side.Statement.{statement}
-use Rattle.meter_row.proofs.unite_side.Tie as tie
+use Rattle.meter_union.proofs.unite_side.Statement.{statement}
+use Rattle.meter_union.proofs.unite_side.Tie as tie
 
 none-merged-requires : tie.Need-none-merged-requires
 none-merged-requires c κs = search needs
