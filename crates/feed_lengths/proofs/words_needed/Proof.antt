@@ -6,11 +6,11 @@ use borrow.Author.Tests.{eq-eqb, ne-eqb}
 use lib.Dec.{eqb}
 use Rattle.geometry.specs.Checks.{badKey}
 use Rattle.word.specs.Word.{payload}
-use Rattle.feed_records.specs.Words.{wordsNeeded}
-use Rattle.feed_records.proofs.Past.{some-needed, needed-most}
+use Rattle.feed_lengths.specs.Lengths.{wordsNeeded}
+use Rattle.feed_lengths.proofs.Laws.{some-needed, needed-most}
 use borrow.Author.Needs.{needs}
-use Rattle.feed_records.proofs.words_needed.Statement.{statement}
-use Rattle.feed_records.proofs.words_needed.Tie as tie
+use Rattle.feed_lengths.proofs.words_needed.Statement.{statement}
+use Rattle.feed_lengths.proofs.words_needed.Tie as tie
 
 payload-requires : tie.Need-payload-requires
 payload-requires c κs = search needs

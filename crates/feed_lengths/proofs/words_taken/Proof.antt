@@ -3,10 +3,10 @@ use mathlib.Core.Bool.{true, false}
 use mathlib.Core.Path.{_≡_, sym, ap, _∙_}
 use Rattle.word.specs.Word.{payload, isDue}
 use Rattle.feed_keys.specs.Keys.{keyWords}
-use Rattle.feed_records.specs.Words.{wordsTaken, updateKind, queryKind}
+use Rattle.feed_lengths.specs.Lengths.{wordsTaken, updateKind, queryKind}
 use borrow.Author.Needs.{needs}
-use Rattle.feed_records.proofs.words_taken.Statement.{statement}
-use Rattle.feed_records.proofs.words_taken.Tie as tie
+use Rattle.feed_lengths.proofs.words_taken.Statement.{statement}
+use Rattle.feed_lengths.proofs.words_taken.Tie as tie
 
 payload-requires : tie.Need-payload-requires
 payload-requires c κs = search needs
