@@ -6,10 +6,10 @@ use borrow.Author.Needs.{needs}
 use borrow.Author.Tests.{ltb-true}
 use lib.ListN.{length, getD}
 use Rattle.image_format.specs.Image.{countKind}
-use Rattle.image_checker.proofs.Laws.{up-to}
-use Rattle.image_checker.proofs.Plain.{or-le, same-bits}
-use Rattle.image_checker.proofs.are_counts.Statement.{statement}
-use Rattle.image_checker.proofs.are_counts.Tie as tie
+use Rattle.image_group_checker.proofs.Laws.{up-to}
+use Rattle.image_group_checker.proofs.Bits.{or-le, same-bits}
+use Rattle.image_group_checker.proofs.are_counts.Statement.{statement}
+use Rattle.image_group_checker.proofs.are_counts.Tie as tie
 
 abbrev Inv-loop : tie.InvT-loop
 Inv-loop words p n bits₀ i₀ bits i = (i ≤ n) × (p + n ≤ length words) × ((j : ℕ) → j < i → bits < 256 → getD words (p + j) 0 / 2 ^ 8 ≡ countKind * 2 ^ 20)

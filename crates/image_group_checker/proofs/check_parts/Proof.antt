@@ -4,9 +4,9 @@ use borrow.Author.Needs.{needs}
 use Rattle.word.specs.Word.{below}
 use Rattle.image_format.specs.Read.{checkParts}
 use Rattle.word.proofs.Laws.{turn, halt}
-use Rattle.image_checker.proofs.Laws.{check-parts-step, check-parts-none}
-use Rattle.image_checker.proofs.check_parts.Statement.{statement}
-use Rattle.image_checker.proofs.check_parts.Tie as tie
+use Rattle.image_group_checker.proofs.Laws.{check-parts-step, check-parts-none}
+use Rattle.image_group_checker.proofs.check_parts.Statement.{statement}
+use Rattle.image_group_checker.proofs.check_parts.Tie as tie
 
 abbrev Inv-loop : tie.InvT-loop
 Inv-loop words p n limit at₀ left₀ most₀ at left most = checkParts left words at most ≡ checkParts n words p limit

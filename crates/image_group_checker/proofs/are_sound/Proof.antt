@@ -8,11 +8,11 @@ use lib.Bits.{bitXor}
 use lib.ListN.{length, getD}
 use Rattle.group_codes.specs.Pack.{codeMerge}
 use Rattle.image_format.specs.Image.{countKind}
-use Rattle.image_checker.proofs.Laws.{up-to}
-use Rattle.image_checker.proofs.Plain.{or-le}
-use Rattle.image_checker.proofs.Fields.{sound-described}
-use Rattle.image_checker.proofs.are_sound.Statement.{statement}
-use Rattle.image_checker.proofs.are_sound.Tie as tie
+use Rattle.image_group_checker.proofs.Laws.{up-to}
+use Rattle.image_group_checker.proofs.Bits.{or-le}
+use Rattle.image_group_checker.proofs.Fields.{sound-described}
+use Rattle.image_group_checker.proofs.are_sound.Statement.{statement}
+use Rattle.image_group_checker.proofs.are_sound.Tie as tie
 
 abbrev Inv-loop : tie.InvT-loop
 Inv-loop words p fields c at bits₀ i₀ bits i =

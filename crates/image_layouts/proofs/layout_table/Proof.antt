@@ -7,8 +7,8 @@ use Rattle.group_codes.specs.declared.Unpacked.{Unpacked}
 use Rattle.group_codes.specs.Pack.{codeMerge}
 use Rattle.group_codes.proofs.Packing.{last-merge}
 use Rattle.image_format.proofs.Tables.{Filling, filling-more}
-use Rattle.image_checker.proofs.layout_table.Statement.{statement}
-use Rattle.image_checker.proofs.layout_table.Tie as tie
+use Rattle.image_layouts.proofs.layout_table.Statement.{statement}
+use Rattle.image_layouts.proofs.layout_table.Tie as tie
 
 abbrev Inv-loop : tie.InvT-loop
 Inv-loop n t₀ c₀ t c = (c ≤ n) × Filling 26 (λ (k : ℕ). codeMerge k) c t

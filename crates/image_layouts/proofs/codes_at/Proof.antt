@@ -5,8 +5,8 @@ use Rattle.group_codes.specs.Codes.{mergesOf}
 use Rattle.group_codes.proofs.Packing.{codes-are}
 use Rattle.image_format.specs.Read.{mergesAt}
 use borrow.Author.Needs.{needs}
-use Rattle.image_checker.proofs.codes_at.Statement.{statement}
-use Rattle.image_checker.proofs.codes_at.Tie as tie
+use Rattle.image_layouts.proofs.codes_at.Statement.{statement}
+use Rattle.image_layouts.proofs.codes_at.Tie as tie
 
 payload-requires : tie.Need-payload-requires
 payload-requires c κs = search needs

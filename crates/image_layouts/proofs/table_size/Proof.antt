@@ -2,8 +2,8 @@ use Prim.Native.Nat.{_/_}
 use native.Mathlib.Omega.{arith}
 use native.Mathlib.Nat.{mul-le-mul-right}
 use borrow.Author.Needs.{needs}
-use Rattle.image_checker.proofs.table_size.Statement.{statement}
-use Rattle.image_checker.proofs.table_size.Tie as tie
+use Rattle.image_layouts.proofs.table_size.Statement.{statement}
+use Rattle.image_layouts.proofs.table_size.Tie as tie
 
 mul-if1 : tie.Need-mul-if1
 mul-if1 c = omega (arith, mul-le-mul-right {m = c .args .d} {n = 8} (c .args .w / 32) (omega arith))

@@ -13,7 +13,7 @@ use Rattle.image_format.specs.Read.{checkSlot, checkSlots}
 use Rattle.laws.proofs.Shifts.{one-shl}
 use Rattle.image_format.proofs.Sizes.{first-zero}
 use Rattle.image_format.proofs.Counters.{counter-end, next-first, behind}
-use Rattle.image_checker.proofs.Laws.{check-slot-other, check-slots-step}
+use Rattle.image_group_checker.proofs.Laws.{check-slot-other, check-slots-step}
 
 -- checks, from the first slot of a counter to the next
 pub checks-turn : (k m : ℕ) (words : List ℕ) (p : ℕ) → k < 8 → isFirst m k ≡ true

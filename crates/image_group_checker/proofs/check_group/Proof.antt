@@ -4,12 +4,12 @@ use native.Mathlib.Omega.{arith}
 use borrow.Author.Needs.{needs}
 use Rattle.image_format.specs.Read.{checkSlot, checkSlots}
 use Rattle.word.proofs.Laws.{turn, halt}
-use Rattle.image_checker.proofs.Laws.{check-slot-first, check-slots-none}
-use Rattle.image_checker.proofs.Steps.{checks-turn}
+use Rattle.image_group_checker.proofs.Laws.{check-slot-first, check-slots-none}
+use Rattle.image_group_checker.proofs.Steps.{checks-turn}
 use Rattle.image_format.proofs.Sizes.{behind-is}
-use Rattle.image_checker.proofs.Steps.{Stands, stands-first, stands-next, step-small}
-use Rattle.image_checker.proofs.check_group.Statement.{statement}
-use Rattle.image_checker.proofs.check_group.Tie as tie
+use Rattle.image_group_checker.proofs.Steps.{Stands, stands-first, stands-next, step-small}
+use Rattle.image_group_checker.proofs.check_group.Statement.{statement}
+use Rattle.image_group_checker.proofs.check_group.Tie as tie
 
 abbrev Inv-loop : tie.InvT-loop
 Inv-loop words p merge at₀ k₀ at k = Stands merge k × (checkSlots (8 - k) k merge words at ≡ checkSlots 8 0 merge words p)

@@ -8,8 +8,8 @@ use Rattle.image_format.specs.Write.{groupSize}
 use Rattle.image_format.specs.Read.{checkSlots}
 use Rattle.image_format.proofs.Fields.{size-most}
 use borrow.Author.Needs.{needs}
-use Rattle.image_checker.proofs.check_any.Statement.{statement}
-use Rattle.image_checker.proofs.check_any.Tie as tie
+use Rattle.image_group_checker.proofs.check_any.Statement.{statement}
+use Rattle.image_group_checker.proofs.check_any.Tie as tie
 
 are-sound-requires : tie.Need-are-sound-requires
 are-sound-requires c κs = search needs

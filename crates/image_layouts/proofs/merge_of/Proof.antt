@@ -6,8 +6,8 @@ use Rattle.group_codes.specs.declared.Unpacked.{Unpacked}
 use Rattle.group_codes.specs.Pack.{codeMerge}
 use Rattle.group_codes.proofs.Packing.{last-merge, merge-none}
 use borrow.Author.Needs.{needs}
-use Rattle.image_checker.proofs.merge_of.Statement.{statement}
-use Rattle.image_checker.proofs.merge_of.Tie as tie
+use Rattle.image_layouts.proofs.merge_of.Statement.{statement}
+use Rattle.image_layouts.proofs.merge_of.Tie as tie
 
 returns : tie.Need-returns
 returns c = sym (ap (λ (x : ℕ). codeMerge x) (c .if1 .taken) ∙ merge-none)

@@ -18,7 +18,7 @@ use Rattle.image_format.specs.Read.{checkParts, checkSlot, checkSlots, firstBit
 use Rattle.image_format.specs.Fields.{Field, partFields, slotFields, slotsFields, groupFields, fieldAt, Described}
 use borrow.Table.Steps.{cases}
 use Rattle.image_format.proofs.Fields.{none, fields-size, size-most, field-in}
-use Rattle.image_checker.proofs.Plain.{same-from}
+use Rattle.image_group_checker.proofs.Bits.{same-from}
 
 -- the words of fields, checked
 unfoldable checkFields : List Field → List ℕ → ℕ → Step
