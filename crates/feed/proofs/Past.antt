@@ -10,11 +10,13 @@ use Rattle.feed_records.specs.declared.Opening.the-variants as opening
 use Rattle.feed_records.specs.declared.Body.{Body}
 use Rattle.feed_records.specs.declared.Body.the-variants as body
 use Rattle.feed_keys.specs.Keys.{keyOf}
-use Rattle.feed_records.specs.Words.{opened, updateBody, queryBody, wordsNeeded}
+use Rattle.feed_lengths.specs.Lengths.{wordsNeeded}
+use Rattle.feed_records.specs.Words.{opened, updateBody, queryBody}
 use Rattle.feed.specs.Record.{updateOutcome, queried, openedOutcome, recordOutcome, recorded}
 use Rattle.feed.proofs.Cases.{carriedUpdate, carried, carriedAfter, by-cases}
 use Rattle.feed_keys.proofs.Places.{key-same}
-use Rattle.feed_records.proofs.Past.{taken, some-needed, opened-needed, update-same, query-same, opened-same}
+use Rattle.feed_lengths.proofs.Laws.{some-needed}
+use Rattle.feed_records.proofs.Past.{taken, opened-needed, update-same, query-same, opened-same}
 
 module _ (words : List ℕ) (n : ℕ) where
   abbrev front : List ℕ

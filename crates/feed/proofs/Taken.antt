@@ -9,8 +9,9 @@ use lib.ListN.{length}
 use Rattle.geometry.specs.Checks.{badShape}
 use Rattle.feed_records.specs.declared.Opening.{Opening}
 use Rattle.feed_records.specs.declared.Opening.the-variants as opening
-use Rattle.feed_records.specs.Words.{opened, updateStep, queryStep, bodyOf, updateBody, queryBody, wordsTaken}
-use Rattle.feed_records.proofs.Past.{some-taken}
+use Rattle.feed_lengths.specs.Lengths.{wordsTaken}
+use Rattle.feed_records.specs.Words.{opened, updateStep, queryStep, bodyOf, updateBody, queryBody}
+use Rattle.feed_lengths.proofs.Laws.{some-taken}
 use Rattle.feed_records.proofs.Taken.{fault, opened-status, sound-taken}
 use Rattle.feed.specs.Answers.{recordAnswer}
 use Rattle.feed.specs.Record.{updateOutcome, queried, openedOutcome, recordOutcome, finishRecord, recorded}

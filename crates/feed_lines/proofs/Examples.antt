@@ -4,7 +4,8 @@ use Rattle.geometry.specs.Geometry.{validDepth, oneOfPowers, validWidth, stride
 use Rattle.answer.specs.Answers.{leaves}
 use Rattle.answer.specs.Order.{firstOf}
 use Rattle.word.specs.Word.{next, payload, isDue, tested, below}
-use Rattle.feed_records.specs.Words.{opensKey, opened, wordsTaken}
+use Rattle.feed_lengths.specs.Lengths.{wordsTaken}
+use Rattle.feed_records.specs.Words.{opensKey, opened}
 use Rattle.feed.specs.Head.{headWidth, badGeometry, headStep, headed}
 use Rattle.feed.specs.Record.{openedOutcome, recordOutcome, recordMemory, finishRecord, recorded}
 use Rattle.word_bytes.specs.Words.{wholeWords}

@@ -9,8 +9,8 @@ use lib.ListN.{length, take, drop, replicate, length-take, length-drop, length-a
 use lib.Seq.{drop-append-le}
 use Rattle.geometry.specs.Geometry.{size}
 use Rattle.geometry.specs.Checks.{badShape}
-use Rattle.feed_records.specs.Words.{wordsTaken, wordsNeeded}
-use Rattle.feed_records.proofs.Past.{some-taken, some-needed, needed-most, taken-same, needed-same}
+use Rattle.feed_lengths.specs.Lengths.{wordsTaken, wordsNeeded}
+use Rattle.feed_lengths.proofs.Laws.{some-taken, some-needed, needed-most, taken-same, needed-same}
 use Rattle.feed.specs.Head.{headed}
 use Rattle.feed.specs.Record.{Carried, recorded}
 use Rattle.feed.proofs.Past.{record-alone}

@@ -10,7 +10,7 @@ use lib.Dec.{leb}
 use lib.ListN.{length, take, drop, replicate, length-append, length-take, length-drop, length-replicate}
 use Rattle.geometry.specs.Geometry.{size}
 use Rattle.geometry.specs.Checks.{badShape}
-use Rattle.feed_records.proofs.Past.{some-taken}
+use Rattle.feed_lengths.proofs.Laws.{some-taken}
 use Rattle.feed.specs.Head.{headDepth, headWidth, headed}
 use Rattle.feed.specs.Record.{recorded}
 use Rattle.feed_line.specs.declared.Line.{Line}

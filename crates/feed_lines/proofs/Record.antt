@@ -17,7 +17,8 @@ use Rattle.meter.proofs.Memory.{update-accepted}
 use Rattle.word.specs.declared.Step.{Step}
 use Rattle.word.specs.Word.{endKind, next, payload, isDue, tested, below}
 use Rattle.word.proofs.Laws.{due-in, one-on}
-use Rattle.feed_records.specs.Words.{updateKind, queryKind, keyKind, amountKind, opensKey, opened, keyOf, amountOf, keyWords, keyPayload, keyWord, checkKey, checkAmount, updateStep, queryStep, bodyOf, updateBody, queryBody, wordsTaken}
+use Rattle.feed_lengths.specs.Lengths.{wordsTaken}
+use Rattle.feed_records.specs.Words.{updateKind, queryKind, keyKind, amountKind, opensKey, opened, keyOf, amountOf, keyWords, keyPayload, keyWord, checkKey, checkAmount, updateStep, queryStep, bodyOf, updateBody, queryBody}
 use Rattle.feed_keys.proofs.Places.{key-in}
 use Rattle.feed_records.proofs.Places.{update-in}
 use Rattle.feed.specs.declared.Recorded.{Recorded}

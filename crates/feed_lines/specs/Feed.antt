@@ -5,7 +5,7 @@ use mathlib.Core.List.{List, [], _∷_}
 use lib.ListN.{length, drop, replicate}
 use Rattle.geometry.specs.Geometry.{size}
 use Rattle.answer.specs.Numbers.{badWord}
-use Rattle.feed_records.specs.Words.{wordsTaken}
+use Rattle.feed_lengths.specs.Lengths.{wordsTaken}
 use Rattle.feed.specs.Head.{headDepth, headWidth, headed}
 use Rattle.feed.specs.Record.{recorded}
 use Rattle.feed_line.specs.declared.Line.{Line}

@@ -5,7 +5,7 @@ use mathlib.Core.Path.{_≡_}
 use mathlib.Core.Bool.{cond, _||_}
 use mathlib.Core.List.{List, []}
 use lib.ListN.{length}
-use Rattle.feed_records.specs.Words.{wordsTaken, wordsNeeded}
+use Rattle.feed_lengths.specs.Lengths.{wordsTaken, wordsNeeded}
 use Rattle.feed_line.specs.declared.Line.{Line}
 use Rattle.word_bytes.specs.Words.{wholeWords}
 use Rattle.feed_line.specs.Line.{continues, isEnd}

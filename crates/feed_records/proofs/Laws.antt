@@ -1,16 +1,14 @@
 -- Laws of a record's words that the code's proofs use.
 use mathlib.Core.Path.{_≡_, refl, _∙_}
-use mathlib.Core.Bool.{Bool, true, false, cond, _&&_}
+use mathlib.Core.Bool.{Bool, true, false, cond}
 use mathlib.Core.List.{List, [], _∷_}
-use Prim.Native.Nat.{ℕ, zero, suc, _%_, _^_, _≤_}
+use Prim.Native.Nat.{ℕ, zero, suc, _%_, _^_}
 use native.Mathlib.Omega.{arith}
-use lib.Dec.{eqb, leb}
-use borrow.Author.Tests.{leb-true, eqb-true, ne-eqb}
-use Rattle.answer.specs.Order.{unless}
+use lib.Dec.{eqb}
+use borrow.Author.Tests.{eqb-true, ne-eqb}
 use Rattle.geometry.specs.Checks.{badKey}
 use Rattle.word.specs.declared.Step.{Step}
 use Rattle.word.specs.Word.{endKind, payload, isDue}
-use Rattle.word.proofs.Laws.{both}
 use types.Run.{OneOf}
 use denote.Enum.Declared.{tagOf}
 use Rattle.feed_records.specs.declared.Opening.{Opening}
@@ -73,11 +71,3 @@ opened-good before words =
     (either-good (isDue words 0 queryKind) _ _ (opens-good (payload words 0) (opening.Query (payload words 0)) refl)
     (either-good (isDue words 0 endKind) _ _
     (either-good (eqb (payload words 0) (before % 2 ^ 28)) opening.End (opening.Refused 9) refl refl) refl))
-
--- such a key fits the buffer that it is taken into
-pub key-short : (n : ℕ) → badKey n ≡ 0 → n ≤ 64
-key-short n e = test (leb 1 n && leb n 64) refl e
-  where
-    test : (t : Bool) → (leb 1 n && leb n 64) ≡ t → unless t 4 ≡ 0 → n ≤ 64
-    test true h k = leb-true n 64 (both (leb 1 n) (leb n 64) h .1)
-    test false h k = absurd (omega arith)

@@ -4,7 +4,6 @@ use mathlib.Core.Bool.{Bool, true, false, cond}
 use mathlib.Core.List.{List}
 use Prim.Native.Nat.{ℕ, _+_, _%_, _^_, _≤_}
 use native.Mathlib.Omega.{arith}
-use borrow.Author.Tests.{eqb-true}
 use borrow.Table.Steps.{cases}
 use lib.Dec.{eqb}
 use lib.ListN.{take}
@@ -17,8 +16,8 @@ use Rattle.feed_keys.proofs.Places.{key-on, key-words-same}
 use Rattle.feed_records.specs.declared.Opening.{Opening}
 use Rattle.feed_records.specs.declared.Opening.the-variants as opening
 use Rattle.feed_keys.specs.Keys.{keyWords, checkKey}
-use Rattle.feed_records.specs.Words.{updateKind, queryKind, amountKind, opensKey, opened, checkAmount, amountOf, updateStep, queryStep, updateBody, queryBody, wordsTaken, wordsNeeded}
-use Rattle.feed_records.proofs.Laws.{key-short}
+use Rattle.feed_lengths.specs.Lengths.{wordsTaken, wordsNeeded}
+use Rattle.feed_records.specs.Words.{updateKind, queryKind, amountKind, opensKey, opened, checkAmount, amountOf, updateStep, queryStep, updateBody, queryBody}
 
 -- the words that a first word opens
 unfoldable pub taken : Opening → ℕ
@@ -34,18 +33,6 @@ key-taken n o k h l = test (eqb (badKey n) 0)
     test : (t : Bool) → taken (cond t o (opening.Refused (badKey n))) ≤ k
     test true = h
     test false = l
-
-pub some-taken : (words : List ℕ) → 1 ≤ wordsTaken words
-unfolding wordsTaken
-some-taken words = update (isDue words 0 updateKind)
-  where
-    query : (t : Bool) → 1 ≤ cond t (1 + keyWords (payload words 0)) 1
-    query true = omega arith
-    query false = omega arith
-
-    update : (t : Bool) → 1 ≤ cond t (1 + keyWords (payload words 0) + 2) (cond (isDue words 0 queryKind) (1 + keyWords (payload words 0)) 1)
-    update true = omega arith
-    update false = query (isDue words 0 queryKind)
 
 opened-taken : (before : ℕ) (words : List ℕ) → taken (opened before words) ≤ wordsTaken words
 unfolding opened wordsTaken taken
@@ -72,23 +59,6 @@ opened-taken before words = update (isDue words 0 updateKind)
         ≤ cond t (1 + keyWords n + 2) (cond (isDue words 0 queryKind) (1 + keyWords n) 1)
     update true = key-taken n (opening.Update n) (1 + keyWords n + 2) (omega arith) (omega arith)
     update false = query (isDue words 0 queryKind)
-
--- a record whose key length passes has at most 25 words
-taken-most : (words : List ℕ) → badKey (payload words 0) ≡ 0 → wordsTaken words ≤ 25
-unfolding wordsTaken
-taken-most words h =
-    let l = key-short (payload words 0) h in
-    cases (isDue words 0 updateKind) (λ u. rw u (omega arith))
-    (λ u. rw u (cases (isDue words 0 queryKind) (λ q. rw q (omega arith)) (λ q. rw q (omega arith))))
-
-pub some-needed : (words : List ℕ) → 1 ≤ wordsNeeded words
-unfolding wordsNeeded
-some-needed words = cases (eqb (badKey (payload words 0)) 0) (λ t. rw t (some-taken words)) (λ t. rw t (omega arith))
-
-pub needed-most : (words : List ℕ) → wordsNeeded words ≤ 25
-unfolding wordsNeeded
-needed-most words =
-    cases (eqb (badKey (payload words 0)) 0) (λ t. rw t (taken-most words (eqb-true _ 0 t))) (λ t. rw t (omega arith))
 
 -- a key length that does not pass opens nothing
 none-opened : (before : ℕ) (words : List ℕ) → eqb (badKey (payload words 0)) 0 ≡ false → taken (opened before words) ≤ 1
@@ -132,12 +102,3 @@ module _ (words : List ℕ) (n : ℕ) where
   pub opened-same : (before : ℕ) → 1 ≤ n → opened before front ≡ opened before words
   unfolding opened
   opened-same before h = rw (due-same words n 0 updateKind h, due-same words n 0 queryKind h, due-same words n 0 endKind h, payload-same words n 0 h)
-
-  -- the first word tells how many words are taken and needed
-  pub taken-same : 1 ≤ n → wordsTaken front ≡ wordsTaken words
-  unfolding wordsTaken
-  taken-same h = rw (due-same words n 0 updateKind h, due-same words n 0 queryKind h, payload-same words n 0 h)
-
-  pub needed-same : 1 ≤ n → wordsNeeded front ≡ wordsNeeded words
-  unfolding wordsNeeded
-  needed-same h = rw (payload-same words n 0 h, taken-same h)

@@ -18,7 +18,8 @@ use Rattle.word.proofs.Places.{tested-status, next-status}
 use Rattle.feed_records.specs.declared.Opening.{Opening}
 use Rattle.feed_records.specs.declared.Opening.the-variants as opening
 use Rattle.feed_keys.specs.Keys.{keyWords, checkKey}
-use Rattle.feed_records.specs.Words.{updateKind, queryKind, amountKind, opensKey, opened, checkAmount, updateStep, queryStep, wordsTaken}
+use Rattle.feed_lengths.specs.Lengths.{wordsTaken}
+use Rattle.feed_records.specs.Words.{updateKind, queryKind, amountKind, opensKey, opened, checkAmount, updateStep, queryStep}
 use Rattle.feed_keys.proofs.Places.{key-in, key-ends, key-status}
 use Rattle.feed_records.proofs.Places.{update-in}
 

@@ -11,17 +11,12 @@ use Rattle.feed_records.specs.declared.Opening.{Opening}
 use Rattle.feed_records.specs.declared.Opening.the-variants as opening
 use Rattle.feed_records.specs.declared.Body.{Body}
 use Rattle.feed_records.specs.declared.Body.the-variants as body
--- the key words, for those who cite them with the rest
+-- the kinds of a first word and the key words, for those who cite them with the rest
+pub use Rattle.feed_lengths.specs.Lengths.{updateKind, queryKind}
 pub use Rattle.feed_keys.specs.Keys.{keyKind, keyWords, keyOf}
 unfoldable pub use Rattle.feed_keys.specs.Keys.{keyPayload, keyWord, checkKey, keyByte, keyFrom}
 
--- the kinds of a record's words; a query is document 01's asking record
-abbrev pub updateKind : ℕ
-updateKind = 5
-
-abbrev pub queryKind : ℕ
-queryKind = 6
-
+-- the kind of an amount's words
 abbrev pub amountKind : ℕ
 amountKind = 8
 
@@ -60,12 +55,3 @@ updateBody n words = bodyOf (updateStep n words) (amountOf n words)
 
 unfoldable pub queryBody : ℕ → List ℕ → Body
 queryBody n words = bodyOf (queryStep n words) 0
-
--- The number of words that a record or the end takes follows from the first word's kind and key length.
-unfoldable pub wordsTaken : List ℕ → ℕ
-wordsTaken words =
-    cond (isDue words 0 updateKind) (1 + keyWords (payload words 0) + 2) (cond (isDue words 0 queryKind) (1 + keyWords (payload words 0)) 1)
-
--- The number of words that must be at hand for a record to be carried out: one, and after a first word that opens a record all its words.
-unfoldable pub wordsNeeded : List ℕ → ℕ
-wordsNeeded words = cond (eqb (badKey (payload words 0)) 0) (wordsTaken words) 1

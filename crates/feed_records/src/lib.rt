@@ -2,6 +2,8 @@
 pub use feed_keys::key_words;
 use feed_keys::take_key;
 use feed_keys::take_sound_key;
+use feed_lengths::QUERY;
+use feed_lengths::UPDATE;
 use word::Step;
 use word::below;
 use word::is_due;
@@ -11,13 +13,9 @@ ghost use Prim.Native.Nat.{_^_, _<_, _≤_};
 ghost use lib.ListN.{length, take};
 ghost use Rattle.feed_records.specs.Answers.{bodyAnswer};
 ghost use Rattle.feed_keys.specs.Keys.{keyOf};
-ghost use Rattle.feed_records.specs.Words.{opensKey, opened, checkAmount, amountOf, updateStep, bodyOf, updateBody, queryBody, wordsTaken, wordsNeeded};
+ghost use Rattle.feed_records.specs.Words.{opensKey, opened, checkAmount, amountOf, updateStep, bodyOf, updateBody, queryBody};
 
-// The kinds of a record's words.
-pub const UPDATE: u32 = 5;
-
-pub const QUERY: u32 = 6;
-
+// The kind of an amount's words.
 const AMOUNT: u32 = 8;
 
 // What a first word opens.
@@ -134,29 +132,4 @@ pub fn query_body(words: &[u32], n: usize, key: &mut [u8]) -> Body
         return Body::Sound { amount: 0 };
     }
     body_of(take_key(words, n, key), 0)
-}
-
-// The number of words that a record or the end takes.
-pub fn words_taken(words: &[u32]) -> usize
-    ensures { λ r. ⌜ r ≡ wordsTaken (now (words .entry)) ⌝ }
-{
-    let n = key_words(payload(words, 0) as usize);
-    if is_due(words, 0, UPDATE) {
-        return 1 + n + 2;
-    }
-    if is_due(words, 0, QUERY) {
-        return 1 + n;
-    }
-    1
-}
-
-// The number of words that must be at hand for a record to be carried out, at most those of the longest.
-pub fn words_needed(words: &[u32]) -> usize
-    ensures { λ r. ⌜ r ≡ wordsNeeded (now (words .entry)) ⌝ }
-    ensures { λ r. ⌜ (1 ≤ r) × (r ≤ 25) ⌝ }
-{
-    if geometry::bad_key(payload(words, 0) as usize) != 0 {
-        return 1;
-    }
-    words_taken(words)
 }

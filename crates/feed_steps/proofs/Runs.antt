@@ -8,7 +8,7 @@ use native.Mathlib.Omega.{arith}
 use borrow.Table.Steps.{cases}
 use lib.ListN.{length, take, drop, length-append, length-drop}
 use Rattle.geometry.specs.Checks.{badShape}
-use Rattle.feed_records.proofs.Past.{some-taken, some-needed}
+use Rattle.feed_lengths.proofs.Laws.{some-taken, some-needed}
 use Rattle.feed.specs.Record.{recorded}
 use Rattle.feed_line.specs.declared.Line.{Line}
 use Rattle.word_bytes.specs.Words.{wholeWords}

@@ -42,8 +42,8 @@ pub fn read(d: usize, w: usize, memory: &mut [u8], words: &[u32]) -> Answer
     if status != 0 {
         return answer::refused(status);
     }
-    let n = image_checker::table_size(words.len(), d, w);
-    let layouts = image_checker::layout_table(n);
+    let n = image_layouts::table_size(words.len(), d, w);
+    let layouts = image_layouts::layout_table(n);
     let fields = image_format::field_table(n);
     let s = image_checker::check(words, d, w, &layouts[0..n], &fields[0..17 * n]);
     if s.status != 0 {

@@ -7,7 +7,7 @@ use native.Mathlib.Numerals.{add-one}
 use native.Mathlib.Omega.{arith}
 use borrow.Author.Tests.{eq-eqb}
 use lib.ListN.{length, getD, drop, replicate}
-use lib.Bits.{bitOr, bitXor, or-add-and, xor-add-and, xor-shr, and-le-l, and-le-r}
+use lib.Bits.{bitXor}
 use lib.Seq.{drop-cons}
 use Rattle.group_codes.specs.Pack.{layoutsOf, fourMerges, unpacked}
 use Rattle.group_codes.proofs.Packing.{merge-none}
@@ -15,13 +15,9 @@ use Rattle.word.specs.Word.{go, next, payload}
 use Rattle.image_format.specs.Image.{word, layoutKind, countKind, wordCount, isFirst}
 use Rattle.image_format.specs.Read.{firstBits, checkParts, checkSlot, checkSlots, checkGroups, checkFour, mergesAt}
 use Rattle.image_format.proofs.Sizes.{plain-level}
-use Rattle.image_checker.specs.Checker.{Counts}
-use Rattle.image_checker.proofs.Digits.{below-here, payload-here}
-
--- a word that is a counter of one slot
-pub count-is : (x : ℕ) → x / 2 ^ 8 ≡ countKind * 2 ^ 20 → x ≡ word countKind (x % 256)
-unfolding word
-count-is x e = omega arith
+use Rattle.image_group_checker.specs.Checker.{Counts}
+use Rattle.image_group_checker.proofs.Bits.{count-is, same-from}
+use Rattle.image_group_checker.proofs.Digits.{below-here, payload-here}
 
 plain-slot : (k : ℕ) (words : List ℕ) (p : ℕ) → k < 8 → Counts words p 1 → checkSlot 0 k words p ≡ go (p + 1)
 unfolding checkSlot checkParts isFirst wordCount firstBits next
@@ -67,20 +63,7 @@ clear-checks words p h e c =
     (ap (λ (c : ℕ). checkGroups (unpacked c .merges) words (p + 1)) x ∙ ap (λ (m : List ℕ). checkGroups m words (p + 1)) merges-none
     ∙ plain-check-groups 4 words (p + 1) c ∙ ap go (omega arith))
 
--- no bits are lost
-pub or-le : (a b : ℕ) → (a ≤ bitOr a b) × (b ≤ bitOr a b)
-or-le a b = (omega (arith, or-add-and a b, and-le-r a b), omega (arith, or-add-and a b, and-le-l a b))
-
--- the same bits from a place on
-pub same-from : (x y b : ℕ) → bitXor x y / 2 ^ b ≡ 0 → x / 2 ^ b ≡ y / 2 ^ b
-same-from x y b h =
-    let e : bitXor (x / 2 ^ b) (y / 2 ^ b) ≡ 0 = sym (xor-shr x y b) ∙ h in
-    omega (arith, e, xor-add-and (x / 2 ^ b) (y / 2 ^ b), and-le-l (x / 2 ^ b) (y / 2 ^ b), and-le-r (x / 2 ^ b) (y / 2 ^ b))
-
--- a count word with a small payload, and a word with none
-pub same-bits : (x : ℕ) → bitXor x (countKind * 2 ^ 28) < 256 → x / 2 ^ 8 ≡ countKind * 2 ^ 20
-same-bits x h = same-from x (countKind * 2 ^ 28) 8 (omega arith)
-
+-- a word with no payload
 pub same-word : (x kind : ℕ) → bitXor x (kind * 2 ^ 28) ≡ 0 → x ≡ word kind 0
 unfolding word
 same-word x kind h =

@@ -27,7 +27,7 @@ use Rattle.image_format.specs.Write.{allValid, validRows, groupSize}
 use Rattle.image_format.specs.Read.{mergesAt, checkGroups, checkFour, checkFours, readGroups, afterGroups, readFours, afterFours, readRows}
 use Rattle.word.proofs.Laws.{both}
 use Rattle.image_writer.proofs.Laws.{layout-lt}
-use Rattle.image_checker.proofs.Digits.{here, payload-here, below-here}
+use Rattle.image_group_checker.proofs.Digits.{here, payload-here, below-here}
 use borrow.Table.Steps.{cases}
 use Rattle.image_reader.proofs.Restoring.{group-restored}
 

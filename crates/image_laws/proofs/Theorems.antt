@@ -26,7 +26,7 @@ use Rattle.image_format.specs.Read.{checkHead, checkFours, checkEnd, checked, r
 use Rattle.image_laws.specs.Meters.{Meter, IsImage}
 use Rattle.image.proofs.Calls.{Sound, sound-call, write-call, write-invalid, write-short, write-done, read-call, read-faulty, read-done}
 use Rattle.image_format.proofs.Laws.{log-width-most}
-use Rattle.image_checker.proofs.Digits.{payload-here, due-here, below-here}
+use Rattle.image_group_checker.proofs.Digits.{payload-here, due-here, below-here}
 use Rattle.word.proofs.Passed.{passed, tested-is}
 use Rattle.image_laws.proofs.Exact.{rows-are}
 use Rattle.image.proofs.Sharp.{sharp-at}

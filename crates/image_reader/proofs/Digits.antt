@@ -12,7 +12,7 @@ use Rattle.image_format.specs.Image.{word, countKind, parts, wordCount}
 use Rattle.image_format.specs.Read.{valueFrom}
 use Rattle.image_format.proofs.Laws.{parts-length}
 use Rattle.image_format.proofs.Fields.{words-bits}
-use Rattle.image_checker.proofs.Digits.{here, payload-here, digit-lt}
+use Rattle.image_group_checker.proofs.Digits.{here, payload-here, digit-lt}
 
 pub power-step : (n : ℕ) → 2 ^ (24 * suc n) ≡ 2 ^ 24 * 2 ^ (24 * n)
 power-step n = ap (λ (k : ℕ). 2 ^ k) (omega arith) ∙ pow-add 2 24 (24 * n)

@@ -22,7 +22,7 @@ use Rattle.image_format.specs.Fields.{Field, partFields, slotsFields, groupFiel
 use Rattle.image_format.proofs.Sizes.{read-level, level-at-le}
 use Rattle.image_format.proofs.Counters.{first-is}
 use Rattle.image_format.proofs.Fields.{none, parts-size, fields-size, field-in, words-bits, fields-turn}
-use Rattle.image_checker.proofs.Steps.{Stands, stands-first, stands-next}
+use Rattle.image_group_checker.proofs.Steps.{Stands, stands-first, stands-next}
 use Rattle.image_reader.proofs.Steps.{reads-step}
 use Rattle.image_reader.proofs.Digits.{power-step}
 

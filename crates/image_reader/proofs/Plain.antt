@@ -15,8 +15,8 @@ use Rattle.image_format.specs.Write.{groupSize}
 use Rattle.image_format.specs.Read.{readGroup}
 use Rattle.image_format.proofs.Sizes.{size-none}
 use Rattle.image_format.proofs.Plain.{plain-words}
-use Rattle.image_checker.specs.Checker.{Counts}
-use Rattle.image_checker.proofs.Plain.{count-is}
+use Rattle.image_group_checker.specs.Checker.{Counts}
+use Rattle.image_group_checker.proofs.Bits.{count-is}
 use Rattle.image_reader.specs.Reader.{lows}
 use Rattle.image_reader.proofs.Restoring.{Restored, group-restored}
 

@@ -18,8 +18,8 @@ use borrow.Table.Steps.{cases}
 use Rattle.image_format.proofs.Laws.{slot-none, slot-some, size-first, size-other}
 use Rattle.image_format.proofs.Sizes.{read-level, level-at-le}
 use Rattle.image_format.proofs.Counters.{first-is, other-is}
-use Rattle.image_checker.proofs.Laws.{up-to, check-slot-other}
-use Rattle.image_checker.proofs.Digits.{check-counter}
+use Rattle.image_group_checker.proofs.Laws.{up-to, check-slot-other}
+use Rattle.image_group_checker.proofs.Digits.{check-counter}
 use Rattle.image_reader.proofs.Laws.{read-slot-other, read-slot-merge, read-slot-first}
 use Rattle.image_reader.proofs.Digits.{value-counter, parts-after}
 

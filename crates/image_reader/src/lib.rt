@@ -2,9 +2,9 @@
 use geometry::store;
 use group::Group;
 use group_fields::Fields;
-use image_checker::are_counts;
-use image_checker::codes_at;
-use image_checker::merge_of;
+use image_group_checker::are_counts;
+use image_layouts::codes_at;
+use image_layouts::merge_of;
 use word::payload;
 ghost use mathlib.Core.Path.{_≡_};
 ghost use Prim.Native.Nat.{ℕ, _+_, _*_, _/_, _^_, _<_, _≤_};

@@ -7,7 +7,7 @@ ghost use Rattle.image_format.specs.Read.{taken};
 ghost use Rattle.feed.specs.Answers.{recordAnswer};
 ghost use Rattle.feed.specs.Head.{headed};
 ghost use Rattle.feed.specs.Record.{recorded};
-ghost use Rattle.feed_records.specs.Words.{wordsTaken};
+ghost use Rattle.feed_lengths.specs.Lengths.{wordsTaken};
 
 #[no_mangle]
 pub extern "C" fn meter_clear(

@@ -13,7 +13,7 @@ use Rattle.feed_keys.specs.Keys.{keyOf}
 use Rattle.feed_records.specs.Words.{updateBody}
 use Rattle.feed.specs.declared.Recorded.{Recorded}
 use Rattle.feed.specs.Record.{Carried, refusal, outcomeOf, updateOutcome, updateMemory, finishRecord}
-use Rattle.feed_records.proofs.Laws.{key-short}
+use Rattle.feed_lengths.proofs.Laws.{key-short}
 use Rattle.feed.proofs.Cases.{carriedUpdate, outcome-refused, outcome-accepted, tell}
 use Rattle.feed.proofs.Laws.{lent, call-passes, update-refused}
 use Rattle.feed.proofs.update.Statement.{statement}

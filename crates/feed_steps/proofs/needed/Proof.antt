@@ -1,7 +1,7 @@
 use mathlib.Core.Path.{ap, _∙_}
 use Prim.Native.Nat.{ℕ, _*_}
 use native.Mathlib.Omega.{arith}
-use Rattle.feed_records.proofs.Past.{needed-same}
+use Rattle.feed_lengths.proofs.Laws.{needed-same}
 use Rattle.word_bytes.specs.Words.{wholeWords}
 use borrow.Author.Needs.{needs}
 use Rattle.feed_steps.proofs.needed.Statement.{statement}

@@ -1,6 +1,6 @@
 use mathlib.Core.Logic.{inl}
 use native.Mathlib.Omega.{arith}
-use Rattle.feed_records.proofs.Past.{needed-most}
+use Rattle.feed_lengths.proofs.Laws.{needed-most}
 use Rattle.word_bytes.specs.Words.{wholeWords}
 use Rattle.feed_io.specs.Buffers.{unused}
 use Rattle.feed_io.proofs.Buffers.{unused-length}

@@ -11,7 +11,7 @@ use Rattle.image_format.proofs.Laws.{size-first, sizes-none}
 use Rattle.image_reader.proofs.Laws.{read-slots-none}
 use Rattle.image_format.proofs.Counters.{sizes-turn}
 use Rattle.image_format.proofs.Sizes.{behind-is}
-use Rattle.image_checker.proofs.Steps.{Stands, stands-first, stands-next, step-small}
+use Rattle.image_group_checker.proofs.Steps.{Stands, stands-first, stands-next, step-small}
 use Rattle.image_reader.proofs.Steps.{reads-step}
 use Rattle.image_reader.proofs.read_group.Statement.{statement}
 use Rattle.image_reader.proofs.read_group.Tie as tie

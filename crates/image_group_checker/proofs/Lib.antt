@@ -1,0 +1,5 @@
+pub mod Laws
+pub mod Digits
+pub mod Steps
+pub mod Bits
+pub mod Fields
