@@ -1,3 +1,2 @@
 pub mod Widths
-pub mod Lists
-pub mod Groups
+pub mod Bits

@@ -1,10 +1,10 @@
--- Laws of widths and of the order of refusals.
+-- Laws of widths, of where rows lie and of the order of refusals.
 use mathlib.Core.Path.{_≡_, refl, sym, ap, _∙_}
 use mathlib.Core.Bool.{Bool, true, false, true≢false, or-true, and-eq-true-iff}
 use mathlib.Core.Logic.{⊎-elim}
 use mathlib.Core.List.{List, [], _∷_, _++_}
 use Prim.Native.Nat.{ℕ, zero, suc, _+_, _-_, _*_, _/_, _%_, _^_, _≤_, _<_, min}
-use native.Mathlib.Nat.{mul-assoc, mul-comm, mul-one, pow-suc, mul-mod-left, mod-self, mul-le-mul}
+use native.Mathlib.Nat.{mul-assoc, mul-comm, mul-one, pow-suc, mul-mod-left, mod-self, mul-le-mul, mul-le-mul-right, suc-mul}
 use native.Mathlib.Decide.{decLt}
 use native.Mathlib.Omega.{arith}
 use borrow.Author.Tests.{eqb-true, eq-eqb, leb-true}
@@ -14,7 +14,7 @@ use lib.Dec.{eqb, leb}
 use lib.Pow.{pow-add, pow-mono, pow-lt}
 use Rattle.laws.proofs.Tests.{or-cases}
 use Rattle.laws.proofs.Tests.{both-ways}
-use Rattle.geometry.specs.Geometry.{oneOfPowers, validDepth, validWidth, stride, size, RowsIn}
+use Rattle.geometry.specs.Geometry.{oneOfPowers, validDepth, validWidth, stride, size, RowIn, RowsIn}
 use Rattle.answer.specs.Order.{firstOf, unless}
 use Rattle.geometry.specs.Checks.{badShape}
 
@@ -139,6 +139,14 @@ pub size-in : (d w : ℕ) → validDepth d ≡ true → validWidth w ≡ true �
 size-in d w v e =
     let f = wide w e in
     mul-le-mul {n₁ = d} {m₁ = stride w} {n₂ = 8} {m₂ = 73728} (depth-in d v .1) (omega (arith, stride-is w))
+
+-- row r of d rows lies in the memory
+pub row-in : (r d stride : ℕ) {n : ℕ} → r < d → d * stride ≤ n → r * stride + stride ≤ n
+row-in r d stride h k = omega (arith, mul-le-mul-right {m = suc r} {n = d} stride h, suc-mul r stride)
+
+pub one-row : (d w r : ℕ) {bytes : ℕ} → RowsIn d w bytes → r < d → RowIn w r bytes
+unfolding size
+one-row d w r p h = (p .0, omega (arith, p .1), row-in r d (stride w) h (omega (arith, p .2)))
 
 -- where a group lies in a row
 pub slot-in : (w slot : ℕ) → validWidth w ≡ true → slot < w → slot / 8 < w / 8

@@ -8,7 +8,7 @@ use Rattle.group.specs.declared.Group.{Group}
 use Rattle.group.specs.Group.{read}
 use Rattle.group_codes.specs.Pack.{packed}
 use Rattle.geometry.specs.Geometry.{largestLog, stride}
-use Rattle.geometry.specs.Rows.{groupAt}
+use Rattle.meter_memory.specs.Rows.{groupAt}
 use Rattle.word.specs.Word.{headKind, endKind}
 
 -- the top four bits of a word are its kind and the low 28 its payload

@@ -12,7 +12,7 @@ use Rattle.group.specs.Group.{changed}
 use Rattle.group_codes.specs.Pack.{layoutsOf, unpacked}
 use Rattle.geometry.specs.Geometry.{stride}
 use Rattle.geometry.specs.Checks.{badShape}
-use Rattle.geometry.specs.Rows.{withGroup}
+use Rattle.meter_memory.specs.Rows.{withGroup}
 use Rattle.word.specs.Word.{headKind, endKind, go, stop, next, payload, tested, below}
 use Rattle.image_format.specs.Image.{layoutKind, countKind, headPayload, wordCount, levelAt, isFirst}
 use Rattle.image_format.specs.Write.{slotSize, groupSize}

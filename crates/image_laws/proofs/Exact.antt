@@ -19,7 +19,7 @@ use Rattle.group_codes.proofs.Packing.{code-merge, pack-unpack}
 use Rattle.group.proofs.Changing.{Good}
 use Rattle.group_fields.proofs.Merges.{merge-byte}
 use Rattle.geometry.specs.Geometry.{stride}
-use Rattle.geometry.specs.Rows.{groupAt, withGroup}
+use Rattle.meter_memory.specs.Rows.{groupAt, withGroup}
 use Rattle.word.specs.declared.Step.{Step}
 use Rattle.word.specs.Word.{go, next, payload, below}
 use Rattle.image_format.specs.Image.{word, layoutKind, layoutAt, groupWords, groupsWords, fourWords, rowWords, rowsWords}

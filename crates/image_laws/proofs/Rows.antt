@@ -18,8 +18,8 @@ use Rattle.group_codes.specs.Pack.{layoutsOf, fourCode, packed, unpacked}
 use Rattle.group_codes.proofs.Packing.{unpack-pack}
 use Rattle.group.proofs.Changing.{Good}
 use Rattle.geometry.specs.Geometry.{stride}
-use Rattle.geometry.specs.Rows.{groupAt, withGroup}
-use Rattle.geometry.proofs.Lists.{bytes-drop, bytes-take}
+use Rattle.meter_memory.specs.Rows.{groupAt, withGroup}
+use Rattle.laws.proofs.Lists.{bytes-drop, bytes-take}
 use Rattle.word.specs.declared.Step.{Step}
 use Rattle.word.specs.Word.{go, next, payload}
 use Rattle.image_format.specs.Image.{word, layoutKind, layoutAt, groupWords, groupsWords, fourWords, rowWords, rowsWords}

@@ -13,7 +13,7 @@ use Rattle.group.specs.declared.Group.{Group}
 use Rattle.group.specs.Group.{changed}
 use Rattle.group_fields.proofs.Readings.{changed-merge}
 use Rattle.geometry.specs.Geometry.{stride}
-use Rattle.geometry.specs.Rows.{withGroup}
+use Rattle.meter_memory.specs.Rows.{withGroup}
 use Rattle.word.specs.Word.{payload}
 use Rattle.image_format.specs.Image.{wordCount, levelAt, isFirst}
 use Rattle.image_format.specs.Write.{slotSize, groupSize}

@@ -9,7 +9,7 @@ use lib.Seq.{sets, sets-eq, drop-cons, length-take-le}
 use Rattle.group.proofs.Laws.{Eight}
 use Rattle.laws.proofs.Lists.{Bytes}
 use Rattle.group_fields.proofs.Readings.{none-merged}
-use Rattle.geometry.specs.Rows.{withGroup}
+use Rattle.meter_memory.specs.Rows.{withGroup}
 use Rattle.image_format.specs.Image.{word, countKind}
 use Rattle.image_format.specs.Write.{groupSize}
 use Rattle.image_format.specs.Read.{readGroup}

@@ -1,10 +1,10 @@
 // Reading an image whose words have been checked.
-use geometry::store;
 use group::Group;
 use group_fields::Fields;
 use image_group_checker::are_counts;
 use image_layouts::codes_at;
 use image_layouts::merge_of;
+use meter_memory::store;
 use word::payload;
 ghost use mathlib.Core.Path.{_≡_};
 ghost use Prim.Native.Nat.{ℕ, _+_, _*_, _/_, _^_, _<_, _≤_};
@@ -14,7 +14,7 @@ ghost use Rattle.group_codes.specs.Pack.{layoutsOf, codeMerge};
 ghost use Rattle.group_codes.specs.Codes.{AllCodes, mergesOf};
 ghost use Rattle.group_fields.specs.Fields.{groupOf};
 ghost use Rattle.geometry.specs.Geometry.{stride};
-ghost use Rattle.geometry.specs.Rows.{withGroup};
+ghost use Rattle.meter_memory.specs.Rows.{withGroup};
 ghost use Rattle.image_format.specs.Write.{groupSize};
 ghost use Rattle.image_format.specs.Tables as tables;
 ghost use Rattle.image_format.specs.Tables.{Reads};

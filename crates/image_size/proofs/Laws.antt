@@ -11,7 +11,7 @@ use lib.Seq.{drop-cons}
 use Rattle.group.specs.declared.Group.{Group}
 use Rattle.group.specs.Group.{validMerge, read}
 use Rattle.geometry.specs.Geometry.{stride}
-use Rattle.geometry.specs.Rows.{groupAt}
+use Rattle.meter_memory.specs.Rows.{groupAt}
 use Rattle.image_format.specs.Image.{parts, wordCount, levelAt, isFirst, slotWords, slotsWords, groupWords, groupsWords, fourWords, rowWords, rowsWords, body, endWord, image}
 use Rattle.image_format.specs.Write.{allValid, validRows, slotSize, slotsSize, groupSize}
 use Rattle.image_format.proofs.Laws.{parts-length}

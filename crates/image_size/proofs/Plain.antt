@@ -7,7 +7,7 @@ use native.Mathlib.Numerals.{add-one}
 use native.Mathlib.Omega.{arith}
 use lib.ListN.{length, getD, drop, length-append}
 use Rattle.group_fields.proofs.Readings.{none-merged}
-use Rattle.geometry.specs.Rows.{groupAt}
+use Rattle.meter_memory.specs.Rows.{groupAt}
 use Rattle.image_format.specs.Image.{groupWords, groupsWords}
 use Rattle.image_format.specs.Write.{allValid, groupSize}
 use Rattle.image_format.proofs.Sizes.{size-none}

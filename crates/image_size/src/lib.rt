@@ -1,6 +1,6 @@
 // Before an image is written: whether every merge byte is valid, and how many words the image has.
-use geometry::row_at;
 use image_format::size_at;
+use meter_memory::row_at;
 ghost use mathlib.Core.Path.{_≡_};
 ghost use mathlib.Core.Bool.{true, false};
 ghost use Prim.Native.Nat.{_+_, _*_, _/_, _<_, _≤_};

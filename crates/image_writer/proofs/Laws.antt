@@ -8,7 +8,7 @@ use lib.ListN.{length, getD, drop, set}
 use lib.Seq.{sets, sets-eq}
 use Rattle.group_codes.specs.Pack.{layoutsOf, packed}
 use Rattle.group_codes.proofs.Packing.{packed-lt}
-use Rattle.geometry.specs.Rows.{groupAt}
+use Rattle.meter_memory.specs.Rows.{groupAt}
 use Rattle.word.specs.Word.{headKind}
 use Rattle.image_format.specs.Image.{word, rowsWords, layoutAt, headPayload, body, endWord, image}
 use Rattle.image_counters.proofs.Laws.{sets-append}

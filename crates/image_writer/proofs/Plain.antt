@@ -11,8 +11,8 @@ use Rattle.group_codes.specs.Pack.{packed}
 use Rattle.group_codes.proofs.Packing.{packed-none}
 use Rattle.group.proofs.Laws.{Eight}
 use Rattle.laws.proofs.Lists.{Bytes}
-use Rattle.geometry.specs.Rows.{groupAt}
-use Rattle.geometry.proofs.Lists.{bytes-drop, bytes-take}
+use Rattle.meter_memory.specs.Rows.{groupAt}
+use Rattle.laws.proofs.Lists.{bytes-drop, bytes-take}
 use Rattle.image_format.specs.Image.{word, layoutKind, countKind, groupsWords, layoutAt, fourWords}
 use Rattle.image_format.proofs.Plain.{plain-words}
 use Rattle.image_size.specs.Size.{fourSum}

@@ -1,11 +1,11 @@
 // Writing an image. Each function that writes takes the position of its first word and gives the position after its last.
-use geometry::load;
-use geometry::row_at;
 use image_counters::put_any;
 use image_format::code_at;
 use image_format::log_width;
 use image_format::word;
 use image_size::clear;
+use meter_memory::load;
+use meter_memory::row_at;
 ghost use mathlib.Core.Path.{_≡_};
 ghost use mathlib.Core.List.{_++_};
 ghost use Prim.Native.Nat.{_+_, _*_, _/_, _<_, _≤_};

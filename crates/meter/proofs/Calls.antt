@@ -13,7 +13,7 @@ use Rattle.geometry.specs.Geometry.{stride, size, RowsIn}
 use Rattle.answer.specs.Answers.{answerOf, finish, leaves}
 use Rattle.answer.specs.Order.{firstOf, earliest}
 use Rattle.geometry.specs.Checks.{badDepth, badWidth, badLength, badShape, badKey}
-use Rattle.geometry.specs.Rows.{mapRows, ofRows, least, largest}
+use Rattle.meter_memory.specs.Rows.{mapRows, ofRows, least, largest}
 use Rattle.meter_row.specs.Row.{updateStatus, updateRow}
 use Rattle.answer.proofs.Order.{first-rest, first-part, first-one, first-stop, first-skip}
 use Rattle.geometry.proofs.Widths.{shape-good}

@@ -20,14 +20,15 @@ use Rattle.geometry.specs.Geometry.{validWidth, stride, size, RowsIn}
 use Rattle.answer.specs.Answers.{finish, leaves}
 use Rattle.answer.specs.Order.{firstOf, earliest, unless}
 use Rattle.geometry.specs.Checks.{badLength, badShape}
-use Rattle.geometry.specs.Rows.{mapRows, ofRows, ofGroups, groupAt}
+use Rattle.meter_memory.specs.Rows.{mapRows, ofRows, ofGroups, groupAt}
 use Rattle.meter_keys.specs.Keys.{keySlot}
 use Rattle.meter_row.specs.Row.{addedIn, updateStatus, updateRow}
 use Rattle.meter_union.specs.Union.{unitedAt, unitedStatus, uniteStatus, uniteRow}
 use Rattle.answer.proofs.Order.{first-one, none-earlier, none-first}
 use Rattle.geometry.proofs.Widths.{shape-good, wide, stride-is, slot-in, group-in}
-use Rattle.geometry.proofs.Lists.{one-row, row-length}
-use Rattle.geometry.proofs.Groups.{row-mapped, length-mapped, length-with, group-same, group-other, eight-at}
+use Rattle.geometry.proofs.Widths.{one-row}
+use Rattle.meter_memory.proofs.Lists.{row-length}
+use Rattle.meter_memory.proofs.Groups.{row-mapped, length-mapped, length-with, group-same, group-other, eight-at}
 use Rattle.meter_union.proofs.Unions.{length-united, united-from}
 use Rattle.meter.specs.Meter.{badCall, rowOf, cleared, updated, sourceStatus, sourceAdded, united}
 use Rattle.meter.specs.Valid.{Valid}

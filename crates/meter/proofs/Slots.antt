@@ -10,7 +10,7 @@ use Rattle.group.specs.Group.{read}
 use Rattle.hash.specs.Hash.{basis}
 use Rattle.geometry.specs.Geometry.{stride, size}
 use Rattle.answer.specs.Order.{earliest}
-use Rattle.geometry.specs.Rows.{mapRows, ofRows, groupAt, leastOr, least}
+use Rattle.meter_memory.specs.Rows.{mapRows, ofRows, groupAt, leastOr, least}
 use Rattle.meter_keys.specs.Keys.{keySlot}
 use Rattle.meter_row.specs.Row.{addedIn, addedRow, updateStatus, updateRow, readRow}
 use Rattle.answer.proofs.Order.{earlier-none}

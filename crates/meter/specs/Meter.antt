@@ -8,11 +8,11 @@ use Rattle.geometry.specs.Geometry.{stride}
 use Rattle.answer.specs.Answers.{answerOf, Done, finish}
 use Rattle.answer.specs.Order.{firstOf, earliest}
 use Rattle.geometry.specs.Checks.{badDepth, badWidth, badLength, badShape, badKey}
-use Rattle.geometry.specs.Rows.{mapRows, ofRows, least, largest}
+use Rattle.meter_memory.specs.Rows.{mapRows, ofRows, least, largest}
 use Rattle.meter_row.specs.Row.{updateStatus, updateRow, readRow}
 pub use Rattle.meter_row.specs.Row.{rowStatus, rowLevel}
 unfoldable pub use Rattle.meter_union.specs.Union.{sourceStatus, sourceAdded}
-unfoldable pub use Rattle.geometry.specs.Rows.{rowOf}
+unfoldable pub use Rattle.meter_memory.specs.Rows.{rowOf}
 
 -- Clearing reads nothing and sets every byte to 0.
 unfoldable pub cleared : ℕ → ℕ → List ℕ → Done

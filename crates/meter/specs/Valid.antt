@@ -6,7 +6,7 @@ use mathlib.Core.List.{List}
 use lib.ListN.{length}
 use Rattle.group.specs.Group.{validMerge}
 use Rattle.geometry.specs.Geometry.{RowsIn}
-use Rattle.geometry.specs.Rows.{groupAt}
+use Rattle.meter_memory.specs.Rows.{groupAt}
 use Rattle.meter.specs.Meter.{rowOf}
 
 -- a memory of the right length with valid merge bytes

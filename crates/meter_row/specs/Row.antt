@@ -6,7 +6,7 @@ use Rattle.group.specs.declared.Reading.{Reading}
 use Rattle.group.specs.Group.{read, added, widestOf}
 use Rattle.meter_keys.specs.Keys.{keySlot}
 use Rattle.answer.specs.Order.{earliest}
-use Rattle.geometry.specs.Rows.{groupAt, withGroup, ofGroups, largest}
+use Rattle.meter_memory.specs.Rows.{groupAt, withGroup, ofGroups, largest}
 
 -- an update adds an amount in the group of the key's slot
 unfoldable pub addedIn : ℕ → List ℕ → ℕ → ℕ → Outcome

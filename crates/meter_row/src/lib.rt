@@ -1,10 +1,10 @@
 // What each call but a union does in one row.
 use answer::Answer;
 use answer::earlier;
-use geometry::load;
-use geometry::store;
 use group::Group;
 use group::Reading;
+use meter_memory::load;
+use meter_memory::store;
 ghost use mathlib.Core.Path.{_≡_};
 ghost use mathlib.Core.Bool.{true, cond};
 ghost use Prim.Native.Nat.{_/_, _<_, max};
@@ -12,7 +12,7 @@ ghost use lib.Dec.{eqb};
 ghost use lib.ListN.{length};
 ghost use Rattle.geometry.specs.Geometry.{validWidth};
 ghost use Rattle.geometry.specs.Geometry as geometry;
-ghost use Rattle.geometry.specs.Rows.{groupAt, withGroup};
+ghost use Rattle.meter_memory.specs.Rows.{groupAt, withGroup};
 ghost use Rattle.group.specs.Group.{read};
 ghost use Rattle.meter_row.specs.Row.{addedIn, addedRow, widestStatus, widestRow};
 

@@ -7,9 +7,9 @@ use native.Mathlib.Omega.{arith}
 use lib.ListN.{drop}
 use Rattle.geometry.specs.Geometry.{stride}
 use Rattle.answer.specs.Order.{earlier, earliest}
-use Rattle.geometry.specs.Rows.{rowOf, ofRows, leastOr, least, largest}
+use Rattle.meter_memory.specs.Rows.{rowOf, ofRows, leastOr, least, largest}
 use Rattle.answer.proofs.Order.{earlier-none, earlier-assoc}
-use Rattle.geometry.proofs.Lists.{rows-read, rows-read-none, rows-read-all}
+use Rattle.meter_memory.proofs.Lists.{rows-read, rows-read-none, rows-read-all}
 
 module _ (f : ℕ → List ℕ → ℕ) (w : ℕ) (d r : ℕ) (memory : List ℕ) where
   pub status-turn : (s x : ℕ) → r < d → x ≡ f r (rowOf w memory r)

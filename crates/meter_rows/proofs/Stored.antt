@@ -8,7 +8,7 @@ use lib.ListN.{getD, take, drop}
 use lib.Seq.{drop-drop}
 use Rattle.group.specs.declared.Group.{Group}
 use Rattle.geometry.specs.Geometry.{stride}
-use Rattle.geometry.specs.Rows.{rowOf, mapRows, ofRows, withGroup}
+use Rattle.meter_memory.specs.Rows.{rowOf, mapRows, ofRows, withGroup}
 use Rattle.meter_row.specs.Row.{addedIn}
 use Rattle.meter_rows.specs.Slots.{addedRows, Added}
 

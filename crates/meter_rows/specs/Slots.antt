@@ -6,7 +6,7 @@ use lib.ListN.{getD}
 use Rattle.group.specs.declared.Group.{Group}
 use Rattle.group.specs.Group.{read}
 use Rattle.geometry.specs.Geometry.{stride}
-use Rattle.geometry.specs.Rows.{rowOf, mapRows, groupAt}
+use Rattle.meter_memory.specs.Rows.{rowOf, mapRows, groupAt}
 use Rattle.meter_row.specs.Row.{addedIn, addedRow}
 
 -- a slot for each of d rows

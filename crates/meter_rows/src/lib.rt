@@ -2,8 +2,8 @@
 // unions. Every row is tried before any is written.
 use answer::Answer;
 use answer::earlier;
-use geometry::row_at;
 use group::Group;
+use meter_memory::row_at;
 ghost use mathlib.Core.Path.{_≡_};
 ghost use mathlib.Core.Bool.{cond};
 ghost use Prim.Native.Nat.{_≤_, min};
@@ -12,7 +12,7 @@ ghost use lib.ListN.{length};
 ghost use Rattle.geometry.specs.Geometry.{RowsIn};
 ghost use Rattle.geometry.specs.Geometry as geometry;
 ghost use Rattle.answer.specs.Order.{earliest};
-ghost use Rattle.geometry.specs.Rows.{mapRows, ofRows, least, largest};
+ghost use Rattle.meter_memory.specs.Rows.{mapRows, ofRows, least, largest};
 ghost use Rattle.meter_row.specs.Row.{rowStatus, rowLevel};
 ghost use Rattle.meter_union.specs.Union.{sourceStatus, sourceAdded};
 ghost use Rattle.meter_rows.specs.Slots.{SlotsIn, addedStatus, Added, addedRows, slotStatus, slotValue};
@@ -39,7 +39,7 @@ fn try_rows(d: usize, w: usize, memory: &[u8], slots: &[usize; 8], amount: u32) 
     };
     let mut status = 0u8;
     for r in 0..d {
-        let x = geometry::load(row_at(w, memory, r), w, slots[r] / 8);
+        let x = meter_memory::load(row_at(w, memory, r), w, slots[r] / 8);
         let k = group::add_in_place(x, slots[r], amount);
         if k.held {
             let counts = k.counts;

@@ -20,10 +20,10 @@ use Rattle.group_side.proofs.Bytes.{none-merged}
 use Rattle.group_side.proofs.Unions.{unmerged-status}
 use Rattle.geometry.specs.Geometry.{validWidth, stride}
 use Rattle.answer.specs.Order.{earlier, earliest}
-use Rattle.geometry.specs.Rows.{ofGroups, groupAt, withGroup}
-use Rattle.geometry.proofs.Lists.{same-from}
+use Rattle.meter_memory.specs.Rows.{ofGroups, groupAt, withGroup}
+use Rattle.meter_memory.proofs.Lists.{same-from}
 use Rattle.geometry.proofs.Widths.{group-in, stride-is}
-use Rattle.geometry.proofs.Groups.{eight-at, with-counts}
+use Rattle.meter_memory.proofs.Groups.{eight-at, with-counts}
 use Rattle.meter_union.specs.Union.{unitedAt, unitedStatus, uniteStatus, uniteGroups}
 use Rattle.meter_union.specs.Runs.{mergesOf, countsOf, noneMerged, sideBySide}
 

@@ -8,9 +8,9 @@ use lib.ListN.{length}
 use Rattle.group.specs.declared.Group.{Group}
 use Rattle.group.specs.Group.{unitedGroups}
 use Rattle.group.proofs.Outcomes.{united-eight}
-use Rattle.geometry.specs.Rows.{groupAt, withGroup}
+use Rattle.meter_memory.specs.Rows.{groupAt, withGroup}
 use Rattle.meter_union.specs.Union.{unitedAt, uniteGroups}
-use Rattle.geometry.proofs.Groups.{length-with, group-same, group-other, eight-at}
+use Rattle.meter_memory.proofs.Groups.{length-with, group-same, group-other, eight-at}
 
 module _ (w : ℕ) (source : List ℕ) where
   pub unite-turn : (row : List ℕ) (n g : ℕ) → g < n

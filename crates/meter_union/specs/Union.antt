@@ -4,7 +4,7 @@ use mathlib.Core.List.{List}
 use Rattle.group.specs.declared.Outcome.{Outcome}
 use Rattle.group.specs.Group.{unitedGroups}
 use Rattle.answer.specs.Order.{earliest}
-use Rattle.geometry.specs.Rows.{rowOf, groupAt, withGroup, ofGroups}
+use Rattle.meter_memory.specs.Rows.{rowOf, groupAt, withGroup, ofGroups}
 
 -- a union adds each group of a source row to the same group of the row
 unfoldable pub unitedAt : ℕ → List ℕ → List ℕ → ℕ → Outcome

@@ -1,8 +1,8 @@
 // The union of one row with a source row.
 use answer::earlier;
-use geometry::load;
-use geometry::store;
 use group::Outcome;
+use meter_memory::load;
+use meter_memory::store;
 ghost use mathlib.Core.Path.{_≡_};
 ghost use mathlib.Core.Bool.{true, cond};
 ghost use Prim.Native.Nat.{_+_, _*_, _<_, _≤_};

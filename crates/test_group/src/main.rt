@@ -59,11 +59,11 @@ fn outcome(o: Outcome) {
 // An update as the meter makes it in one row: the group is the first of a row of 32 slots.
 fn update(g: Group, slot: usize, amount: u32) -> Outcome {
     let mut row = [0u8; 36];
-    geometry::store(&mut row, 32, 0, g);
+    meter_memory::store(&mut row, 32, 0, g);
     let status = meter_row::update_one(&mut row, 32, slot % 8, amount);
     Outcome {
         status,
-        group: geometry::load(&row, 32, 0),
+        group: meter_memory::load(&row, 32, 0),
     }
 }
 

@@ -17,7 +17,7 @@ use Rattle.group_totals.proofs.Groups.{groupOf, widest-status, widest-most, wid
 use Rattle.geometry.specs.Geometry.{validDepth, validWidth, stride, size}
 use Rattle.answer.specs.Order.{firstOf, earliest}
 use Rattle.geometry.specs.Checks.{badShape, badKey}
-use Rattle.geometry.specs.Rows.{ofRows, ofGroups, least, largest}
+use Rattle.meter_memory.specs.Rows.{ofRows, ofGroups, least, largest}
 use Rattle.meter_keys.specs.Keys.{keySlot}
 use Rattle.meter_row.specs.Row.{readRow, levelStatus, groupLevel, widestStatus, widestRow}
 use Rattle.geometry.proofs.Widths.{depth-in, slot-in, group-in}

@@ -15,7 +15,7 @@ use Rattle.group_layout.specs.Layout.{valid}
 use Rattle.group.specs.declared.Group.{Group}
 use Rattle.group_totals.proofs.Groups.{groupOf, group-same, count-lt, merge-lt, merge-valid}
 use Rattle.geometry.specs.Geometry.{validWidth, stride, size}
-use Rattle.geometry.specs.Rows.{groupAt}
+use Rattle.meter_memory.specs.Rows.{groupAt}
 use Rattle.geometry.proofs.Widths.{wide, stride-is}
 use Rattle.meter.specs.Meter.{rowOf}
 use Rattle.image_format.specs.Write.{allValid, validRows}

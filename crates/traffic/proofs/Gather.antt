@@ -8,9 +8,9 @@ use native.Mathlib.Omega.{arith}
 use lib.ListN.{take, drop}
 use Rattle.geometry.specs.Geometry.{stride}
 use Rattle.answer.specs.Order.{earlier, earliest}
-use Rattle.geometry.specs.Rows.{ofRows, ofGroups, leastOr, least, largest}
+use Rattle.meter_memory.specs.Rows.{ofRows, ofGroups, leastOr, least, largest}
 use Rattle.meter.specs.Meter.{rowOf}
-use Rattle.geometry.proofs.Lists.{drop-row}
+use Rattle.meter_memory.proofs.Lists.{drop-row}
 use Rattle.traffic.specs.Traffic.{leastBelow}
 
 -- what is read of rows, by the rows' numbers

@@ -9,7 +9,7 @@ use Rattle.group_block.specs.Block.{cap}
 use Rattle.group.specs.declared.Group.{Group}
 use Rattle.group_totals.proofs.Groups.{groupOf}
 use Rattle.geometry.specs.Geometry.{stride, size}
-use Rattle.geometry.specs.Rows.{groupAt}
+use Rattle.meter_memory.specs.Rows.{groupAt}
 use Rattle.meter.specs.Meter.{rowOf}
 use Rattle.traffic.specs.Traffic.{Pair, blockTotal}
 

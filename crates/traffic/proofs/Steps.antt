@@ -12,12 +12,12 @@ use Rattle.group_block.specs.Block.{cap}
 use Rattle.group_totals.proofs.Groups.{groupOf, group-clear, Left, added-left, total-off, group-off, united-left}
 use Rattle.hash.specs.Hash.{basis}
 use Rattle.geometry.specs.Geometry.{validDepth, validWidth, stride, size, RowsIn}
-use Rattle.geometry.specs.Rows.{groupAt}
+use Rattle.meter_memory.specs.Rows.{groupAt}
 use Rattle.meter_keys.specs.Keys.{keySlot}
 use Rattle.meter_row.specs.Row.{addedIn}
 use Rattle.meter_union.specs.Union.{unitedAt}
 use Rattle.geometry.proofs.Widths.{depth-in, group-in}
-use Rattle.geometry.proofs.Lists.{row-in}
+use Rattle.geometry.proofs.Widths.{row-in}
 use Rattle.meter.specs.Meter.{rowOf, updated, united}
 use Rattle.meter.proofs.Memory.{Updated, update-accepted, update-group, update-other, United, unite-accepted, unite-group, rows-long}
 use Rattle.traffic.specs.Traffic.{Pair, amountSum, blockTotal}

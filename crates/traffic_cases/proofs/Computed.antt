@@ -18,7 +18,7 @@ use Rattle.group_codes.specs.Pack as packs
 use Rattle.geometry.specs.Geometry as geometry
 use Rattle.answer.specs.Order as order
 use Rattle.answer.specs.Answers as answers
-use Rattle.geometry.specs.Rows as rows
+use Rattle.meter_memory.specs.Rows as rows
 use Rattle.meter_keys.specs.Keys as keys
 use Rattle.meter_row.specs.Row as row
 use Rattle.meter_union.specs.Union as unions

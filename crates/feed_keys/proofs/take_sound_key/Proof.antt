@@ -7,7 +7,7 @@ use borrow.Author.Count.{below-more}
 use borrow.Author.Tests.{eqb-true}
 use lib.Bits.{xor-shr}
 use lib.ListN.{length, take, getD}
-use Rattle.geometry.proofs.Lists.{or-none}
+use Rattle.geometry.proofs.Bits.{or-none}
 use Rattle.word.specs.Word.{payload}
 use Rattle.feed_keys.specs.Keys.{keyKind, keyWords, keyFrom, keyOf}
 use Rattle.laws.proofs.Shifts.{one-shl, one-shl-pos}

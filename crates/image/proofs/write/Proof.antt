@@ -10,7 +10,7 @@ use Rattle.image_format.specs.Image.{image}
 use Rattle.image_format.specs.Write.{groupSize, Written}
 use Rattle.geometry.specs.Geometry.{RowsIn}
 use Rattle.geometry.proofs.Widths.{shape-good, stride-is}
-use Rattle.geometry.proofs.Lists.{one-row}
+use Rattle.geometry.proofs.Widths.{one-row}
 use Rattle.group_codes.specs.Codes.{codeOf}
 use Rattle.image_format.proofs.Tables.{table-part, fields-part}
 use borrow.Author.Needs.{needs}

@@ -5,7 +5,7 @@ use native.Mathlib.Omega.{arith}
 use borrow.Author.Needs.{needs}
 use lib.ListN.{length, getD, drop}
 use native.Mathlib.Nat.{add-zero}
-use Rattle.geometry.specs.Rows.{withGroup}
+use Rattle.meter_memory.specs.Rows.{withGroup}
 use Rattle.image_format.specs.Write.{groupSize}
 use Rattle.image_format.specs.Read.{readGroup, afterGroups, readGroups}
 use Rattle.image_reader.proofs.Laws.{after-groups-step, after-groups-none, read-groups-step, read-groups-none}

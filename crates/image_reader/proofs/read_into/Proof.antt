@@ -3,7 +3,7 @@ use mathlib.Core.List.{List}
 use Prim.Native.Nat.{ℕ, _+_}
 use native.Mathlib.Omega.{arith}
 use lib.ListN.{set}
-use Rattle.geometry.specs.Rows.{withGroup}
+use Rattle.meter_memory.specs.Rows.{withGroup}
 use Rattle.image_format.specs.Write.{groupSize}
 use Rattle.image_format.specs.Read.{readGroup}
 use Rattle.image_reader.proofs.Plain.{plain-read, plain-size}

@@ -7,7 +7,7 @@ use lib.ListN.{length, take, drop}
 use Rattle.geometry.specs.Geometry.{stride}
 use native.Mathlib.Nat.{sub-zero, zero-mul}
 use Rattle.image_format.specs.Read.{readRows}
-use Rattle.geometry.proofs.Lists.{row-in}
+use Rattle.geometry.proofs.Widths.{row-in}
 use Rattle.image_reader.proofs.Laws.{rowsFrom, read-rows-turn, read-rows-end}
 use Rattle.image_reader.proofs.read_rows.Statement.{statement}
 use Rattle.image_reader.proofs.read_rows.Tie as tie

@@ -5,7 +5,7 @@ use Prim.Native.Nat.{_+_}
 use lib.Bits.{bitOr}
 use lib.ListN.{getD}
 use borrow.Author.Tests.{eqb-true}
-use Rattle.geometry.proofs.Lists.{or-none}
+use Rattle.geometry.proofs.Bits.{or-none}
 use borrow.Author.Needs.{needs}
 use Rattle.image_size.proofs.clear.Statement.{statement}
 use Rattle.image_size.proofs.clear.Tie as tie

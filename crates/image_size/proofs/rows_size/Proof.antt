@@ -7,7 +7,7 @@ use lib.ListN.{length, take, drop}
 use Rattle.geometry.specs.Geometry.{stride}
 use native.Mathlib.Nat.{zero-add, sub-zero, zero-mul}
 use Rattle.image_format.specs.Image.{rowWords, rowsWords}
-use Rattle.geometry.proofs.Lists.{one-row}
+use Rattle.geometry.proofs.Widths.{one-row}
 use Rattle.geometry.proofs.Widths.{stride-is}
 use Rattle.geometry.proofs.Widths.{wide}
 use Rattle.image_size.proofs.Laws.{rows-length-step, rows-none}

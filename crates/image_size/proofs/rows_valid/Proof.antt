@@ -8,7 +8,7 @@ use borrow.Author.Tests.{not-true, not-false}
 use lib.ListN.{drop}
 use Rattle.geometry.specs.Geometry.{stride}
 use Rattle.image_format.specs.Write.{allValid, validRows}
-use Rattle.geometry.proofs.Lists.{one-row}
+use Rattle.geometry.proofs.Widths.{one-row}
 use Rattle.image_size.proofs.Laws.{valid-rows-step, valid-rows-none}
 use Rattle.image_size.proofs.rows_valid.Statement.{statement}
 use Rattle.image_size.proofs.rows_valid.Tie as tie

@@ -7,7 +7,7 @@ use lib.ListN.{length}
 use lib.Seq.{sets}
 use native.Mathlib.Nat.{add-zero}
 use Rattle.group.specs.declared.Group.{Group}
-use Rattle.geometry.specs.Rows.{groupAt}
+use Rattle.meter_memory.specs.Rows.{groupAt}
 use Rattle.image_format.specs.Image.{groupWords, groupsWords}
 use Rattle.image_format.specs.Write.{groupSize}
 use Rattle.image_size.proofs.Laws.{group-length, groups-length-step, groups-step, groups-none}

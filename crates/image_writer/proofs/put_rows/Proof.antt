@@ -8,7 +8,7 @@ use lib.Seq.{sets}
 use Rattle.geometry.specs.Geometry.{stride}
 use native.Mathlib.Nat.{sub-zero, zero-mul}
 use Rattle.image_format.specs.Image.{rowWords, rowsWords}
-use Rattle.geometry.proofs.Lists.{one-row}
+use Rattle.geometry.proofs.Widths.{one-row}
 use Rattle.geometry.proofs.Widths.{stride-is}
 use Rattle.geometry.proofs.Widths.{wide}
 use Rattle.image_size.proofs.Laws.{rows-step, rows-length-step, rows-none}

@@ -7,7 +7,7 @@ use Rattle.group.specs.declared.Group.{Group}
 use Rattle.group.specs.declared.Outcome.{Outcome}
 use Rattle.group.specs.Group.{added}
 use Rattle.group.proofs.Laws.{added-kept}
-use Rattle.geometry.specs.Rows.{withGroup}
+use Rattle.meter_memory.specs.Rows.{withGroup}
 use Rattle.geometry.proofs.Widths.{slot-in, group-in}
 use Rattle.meter_row.specs.Row.{addedIn}
 use Rattle.meter_row.proofs.update_one.Statement.{statement}

@@ -1,12 +1,12 @@
 use Rattle.meter_row.specs.Row.{levelStatus, groupLevel, widestStatus, widestRow}
-use Rattle.geometry.proofs.Lists.{status-start, level-start, status-turn, status-end, level-turn, level-end}
+use Rattle.meter_memory.proofs.Lists.{status-start, level-start, status-turn, status-end, level-turn, level-end}
 use mathlib.Core.Path.{_≡_, refl, sym, ap, _∙_}
 use Prim.Native.Nat.{_-_, _/_, _≤_, max}
 use native.Mathlib.Omega.{arith}
 use borrow.Author.Needs.{needs}
 use Rattle.geometry.proofs.Widths.{wide, group-in}
 use Rattle.answer.specs.Order.{earlier, earliest}
-use Rattle.geometry.specs.Rows.{groupAt, ofGroups, largest}
+use Rattle.meter_memory.specs.Rows.{groupAt, ofGroups, largest}
 use Rattle.answer.specs.declared.Answer.{Answer}
 use Rattle.meter_row.proofs.widest_row.Statement.{statement}
 use Rattle.meter_row.proofs.widest_row.Tie as tie

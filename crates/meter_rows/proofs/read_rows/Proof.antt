@@ -8,9 +8,9 @@ use Rattle.group.specs.declared.Reading.{Reading}
 use Rattle.group.specs.Group.{read}
 use Rattle.geometry.specs.Geometry.{stride}
 use Rattle.answer.specs.Order.{earlier, earliest}
-use Rattle.geometry.specs.Rows.{ofRows, groupAt, least, leastOr}
-use Rattle.geometry.specs.Rows.{rowOf}
-use Rattle.geometry.proofs.Lists.{one-row}
+use Rattle.meter_memory.specs.Rows.{ofRows, groupAt, least, leastOr}
+use Rattle.meter_memory.specs.Rows.{rowOf}
+use Rattle.geometry.proofs.Widths.{one-row}
 use Rattle.meter_rows.proofs.Gather.{status-turn, status-end, least-start, least-turn, least-end, statuses-start}
 use Rattle.meter_rows.specs.Slots.{slotStatus, slotValue}
 use Rattle.meter_rows.proofs.read_rows.Statement.{statement}

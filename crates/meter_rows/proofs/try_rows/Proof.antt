@@ -11,13 +11,14 @@ use Rattle.group.specs.Group.{added}
 use Rattle.group.proofs.Laws.{added-kept}
 use Rattle.geometry.specs.Geometry.{stride}
 use Rattle.answer.specs.Order.{earlier, earliest}
-use Rattle.geometry.specs.Rows.{groupAt, ofRows}
+use Rattle.meter_memory.specs.Rows.{groupAt, ofRows}
 use Rattle.answer.proofs.Order.{earlier-none}
 use Rattle.geometry.proofs.Widths.{slot-in, group-in}
 use Rattle.meter_row.specs.Row.{addedIn}
-use Rattle.geometry.specs.Rows.{rowOf}
+use Rattle.meter_memory.specs.Rows.{rowOf}
 use Rattle.meter_rows.proofs.Gather.{status-turn, status-end, rows-start}
-use Rattle.geometry.proofs.Lists.{one-row, filled-more}
+use Rattle.geometry.proofs.Widths.{one-row}
+use Rattle.meter_memory.proofs.Lists.{filled-more}
 use Rattle.meter_rows.specs.Slots.{addedStatus, Added}
 use Rattle.meter_rows.proofs.try_rows.Statement.{statement}
 use Rattle.meter_rows.proofs.try_rows.Tie as tie

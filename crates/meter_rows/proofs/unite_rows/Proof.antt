@@ -4,11 +4,12 @@ use native.Mathlib.Omega.{arith}
 use borrow.Author.Needs.{needs}
 use mathlib.Core.List.{List}
 use lib.ListN.{length}
-use Rattle.geometry.specs.Rows.{mapRows}
+use Rattle.meter_memory.specs.Rows.{mapRows}
 use Rattle.meter_union.specs.Union.{uniteRow}
-use Rattle.geometry.specs.Rows.{rowOf}
+use Rattle.meter_memory.specs.Rows.{rowOf}
 use Rattle.meter_union.specs.Union.{sourceAdded}
-use Rattle.geometry.proofs.Lists.{one-row, lent, rowsFrom, rows-start, rows-turn, rows-end}
+use Rattle.geometry.proofs.Widths.{one-row}
+use Rattle.meter_memory.proofs.Lists.{lent, rowsFrom, rows-start, rows-turn, rows-end}
 use Rattle.meter_rows.proofs.unite_rows.Statement.{statement}
 use Rattle.meter_rows.proofs.unite_rows.Tie as tie
 

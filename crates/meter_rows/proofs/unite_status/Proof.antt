@@ -4,13 +4,13 @@ use native.Mathlib.Omega.{arith}
 use borrow.Author.Needs.{needs}
 use mathlib.Core.List.{List}
 use Rattle.geometry.specs.Geometry.{stride}
-use Rattle.geometry.specs.Rows.{rowOf}
+use Rattle.meter_memory.specs.Rows.{rowOf}
 use Rattle.meter_union.specs.Union.{sourceStatus}
 use lib.ListN.{drop}
 use Rattle.answer.specs.Order.{earlier, earliest}
-use Rattle.geometry.specs.Rows.{ofRows}
+use Rattle.meter_memory.specs.Rows.{ofRows}
 use Rattle.meter_union.specs.Union.{uniteStatus}
-use Rattle.geometry.proofs.Lists.{one-row}
+use Rattle.geometry.proofs.Widths.{one-row}
 use Rattle.meter_rows.proofs.Gather.{status-turn, status-end, rows-start}
 use Rattle.meter_rows.proofs.unite_status.Statement.{statement}
 use Rattle.meter_rows.proofs.unite_status.Tie as tie

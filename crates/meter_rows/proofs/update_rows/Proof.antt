@@ -6,8 +6,9 @@ use borrow.Author.Needs.{needs}
 use borrow.Author.Tests.{ne-eqb}
 use lib.ListN.{length}
 use Rattle.group.specs.declared.Group.{Group}
-use Rattle.geometry.specs.Rows.{mapRows}
-use Rattle.geometry.proofs.Lists.{one-row, lent, rowsFrom, rows-start, rows-turn, rows-end}
+use Rattle.meter_memory.specs.Rows.{mapRows}
+use Rattle.geometry.proofs.Widths.{one-row}
+use Rattle.meter_memory.proofs.Lists.{lent, rowsFrom, rows-start, rows-turn, rows-end}
 use Rattle.meter_rows.proofs.Stored.{groupStored, stored-added}
 use Rattle.meter_rows.proofs.update_rows.Statement.{statement}
 use Rattle.meter_rows.proofs.update_rows.Tie as tie

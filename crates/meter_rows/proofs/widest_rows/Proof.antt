@@ -3,13 +3,13 @@ use Prim.Native.Nat.{_-_, _*_, _≤_, max}
 use native.Mathlib.Omega.{arith}
 use borrow.Author.Needs.{needs}
 use Rattle.geometry.specs.Geometry.{stride}
-use Rattle.geometry.specs.Rows.{rowOf}
+use Rattle.meter_memory.specs.Rows.{rowOf}
 use Rattle.meter_row.specs.Row.{rowStatus, rowLevel}
 use lib.ListN.{drop}
 use Rattle.answer.specs.Order.{earlier, earliest}
-use Rattle.geometry.specs.Rows.{ofRows, largest}
+use Rattle.meter_memory.specs.Rows.{ofRows, largest}
 use Rattle.meter_row.specs.Row.{widestStatus, widestRow}
-use Rattle.geometry.proofs.Lists.{one-row}
+use Rattle.geometry.proofs.Widths.{one-row}
 use Rattle.meter_rows.proofs.Gather.{status-turn, status-end, level-turn, level-end, rows-start, levels-start}
 use Rattle.meter_rows.proofs.widest_rows.Statement.{statement}
 use Rattle.meter_rows.proofs.widest_rows.Tie as tie

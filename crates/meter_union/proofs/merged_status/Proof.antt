@@ -1,14 +1,14 @@
 use Rattle.group.specs.declared.Group.{Group}
 use Rattle.group.specs.Group.{unitedGroups}
 use Rattle.meter_union.specs.Union.{unitedAt, unitedStatus, uniteStatus}
-use Rattle.geometry.proofs.Lists.{status-start, status-turn, status-end}
+use Rattle.meter_memory.proofs.Lists.{status-start, status-turn, status-end}
 use mathlib.Core.Path.{_≡_, refl, sym, ap₂, _∙_}
 use Prim.Native.Nat.{_-_, _/_, _≤_}
 use native.Mathlib.Omega.{arith}
 use borrow.Author.Needs.{needs}
 use Rattle.geometry.proofs.Widths.{group-in}
 use Rattle.answer.specs.Order.{earlier, earliest}
-use Rattle.geometry.specs.Rows.{ofGroups}
+use Rattle.meter_memory.specs.Rows.{ofGroups}
 use Rattle.meter_union.proofs.merged_status.Statement.{statement}
 use Rattle.meter_union.proofs.merged_status.Tie as tie
 

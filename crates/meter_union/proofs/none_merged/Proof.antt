@@ -1,7 +1,7 @@
 use mathlib.Core.Path.{sym, ap, _∙_}
 use Prim.Native.Nat.{_+_}
 use Rattle.group_side.specs.Side.{anyMerged}
-use Rattle.geometry.proofs.Lists.{lent}
+use Rattle.meter_memory.proofs.Lists.{lent}
 use Rattle.meter_union.specs.Runs.{noneMerged}
 use borrow.Author.Needs.{needs}
 use Rattle.meter_union.proofs.none_merged.Statement.{statement}

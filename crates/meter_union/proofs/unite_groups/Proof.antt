@@ -5,7 +5,7 @@ use borrow.Author.Needs.{needs}
 use lib.ListN.{length}
 use Rattle.group.specs.declared.Outcome.{Outcome}
 use Rattle.meter_union.specs.Union.{uniteGroups}
-use Rattle.geometry.specs.Rows.{withGroup}
+use Rattle.meter_memory.specs.Rows.{withGroup}
 use Rattle.meter_union.proofs.Unions.{unite-turn, unite-end}
 use Rattle.meter_union.proofs.unite_groups.Statement.{statement}
 use Rattle.meter_union.proofs.unite_groups.Tie as tie

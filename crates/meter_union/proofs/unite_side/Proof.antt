@@ -1,7 +1,7 @@
 use mathlib.Core.Path.{refl, sym, _∙_}
 use Prim.Native.Nat.{_*_}
 use borrow.Author.Tests.{not-true, not-false}
-use Rattle.geometry.proofs.Lists.{lent}
+use Rattle.meter_memory.proofs.Lists.{lent}
 use Rattle.meter_union.specs.Runs.{sideBySide}
 use Rattle.meter_union.proofs.Runs.{side-back}
 use borrow.Author.Needs.{needs}

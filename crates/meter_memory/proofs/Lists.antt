@@ -2,18 +2,14 @@
 use mathlib.Core.Path.{_≡_, sym, ap, _∙_}
 use mathlib.Core.List.{List, [], _∷_, _++_, append-nil, append-assoc}
 use Prim.Native.Nat.{ℕ, zero, suc, _+_, _-_, _*_, _≤_, _<_, max}
-use native.Mathlib.Nat.{max-zero, zero-mul, suc-mul, add-mul, one-mul, sub-zero, mul-le-mul-right}
+use native.Mathlib.Nat.{max-zero, zero-mul, add-mul, one-mul, sub-zero}
 use native.Mathlib.Numerals.{sub-one}
 use native.Mathlib.Decide.{decLt}
 use native.Mathlib.Omega.{arith}
 use borrow.Rule.Slice.PartMut.{putMid, post-is}
-use lib.Bits.{bitOr, or-add-and, and-le-l, and-le-r}
 use lib.ListN.{length, getD, take, drop, set, length-append, length-drop, take-append-drop, drop-of-length-le}
 use lib.Seq.{length-take-le, take-at, drop-at, drop-drop, getD-drop, getD-set-same, getD-set-other}
-pub use Rattle.laws.proofs.Lists.{bytes-drop, bytes-take}
-use Rattle.geometry.specs.Geometry.{size, RowIn, RowsIn}
-use Rattle.geometry.specs.Geometry as geometry
-use Rattle.geometry.specs.Rows.{mapRows, ofRows, ofGroups, largest}
+use Rattle.meter_memory.specs.Rows.{mapRows, ofRows, ofGroups, largest}
 use Rattle.answer.specs.Order.{earlier, earliest}
 use Rattle.answer.proofs.Order.{earlier-none, earlier-assoc}
 
@@ -26,25 +22,6 @@ pub same-from : (k : ℕ) (xs ys : List ℕ) → drop k xs ≡ drop k ys → get
 same-from k xs ys e =
     let z : k + 0 ≡ k = omega arith in
     rw z at (sym (getD-drop k xs 0 0) ∙ ap (λ (l : List ℕ). getD l 0 0) e ∙ getD-drop k ys 0 0)
-
--- what holds from place a on, held at one place more
-pub range-more : (P : ℕ → Type 0) (a k : ℕ) → ((i : ℕ) → a ≤ i → i < k → P i) → P k → (i : ℕ) → a ≤ i → i < k + 1 → P i
-range-more P a k h p i l m = elim (decLt i k) [
-  | yes n ↦ h i l n
-  | no n ↦ let z : i ≡ k = omega arith in rw z p
-]
-
--- bytes taken together that are 0
-pub or-none : (a b : ℕ) → bitOr a b ≡ 0 → (a ≡ 0) × (b ≡ 0)
-or-none a b e = (omega (arith, or-add-and a b, and-le-r a b), omega (arith, or-add-and a b, and-le-l a b))
-
--- row r of d rows lies in the memory
-pub row-in : (r d stride : ℕ) {n : ℕ} → r < d → d * stride ≤ n → r * stride + stride ≤ n
-row-in r d stride h k = omega (arith, mul-le-mul-right {m = suc r} {n = d} stride h, suc-mul r stride)
-
-pub one-row : (d w r : ℕ) {bytes : ℕ} → RowsIn d w bytes → r < d → RowIn w r bytes
-unfolding size
-one-row d w r p h = (p .0, omega (arith, p .1), row-in r d (geometry.stride w) h (omega (arith, p .2)))
 
 pub row-length : (r stride : ℕ) (memory : List ℕ) → r * stride + stride ≤ length memory → length (take stride (drop (r * stride) memory)) ≡ stride
 row-length r stride memory h = length-take-le stride (drop (r * stride) memory) (rw (length-drop (r * stride) memory) (omega arith))

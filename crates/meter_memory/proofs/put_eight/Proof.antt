@@ -5,8 +5,8 @@ use borrow.Author.Needs.{needs}
 use native.Mathlib.Numerals.{add-one}
 use lib.ListN.{length, length-set}
 use lib.Seq.{paste, paste-zero, paste-suc, take-all}
-use Rattle.geometry.proofs.put_eight.Statement.{statement}
-use Rattle.geometry.proofs.put_eight.Tie as tie
+use Rattle.meter_memory.proofs.put_eight.Statement.{statement}
+use Rattle.meter_memory.proofs.put_eight.Tie as tie
 
 abbrev Inv-loop : tie.InvT-loop
 Inv-loop s₀ at x i₀ s i = (i ≤ 8) × (s ≡ paste s₀ at x i) × (length s ≡ length s₀)

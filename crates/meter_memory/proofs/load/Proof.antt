@@ -1,7 +1,7 @@
-use Rattle.geometry.specs.Rows.{groupAt}
+use Rattle.meter_memory.specs.Rows.{groupAt}
 use borrow.Author.Needs.{needs}
-use Rattle.geometry.proofs.load.Statement.{statement}
-use Rattle.geometry.proofs.load.Tie as tie
+use Rattle.meter_memory.proofs.load.Statement.{statement}
+use Rattle.meter_memory.proofs.load.Tie as tie
 
 mul-eight : tie.Need-mul-eight
 mul-eight c = search needs

@@ -9,7 +9,7 @@ use lib.Arith.{lt-of-le-ne}
 use lib.ListN.{length, getD, take, drop, set, length-append, length-drop, length-set, take-append-drop}
 use lib.Seq.{length-take-le, take-at, drop-at, take-append-le, drop-append-le, drop-drop, getD-set-same, getD-set-other, set-getD, getD-drop, take-set-le, drop-set-add}
 use Rattle.group.specs.declared.Group.{Group}
-use Rattle.geometry.specs.Rows.{mapRows, groupAt, withGroup}
+use Rattle.meter_memory.specs.Rows.{mapRows, groupAt, withGroup}
 
 module _ (f : ℕ → List ℕ → List ℕ) (stride : ℕ) (keeps : (r : ℕ) (row : List ℕ) → length row ≡ stride → length (f r row) ≡ stride) where
   -- each row of the result is what f makes of that row

@@ -6,9 +6,9 @@ use mathlib.Core.List.{_++_}
 use lib.ListN.{take, drop, length-drop, replicate}
 use lib.Seq.{getD-drop}
 use Rattle.laws.proofs.Lists.{copy-more}
-use Rattle.geometry.proofs.Lists.{copy-all}
-use Rattle.geometry.proofs.eight.Statement.{statement}
-use Rattle.geometry.proofs.eight.Tie as tie
+use Rattle.meter_memory.proofs.Lists.{copy-all}
+use Rattle.meter_memory.proofs.eight.Statement.{statement}
+use Rattle.meter_memory.proofs.eight.Tie as tie
 
 abbrev Inv-loop : tie.InvT-loop
 Inv-loop s at x₀ i₀ x i = (i ≤ 8) × (x ≡ take i (drop at s) ++ drop i x₀)

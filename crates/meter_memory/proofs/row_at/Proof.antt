@@ -2,11 +2,11 @@ use mathlib.Core.Path.{_≡_, ap, _∙_}
 use Prim.Native.Nat.{_+_, _-_, _*_, _≤_}
 use native.Mathlib.Omega.{arith}
 use lib.ListN.{length, take, drop}
 use Rattle.geometry.specs.Geometry.{stride}
-use Rattle.geometry.proofs.Lists.{lent, row-length}
+use Rattle.meter_memory.proofs.Lists.{lent, row-length}
 use borrow.Author.Needs.{needs}
-use Rattle.geometry.proofs.row_at.Statement.{statement}
-use Rattle.geometry.proofs.row_at.Tie as tie
+use Rattle.meter_memory.proofs.row_at.Statement.{statement}
+use Rattle.meter_memory.proofs.row_at.Tie as tie
 
 row-end : (c : tie.After-stride) → c .before .before .args .r * c .stride .result + c .stride .result ≤ length (c .before .before .args .memory .now)
 row-end c = rw (c .stride .ensures) (c .before .before .pre .2)

@@ -1,7 +1,7 @@
-use Rattle.geometry.specs.Rows.{withGroup}
+use Rattle.meter_memory.specs.Rows.{withGroup}
 use borrow.Author.Needs.{needs}
-use Rattle.geometry.proofs.store.Statement.{statement}
-use Rattle.geometry.proofs.store.Tie as tie
+use Rattle.meter_memory.proofs.store.Statement.{statement}
+use Rattle.meter_memory.proofs.store.Tie as tie
 
 mul-put-eight : tie.Need-mul-put-eight
 mul-put-eight c = search needs
