@@ -93,7 +93,7 @@ pub fn run(given: &[OsString]) -> Outcome {
         }
     }
     let meter = image::load(file)?;
-    let mut progress = Progress::beside_lines("ask");
+    let mut progress = Progress::new("ask");
     if let Some(keys) = keys {
         let content = files::read_all(keys, &mut progress)?;
         for (n, line) in text::lines(&content).enumerate() {

@@ -141,7 +141,7 @@ fn from_capture(capture: &OsStr, arguments: &Arguments) -> Outcome {
     let mut skipped = Skipped::default();
     loop {
         let (at, length) = capture.position();
-        progress.at(at, length, "bytes");
+        progress.now_at(at, length, "bytes");
         let Some(packet) = capture.next()? else { break };
         skipped.packets += 1;
         match packet::key(packet.bytes, by) {

@@ -239,7 +239,7 @@ impl Progress {
         }
     }
 
-    /// The same for longer pieces of work: looks at the clock every time.
+    /// The same for longer pieces of work and for input that may be slow: looks at the clock every time.
     pub fn now_at(&mut self, done: u64, all: Option<u64>, unit: &str) {
         let Some(due) = self.due else { return };
         let now = Instant::now();
@@ -255,6 +255,7 @@ impl Progress {
         // nothing depends on it
         let _ = write!(io::stderr(), "\r\x1b[Kmeter {}: {done} {unit}{share}", self.what);
     }
+
     /// Makes room for a line.
     pub fn hide(&mut self) {
         if self.shown {

@@ -157,6 +157,7 @@ impl Run {
             // What is refused for want of a word has changed nothing, and is tried again once there are more.
             match answer {
                 Err(r) if r.reason == Reason::Word && r.place == n as u64 && !self.words.over => {
+                    self.progress.now_at(self.records, None, "records");
                     self.words.more(&mut self.output)?;
                     n = self.words.copy(&mut room);
                 }

@@ -2,11 +2,13 @@
 
 mod common;
 
-use common::{bad, good, meter, random_feed, text, to_bytes, Folder, Rng, METER};
+use common::{bad, good, head, meter, random_feed, record, terminal, text, to_bytes, Folder, Rng, METER};
 use std::fs;
 use std::io::{Read, Write};
 use std::os::unix::fs::{symlink, PermissionsExt};
 use std::process::{Command, Stdio};
+use std::thread;
+use std::time::Duration;
 
 const SUBCOMMANDS: [&str; 8] = ["feed", "run", "image", "unite", "ask", "new", "size", "chart"];
 
@@ -137,4 +139,92 @@ fn closed_pipes() {
         }
         assert!(!message.contains("panicked"), "{message}");
     }
+}
+
+/// What the command prints where the reader is while its input comes in pieces, a pause after each.
+fn said(arguments: &[&str], pieces: &[Vec<u8>], pause: Duration, output: [Stdio; 2], mut reader: impl Read + Send) -> String {
+    let [stdout, stderr] = output;
+    let mut child = Command::new(METER)
+        .args(arguments)
+        .stdin(Stdio::piped())
+        .stdout(stdout)
+        .stderr(stderr)
+        .spawn()
+        .unwrap();
+    let mut input = child.stdin.take().unwrap();
+    let mut all = Vec::new();
+    thread::scope(|scope| {
+        // a terminal that its last writer has left ends in an error
+        scope.spawn(|| reader.read_to_end(&mut all));
+        for piece in pieces {
+            input.write_all(piece).unwrap();
+            thread::sleep(pause);
+        }
+        drop(input);
+        assert!(child.wait().unwrap().success(), "{arguments:?}");
+    });
+    text(&all)
+}
+
+/// Progress is said on a terminal only, and only if the work takes more than a second; then its line is cleared. What prints its own
+/// lines as it goes says none beside them, but `ask` prints only at its end.
+#[test]
+fn progress() {
+    let folder = Folder::new();
+    let image = folder.path("image");
+    good(&["new", "1", "32", "-o", &image], b"");
+    let update = record(b"A", Some(300));
+    let feed = [vec![head(1, 32)], update.clone(), update, vec![0x4000_0009]].map(|words| to_bytes(&words));
+    let packet = [to_bytes(&[0, 0, 34, 60]), vec![0; 12], vec![8, 0, 0x45], vec![0; 19]].concat();
+    let capture = [
+        to_bytes(&[0xa1b2_c3d4, 0x0002_0004, 0, 0, 65_535, 1]),
+        packet.clone(),
+        packet.clone(),
+        packet,
+    ];
+    let lines = |lines: [&str; 4]| lines.map(|line| line.as_bytes().to_vec());
+    let text = lines(["meter 1 32\n", "update A 1\n", "ask A\n", "end\n"]);
+    let keys = lines(["A\n", "B\n", "C\n", "D\n"]);
+    // arguments, input, the unit of progress, and lines if the terminal has them too
+    let cases: [(&[&str], _, _, _); 4] = [
+        (&["feed"], text, " bytes read", ""),
+        (&["feed", "--from-pcap", "-", "--key", "src"], capture, " bytes", ""),
+        (&["run"], feed, " records", ""),
+        (
+            &["ask", &image, "--keys", "-"],
+            keys,
+            " bytes read",
+            "A 0\r\nB 0\r\nC 0\r\nD 0\r\n",
+        ),
+    ];
+    thread::scope(|scope| {
+        for (arguments, pieces, unit, lines) in &cases {
+            let (at_once, slowly) = (Duration::ZERO, Duration::from_millis(600));
+            let on_terminal = move |pause| {
+                let (program, reader) = terminal()?;
+                let stdout = match *lines {
+                    "" => Stdio::null(),
+                    _ => program.try_clone().unwrap().into(),
+                };
+                Some(said(arguments, pieces, pause, [stdout, program.into()], reader))
+            };
+            scope.spawn(move || match on_terminal(slowly) {
+                Some(said) => {
+                    let start = format!("\r\x1b[Kmeter {}: ", arguments[0]);
+                    assert!(said.starts_with(&start) && said.contains(unit), "{said:?}");
+                    assert_eq!(said.rsplit("\r\x1b[K").next(), Some(*lines), "{said:?}");
+                }
+                None => println!("SKIPPED: no terminal, so progress was not seen"),
+            });
+            scope.spawn(move || {
+                if let Some(said) = on_terminal(at_once) {
+                    assert_eq!(said, *lines);
+                }
+            });
+            scope.spawn(move || {
+                let (reader, writer) = std::io::pipe().unwrap();
+                assert_eq!(said(arguments, pieces, slowly, [Stdio::null(), writer.into()], reader), "");
+            });
+        }
+    });
 }

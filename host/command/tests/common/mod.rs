@@ -1,8 +1,11 @@
 //! What the tests share: the command, folders of their own, numbers at random.
 #![allow(dead_code)]
 
-use std::fs;
+use std::ffi::{c_char, CStr};
+use std::fs::{self, File, OpenOptions};
 use std::io::Write;
+use std::os::fd::FromRawFd;
+use std::os::unix::fs::OpenOptionsExt;
 use std::path::{Path, PathBuf};
 use std::process::{Command, Output, Stdio};
 use std::sync::atomic::{AtomicUsize, Ordering};
@@ -74,6 +77,33 @@ pub fn bad(arguments: &[&str], input: &[u8], status: i32) -> String {
         "{arguments:?}: {message}"
     );
     message
+}
+
+/// A terminal: its end for a program, and the end at which is read what the program prints there. None where the system has none.
+pub fn terminal() -> Option<(File, File)> {
+    extern "C" {
+        fn posix_openpt(flags: i32) -> i32;
+        fn grantpt(fd: i32) -> i32;
+        fn unlockpt(fd: i32) -> i32;
+        fn ptsname_r(fd: i32, name: *mut c_char, length: usize) -> i32;
+    }
+    const READ_AND_WRITE: i32 = 0o2;
+    const NOT_OURS: i32 = 0o400;
+    let mut name: [c_char; 64] = [0; 64];
+    let (reader, name) = unsafe {
+        let fd = posix_openpt(READ_AND_WRITE | NOT_OURS);
+        if fd < 0 {
+            return None;
+        }
+        let reader = File::from_raw_fd(fd);
+        let made = (grantpt(fd), unlockpt(fd), ptsname_r(fd, name.as_mut_ptr(), name.len()));
+        assert_eq!(made, (0, 0, 0), "a terminal");
+        (reader, CStr::from_ptr(name.as_ptr()))
+    };
+    let mut open = OpenOptions::new();
+    let program = open.read(true).write(true).custom_flags(NOT_OURS);
+    let program = program.open(name.to_str().expect("its name")).expect("its other end");
+    Some((program, reader))
 }
 
 /// A folder that goes when the test is over.
