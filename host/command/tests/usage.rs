@@ -199,7 +199,7 @@ fn progress() {
     ];
     thread::scope(|scope| {
         for (arguments, pieces, unit, lines) in &cases {
-            let (at_once, slowly) = (Duration::ZERO, Duration::from_millis(600));
+            let (at_once, slowly) = (Duration::ZERO, Duration::from_secs(1));
             let on_terminal = move |pause| {
                 let (program, reader) = terminal()?;
                 let stdout = match *lines {
