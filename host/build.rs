@@ -11,7 +11,8 @@ fn main() {
     println!("cargo:rerun-if-env-changed=METER_LIB_DIR");
     println!("cargo:rerun-if-changed={}", library.display());
     if !library.exists() {
-        panic!("libmeter_c.a is not there: run `rt staticlib meter_c` at the root of the repository");
+        println!("cargo::error=libmeter_c.a is not there: run `rt staticlib meter_c` at the root of the repository");
+        return;
     }
     println!("cargo:rustc-link-search=native={}", folder.display());
     println!("cargo:rustc-link-lib=static=meter_c");
