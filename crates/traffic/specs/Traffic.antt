@@ -6,7 +6,7 @@ use mathlib.Core.List.{List, [], _∷_}
 use lib.Dec.{leb, eqb}
 use Rattle.group_block.specs.Block.{cap}
 use Rattle.hash.specs.Hash.{basis}
-use Rattle.meter_keys.specs.Keys.{keySlot}
+use Rattle.meter_keys.specs.Keys.{keySlot, sameKey}
 
 -- The traffic, which document 01's book holds, is a list of pairs of key and amount.
 pub record Pair : Type 0 where
@@ -17,12 +17,6 @@ pub record Pair : Type 0 where
 unfoldable pub amountSum : (List ℕ → Bool) → List Pair → ℕ
 amountSum test [] = 0
 amountSum test (p ∷ ps) = cond (test (p .key)) (p .amount) 0 + amountSum test ps
-
-unfoldable pub sameKey : List ℕ → List ℕ → Bool
-sameKey [] [] = true
-sameKey [] (b ∷ bs) = false
-sameKey (b ∷ bs) [] = false
-sameKey (b ∷ bs) (c ∷ cs) = eqb b c && sameKey bs cs
 
 -- a key's total: the sum of its pairs' amounts
 unfoldable pub keyTotal : List ℕ → List Pair → ℕ

@@ -6,7 +6,7 @@ use Prim.Native.Nat.{ℕ, zero, suc, _-_, _^_}
 use lib.Dec.{eqb, ltb}
 use lib.ListN.{replicate}
 use Rattle.answer.specs.Answers.{accepted}
-use Rattle.group_bytes.specs.Bytes as bytes
+use Rattle.little_endian.specs.Bytes as bytes
 use Rattle.group_layout.specs.Layout as layouts
 use Rattle.group_layout.specs.Code as codes
 use Rattle.group_block.specs.Block as blocks
@@ -95,7 +95,7 @@ a & b = (a, b)
 
 pub computed : Computed
 unfolding numbers allRefuse allFit twice calls.recordPair calls.traffic calls.after calls.behind calls.run calls.done calls.bytesOf
-    calls.wordsOf calls.Faithful calls.Listed calls.LeftBy totals.amountSum totals.sameKey totals.keyTotal totals.blockOf totals.blockTotal
+    calls.wordsOf calls.Faithful calls.Listed calls.LeftBy totals.amountSum keys.sameKey totals.keyTotal totals.blockOf totals.blockTotal
     totals.anyBelow totals.overflows totals.levelUpTo totals.level totals.lower totals.leastBelow totals.landingTotal totals.upper
     layouts.bit layouts.ones layouts.marks layouts.layout layouts.valid layouts.widestIn codes.layouts codes.mergedCode codes.code
     codes.uncode blocks.cap blocks.shape blocks.numberOf blocks.fill blocks.block blocks.counterAt blocks.total changes.change sums.sumTotal

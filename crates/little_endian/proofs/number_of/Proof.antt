@@ -1,11 +1,11 @@
 use mathlib.Core.Path.{_≡_}
 use native.Mathlib.Omega.{arith}
 use lib.ListN.{length}
-use Rattle.group_bytes.specs.Bytes.{number}
-use Rattle.group_bytes.proofs.Bytes.{elements, number-eight}
+use Rattle.little_endian.specs.Bytes.{number}
+use Rattle.little_endian.proofs.Bytes.{elements, number-eight}
 use borrow.Author.Needs.{needs}
-use Rattle.group_bytes.proofs.number_of.Statement.{statement}
-use Rattle.group_bytes.proofs.number_of.Tie as tie
+use Rattle.little_endian.proofs.number_of.Statement.{statement}
+use Rattle.little_endian.proofs.number_of.Tie as tie
 
 array-read-eight : tie.Need-array-read-eight
 array-read-eight c = search needs

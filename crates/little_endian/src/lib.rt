@@ -1,7 +1,7 @@
 // Eight bytes and the number that they make.
 ghost use mathlib.Core.Path.{_≡_};
 ghost use Prim.Native.Nat.{_+_, _*_};
-ghost use Rattle.group_bytes.specs.Bytes.{number, bytes};
+ghost use Rattle.little_endian.specs.Bytes.{number, bytes};
 
 // Eight bytes as one number, the first least significant.
 fn eight(a: u8, b: u8, c: u8, d: u8, e: u8, f: u8, g: u8, h: u8) -> u64

@@ -8,7 +8,7 @@ use lib.ListN.{length, getD, drop, drop-of-length-le}
 use lib.Pow.{pow-add}
 use lib.Seq.{drop-cons}
 use Rattle.laws.proofs.Lists.{Bytes}
-use Rattle.group_bytes.specs.Bytes.{number, bytes}
+use Rattle.little_endian.specs.Bytes.{number, bytes}
 
 pow-byte : (n : ℕ) → 2 ^ (8 * suc n) ≡ 256 * 2 ^ (8 * n)
 pow-byte n = ap (λ (k : ℕ). 2 ^ k) (omega arith) ∙ pow-add 2 8 (8 * n)

@@ -1,8 +1,8 @@
 use native.Mathlib.Nat.{div-div-eq-div-mul}
-use Rattle.group_bytes.specs.Bytes.{bytes}
+use Rattle.little_endian.specs.Bytes.{bytes}
 use borrow.Author.Needs.{needs}
-use Rattle.group_bytes.proofs.bytes_of.Statement.{statement}
-use Rattle.group_bytes.proofs.bytes_of.Tie as tie
+use Rattle.little_endian.proofs.bytes_of.Statement.{statement}
+use Rattle.little_endian.proofs.bytes_of.Tie as tie
 
 cast-t3 : tie.Need-cast-t3
 cast-t3 c = search needs

@@ -1,0 +1,1 @@
+// A watch list of heavy keys beside a meter.
