@@ -1,6 +1,6 @@
 -- Keys that are the same.
 use mathlib.Core.Path.{_≡_, refl, sym, ap₂}
-use mathlib.Core.Bool.{true, true≢false, and-eq-true-iff}
+use mathlib.Core.Bool.{Bool, true, false, true≢false, and-eq-true-iff}
 use mathlib.Core.List.{List, [], _∷_}
 use Prim.Native.Nat.{ℕ}
 use borrow.Author.Tests.{eqb-true, eq-eqb}
@@ -22,3 +22,10 @@ pub key-same : (key : List ℕ) → sameKey key key ≡ true
 unfolding sameKey
 key-same [] = refl
 key-same (b ∷ bs) = rw (eq-eqb b b refl, key-same bs)
+
+pub key-differs : (key other : List ℕ) → (key ≡ other → ⊥) → sameKey key other ≡ false
+key-differs key other h = go (sameKey key other) refl
+  where
+    go : (b : Bool) → sameKey key other ≡ b → b ≡ false
+    go true e = absurd (h (same-key key other e))
+    go false e = refl
