@@ -10,22 +10,21 @@ ghost use Rattle.watch_list.specs.List.{joining, noted, takenOff};
 ghost use Rattle.watch_list.specs.Layout.{listSize, encode, decode};
 ghost use Rattle.watch_list.specs.Parts.{Holds, KeyLong, put, closed, putPlace, closedPlace};
 
+// A byte, and 0 past the last.
+fn or_zero(bytes: &[u8], i: usize) -> u8
+    ensures { λ r. ⌜ r ≡ getD (now (bytes .entry)) i 0 ⌝ }
+{
+    if i < bytes.len() { bytes[i] } else { 0 }
+}
+
 // A key and zeros after it, 64 bytes in all, put from `at` on.
 fn put_key(list: &mut [u8], at: usize, key: &[u8])
     requires { ⌜ at + 64 ≤ length (now list) ⌝ ∗ ⌜ length (now key) ≤ 64 ⌝ }
     ensures { λ _. ⌜ now (list .exit) ≡ put (now (list .entry)) at (now (key .entry) ++ replicate (64 - length (now (key .entry))) 0) ⌝ }
 {
     for i in 0..64 {
-        list[at + i] = padded(key, i);
+        list[at + i] = or_zero(key, i);
     }
-}
-
-// Byte i of a key with zeros after it.
-fn padded(key: &[u8], i: usize) -> u8
-    requires { ⌜ (i < 64) × (length (now key) ≤ 64) ⌝ }
-    ensures { λ r. ⌜ r ≡ getD (now (key .entry) ++ replicate (64 - length (now (key .entry))) 0) i 0 ⌝ }
-{
-    if i < key.len() { key[i] } else { 0 }
 }
 
 // A key joins at place n.
@@ -40,14 +39,11 @@ fn join(list: &mut [u8], n: usize, key: &[u8], estimate: u64)
 
 // A part of `width` bytes taken out: what follows it up to `end` moves up, and zeros come before `end`.
 fn close(list: &mut [u8], at: usize, end: usize, width: usize)
-    requires { ⌜ at + width ≤ end ⌝ ∗ ⌜ end ≤ length (now list) ⌝ }
+    requires { ⌜ at + width ≤ end ⌝ ∗ ⌜ 1 ≤ width ⌝ ∗ ⌜ end ≤ length (now list) ⌝ }
     ensures { λ _. ⌜ now (list .exit) ≡ closed (now (list .entry)) at end width ⌝ }
 {
-    for i in at..end - width {
-        list[i] = list[i + width];
-    }
-    for i in end - width..end {
-        list[i] = 0;
+    for i in at..end {
+        list[i] = or_zero(&list[0..end], i + width);
     }
 }
 
