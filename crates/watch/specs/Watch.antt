@@ -54,5 +54,8 @@ watched d w memory list key amount threshold =
     }
 
 -- Taking a key off.
+unfoldable pub badRemoval : List ℕ → List ℕ → ℕ
+badRemoval list key = firstOf (badList list ∷ badKey (length key) ∷ brokenList list ∷ [])
+
 unfoldable pub removed : List ℕ → List ℕ → Done
-removed list key = finish (firstOf (badList list ∷ badKey (length key) ∷ brokenList list ∷ [])) 0 (encode (takenOff key (decode list))) list
+removed list key = finish (badRemoval list key) 0 (encode (takenOff key (decode list))) list

@@ -38,10 +38,11 @@ done c =
     let a = s .args in
     let start = k .before .start .ensures in
     let status = u .ensures .0 ∙ status-by-key (a .d) (a .w) (a .memory .now) (a .key .now) (k .key-slots .result) start (k .key-slots .ensures .0) (a .amount) in
-    let after = added-by-key (a .d) (a .w) (a .memory .now) (a .key .now) (k .key-slots .result) start (k .key-slots .ensures .0) (a .amount) in
-    (rows-status (a .d) (a .w) (a .memory .now) (a .key .now) (a .amount) (u .result) (s .pre) status,
-    updated-rows (a .d) (a .w) (a .memory .now) (a .key .now) (a .amount) (s .pre) (u .result) (u .last .1 .1 .0) status
-    (u .ensures .1 ∙ ap (λ (m : List ℕ). cond (eqb (u .result) 0) m (a .memory .now)) after) .1)
+    let after = added-by-key (a .d) (a .w) (a .memory .now) (a .key .now) (k .key-slots .result) start (k .key-slots .ensures .0) (a .amount) in (
+      rows-status (a .d) (a .w) (a .memory .now) (a .key .now) (a .amount) (u .result) (s .pre) status,
+      updated-rows (a .d) (a .w) (a .memory .now) (a .key .now) (a .amount) (s .pre) (u .result) (u .last .1 .1 .0) status
+          (u .ensures .1 ∙ ap (λ (m : List ℕ). cond (eqb (u .result) 0) m (a .memory .now)) after) .1,
+    )
 
 answer-of-requires : tie.Need-answer-of-requires
 answer-of-requires c κs = search needs
@@ -85,9 +86,10 @@ returns-2 c = let r = c .before .before in
     let status = found .ensures .0 ∙ read-status-by-key (a .d) (a .w) after (a .key .now) (k .key-slots .result) start (k .key-slots .ensures .0) in
     let value = found .ensures .1 ∙ read-value-by-key (a .d) (a .w) after (a .key .now) (k .key-slots .result) start (k .key-slots .ensures .0) in
     let same = call-same (a .d) (a .w) (a .memory .now) after (a .key .now) (omega arith) (s .pre) in
-    let is = c .before .answer-of2 .ensures ∙ ap₂ answerOf status value ∙ estimated-good (a .d) (a .w) after (a .key .now) same in
-    (ap (λ (x : Answer). x .status) (c .answer-of3 .ensures) ∙ status-is 0 (c .before .answer-of2 .result .value) ∙ sym (e .if1 .left) ∙ d .0,
-    (d .1, λ z. ap (λ (x : Answer). x .value) (c .answer-of3 .ensures) ∙ value-is (c .before .answer-of2 .result .value) ∙ ap (λ (x : Answer). x .value) is))
+    let is = c .before .answer-of2 .ensures ∙ ap₂ answerOf status value ∙ estimated-good (a .d) (a .w) after (a .key .now) same in (
+      ap (λ (x : Answer). x .status) (c .answer-of3 .ensures) ∙ status-is 0 (c .before .answer-of2 .result .value) ∙ sym (e .if1 .left) ∙ d .0,
+      (d .1, λ z. ap (λ (x : Answer). x .value) (c .answer-of3 .ensures) ∙ value-is (c .before .answer-of2 .result .value) ∙ ap (λ (x : Answer). x .value) is),
+    )
 
 pub update-spec : {M : Type 1} → statement M
 update-spec =

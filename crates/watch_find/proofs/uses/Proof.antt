@@ -35,9 +35,12 @@ loop-less c = search needs
 loop-again : tie.Need-loop-again Inv-loop μ-loop
 loop-again c = let ls = c .before .before .before .before .before .args .lengths .now in
     let l = c .before .before .before .loop in
-    let n = getD ls (l .k) 0 in
-    (omega arith, l .inv .1, omega (arith, c .used .ensures .1),
-    omega (arith, l .inv .3, c .used .ensures .0 1, sum-turn usedAt 1 ls (l .k) (omega arith), use-any 1 n (drop (l .k + 1) ls)))
+    let n = getD ls (l .k) 0 in (
+      omega arith,
+      l .inv .1,
+      omega (arith, c .used .ensures .1),
+      omega (arith, l .inv .3, c .used .ensures .0 1, sum-turn usedAt 1 ls (l .k) (omega arith), use-any 1 n (drop (l .k + 1) ls)),
+    )
 
 returns : tie.Need-returns Inv-loop μ-loop
 returns c = let ls = c .before .before .before .args .lengths .now in
