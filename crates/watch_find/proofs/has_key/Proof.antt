@@ -18,7 +18,7 @@ wide-requires c κs = search needs
 returns : tie.Need-returns
 returns c = let s = c .before .before .before .before .before in
     let a = s .args in
-    sym (other-length (a .list .now) (s .pre .0) (a .k) (s .pre .1 .0 .0) (a .key .now) (s .pre .1 .0 .1) (λ e. c .if1 .taken (c .before .wide .ensures ∙ e)))
+    sym (other-length (a .list .now) (s .pre .0) (a .k) (s .pre .1 .0 .0) (a .key .now) (s .pre .1 .0 .1) (λ e. omega (arith, c .before .wide .ensures)))
 
 mul-start : tie.Need-mul-start
 mul-start c = search needs
@@ -45,7 +45,7 @@ returns-2 : tie.Need-returns-2
 returns-2 c = let e = c .before .before .before in
     let s = e .before .before .before .before .before in
     let a = s .args in
-    sym (other-last (a .list .now) (s .pre .0) (a .k) (s .pre .1 .0 .0) (a .key .now) (sym (e .before .wide .ensures) ∙ e .if1 .left) (s .pre .1 .1 .0) (s .pre .1 .1 .1) (c .if2 .taken))
+    sym (other-last (a .list .now) (s .pre .0) (a .k) (s .pre .1 .0 .0) (a .key .now) (omega (arith, e .before .wide .ensures)) (s .pre .1 .1 .0) (s .pre .1 .1 .1) (c .if2 .taken))
 
 sub-same-bytes : tie.Need-sub-same-bytes
 sub-same-bytes c = search needs
@@ -65,7 +65,7 @@ returns-3 c = let e = c .before .before .before .before .before in
     let a = s .args in
     let n = length (a .key .now) in
     let part : 65 + a .k * 64 + n - (65 + a .k * 64) ≡ n = omega arith in
-    let is = key-of-place (a .list .now) (s .pre .0) (a .k) (s .pre .1 .0 .0) (sym (e .before .wide .ensures) ∙ e .if1 .left) (s .pre .1 .1 .1) in
+    let is = key-of-place (a .list .now) (s .pre .0) (a .k) (s .pre .1 .0 .0) (omega (arith, e .before .wide .ensures)) (s .pre .1 .1 .1) in
     c .same-bytes .ensures ∙ ap (λ (x : List ℕ). sameKey x (a .key .now)) (ap (λ (m : ℕ). take m (drop (65 + a .k * 64) (a .list .now))) part ∙ sym is)
 
 pub has-key-spec : {M : Type 1} → statement M
