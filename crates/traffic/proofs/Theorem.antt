@@ -23,8 +23,10 @@ use Rattle.feed.specs.declared.Recorded.the-variants as case
 use Rattle.feed.specs.Answers.{recordAnswer}
 use Rattle.feed_records.specs.Words.{updateKind, keyOf, amountOf}
 use Rattle.feed.specs.Record.{recorded}
+use Rattle.watch.specs.Watch.{watched}
+use Rattle.watch.proofs.Laws.{watched-accepted}
 use Rattle.traffic.specs.Traffic.{Pair}
-use Rattle.traffic.specs.Calls.{Call, clear, update, estimate, widest, unite, write, read, feed, Source, from, raw, Calls, none, then, recordPair, traffic, after, behind, run, done, bytesOf, wordsOf, Faithful, Listed, LeftBy}
+use Rattle.traffic.specs.Calls.{Call, clear, update, estimate, widest, unite, write, read, feed, watch, Source, from, raw, Calls, none, then, recordPair, traffic, after, behind, run, done, bytesOf, wordsOf, Faithful, Listed, LeftBy}
 use Rattle.traffic.proofs.Holds.{Holds}
 use Rattle.traffic.specs.Claim.{Between, Claim, Demand3}
 use Rattle.traffic.proofs.Answers.{good-shape, good-key, widest-holds, estimate-holds, estimate-between}
@@ -67,6 +69,14 @@ module _ (d w : ℕ) (vd : validDepth d ≡ true) (vw : validWidth w ≡ true) w
       (λ due q e. rw due h)
       (λ due q e. rw due h)
 
+  -- an update through a watch list
+  watch-holds : (memory : List ℕ) (ps : List Pair) → Holds d w memory ps → (list key : List ℕ) (amount threshold : ℕ)
+      → watched d w memory list key amount threshold .answer .status ≡ 0
+      → Holds d w (watched d w memory list key amount threshold .memory) (record { key = key; amount = amount } ∷ ps)
+  watch-holds memory ps h list key amount threshold e =
+      let a = watched-accepted d w memory list key amount threshold e in
+      rw (a .memory-is) (update-holds d w vw vd memory ps h key amount (a .update))
+
   mutual
     unfolding run done bytesOf wordsOf traffic after behind Faithful Listed LeftBy
 
@@ -89,6 +99,7 @@ module _ (d w : ℕ) (vd : validDepth d ≡ true) (vw : validWidth w ≡ true) w
     accepted-holds (write words) memory ps h l e = h
     accepted-holds (read source) memory ps h l e = read-holds source memory (h .long) l
     accepted-holds (feed before words) memory ps h l e = record-holds memory ps h before words e
+    accepted-holds (watch list key amount threshold) memory ps h l e = watch-holds memory ps h list key amount threshold (eqb-true _ _ e)
 
     source-holds : (source : Source) → LeftBy d w source → Holds d w (bytesOf d w source) (behind source)
     source-holds (from calls) l = holds calls l
