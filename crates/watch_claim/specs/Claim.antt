@@ -1,0 +1,85 @@
+-- What is claimed of every list of updates through a watch list and takings off. Document 02, request 1. Cited by theorems.
+use Prim.Native.Nat.{ℕ, _-_, _≤_}
+use mathlib.Core.Path.{_≡_}
+use mathlib.Core.Bool.{Bool, true, false, cond, not, _&&_, _||_}
+use mathlib.Core.List.{List, [], _∷_, _++_, map}
+use lib.Dec.{leb, eqb}
+use lib.ListN.{length, replicate}
+use Rattle.geometry.specs.Geometry.{validDepth, validWidth}
+use Rattle.meter.specs.Meter.{estimated}
+use Rattle.meter_keys.specs.Keys.{sameKey}
+use Rattle.watch_list.specs.List.{Entry, Watch, listed, joining, clearPlace}
+use Rattle.watch_list.specs.Layout.{encode}
+use Rattle.watch_claim.specs.Steps.{Step, update, remove, keyOf, after, markAfter, entriesAfter, listedAfter, accepted, Told, total}
+
+-- Whether a key was taken off since its last accepted update. A taking off counts if it was accepted and the key was listed: one that
+-- finds no such key leaves the claim as it was.
+unfoldable pub takenOffSince : ℕ → ℕ → List ℕ → List Step → Bool
+takenOffSince d w key [] = false
+takenOffSince d w key (update d′ w′ k amount threshold ∷ steps) =
+    cond (accepted d w steps (update d′ w′ k amount threshold) && sameKey k key) false (takenOffSince d w key steps)
+takenOffSince d w key (remove k ∷ steps) = accepted d w steps (remove k) && (sameKey k key && listedAfter d w steps key) || takenOffSince d w key steps
+
+-- the estimate of a listed key
+unfoldable pub estimateIn : List ℕ → List Entry → ℕ
+estimateIn key [] = 0
+estimateIn key (e ∷ es) = cond (sameKey (e .key) key) (e .estimate) (estimateIn key es)
+
+-- no key is there twice
+unfoldable pub Once : List Entry → Type 0
+Once [] = Unit
+Once (e ∷ es) = (listed (e .key) es ≡ false) × Once es
+
+-- The keys in the order they joined, by what is listed before and after each step alone: a key that is listed after a step and was not
+-- before comes last, and one that is not listed after it is struck out.
+unfoldable pub passing : (List ℕ → Bool) → List (List ℕ) → List (List ℕ)
+passing test [] = []
+passing test (key ∷ keys) = cond (test key) (key ∷ passing test keys) (passing test keys)
+
+unfoldable pub joins : ℕ → ℕ → List Step → Step → Bool
+joins d w steps step = listedAfter d w (step ∷ steps) (keyOf step) && not (listedAfter d w steps (keyOf step))
+
+unfoldable pub joinOrder : ℕ → ℕ → List Step → List (List ℕ)
+joinOrder d w [] = []
+joinOrder d w (step ∷ steps) = passing (listedAfter d w (step ∷ steps)) (joinOrder d w steps) ++ cond (joins d w steps step) (keyOf step ∷ []) []
+
+-- Whether a step finds the list full: an accepted update of a key that is not listed, which leaves an estimate at or above the threshold
+-- while 64 are listed.
+unfoldable pub overfull : ℕ → ℕ → ℕ → List Step → Step → Bool
+overfull d w threshold steps (update d′ w′ key amount threshold′) =
+    accepted d w steps (update d′ w′ key amount threshold′)
+    && (not (listedAfter d w steps key)
+    && (leb threshold (estimated d w (after d w (update d′ w′ key amount threshold′ ∷ steps) .memory) key .value)
+    && eqb (length (entriesAfter d w steps)) 64))
+overfull d w threshold steps (remove key) = false
+
+-- the mark is off until a step finds the list full, and on from then
+unfoldable pub foundFull : ℕ → ℕ → ℕ → List Step → ℕ
+foundFull d w threshold [] = 0
+foundFull d w threshold (step ∷ steps) = cond (overfull d w threshold steps step) 1 (foundFull d w threshold steps)
+
+-- the list of a mark and of these entries' keys and estimates whose unused bytes are all 0
+unfoldable pub tidy : ℕ → List Entry → Watch
+tidy mark entries =
+    record { mark = mark; entries = map (λ e. joining (e .key) (e .estimate)) entries; free = replicate (64 - length entries) clearPlace }
+
+-- what holds after a list of steps
+pub record Claim (d w threshold : ℕ) (steps : List Step) : Type 0 where
+  -- while the mark is off, a key whose accepted total reached the threshold is listed, unless taken off since its last accepted update
+  pub heavy : markAfter d w steps ≡ 0 → (key : List ℕ) → threshold ≤ total d w steps key → takenOffSince d w key steps ≡ false
+      → listedAfter d w steps key ≡ true
+  -- a listed key's estimate is at least its accepted total
+  pub estimates : (key : List ℕ) → listedAfter d w steps key ≡ true → total d w steps key ≤ estimateIn key (entriesAfter d w steps)
+  pub once : Once (entriesAfter d w steps)
+  -- entries are in the order they joined
+  pub order : map (λ (e : Entry). e .key) (entriesAfter d w steps) ≡ joinOrder d w steps
+  -- unused bytes are 0
+  pub bytes : after d w steps .list ≡ encode (tidy (markAfter d w steps) (entriesAfter d w steps))
+  pub mark : markAfter d w steps ≡ foundFull d w threshold steps
+
+-- The claim, of every depth and width, every threshold but 0, which is refused, and every such list.
+abbrev pub WatchClaim : Type 0
+WatchClaim =
+    (d w threshold : ℕ) → validDepth d ≡ true → validWidth w ≡ true → 1 ≤ threshold
+    → (steps : List Step) → Told d w threshold steps
+    → Claim d w threshold steps
