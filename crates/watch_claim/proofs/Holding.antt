@@ -64,7 +64,7 @@ good-tidy watch good =
 pub noted-cases : (key : List ℕ) (v t : ℕ) (watch : Watch) (P : Watch → Type 0)
     → (listed key (watch .entries) ≡ true → P (record { mark = watch .mark; entries = renewed key v (watch .entries); free = watch .free }))
     → (listed key (watch .entries) ≡ false → leb t v ≡ true → (place : Entry) (places : List Entry) → watch .free ≡ place ∷ places
-        → P (record { mark = watch .mark; entries = watch .entries ++ (joining key v ∷ []); free = places }))
+    → P (record { mark = watch .mark; entries = watch .entries ++ (joining key v ∷ []); free = places }))
     → (listed key (watch .entries) ≡ false → leb t v ≡ true → watch .free ≡ [] → P (record { mark = 1; entries = watch .entries; free = [] }))
     → (listed key (watch .entries) ≡ false → leb t v ≡ false → P watch)
     → P (noted key v t watch)

@@ -5,7 +5,7 @@ use mathlib.Core.List.{List, [], _∷_, _++_, map, append-assoc, append-nil}
 use Prim.Native.Nat.{ℕ, zero, suc, _+_, _-_, _*_, _^_, _≤_, _<_}
 use native.Mathlib.Nat.{suc-mul}
 use native.Mathlib.Omega.{arith}
-use lib.ListN.{length, getD, take, drop, length-append}
+use lib.ListN.{length, getD, take, drop, replicate, length-append}
 use lib.Seq.{drop-cons, drop-drop, take-at, drop-at, getD-at, getD-drop, getD-take, take-all}
 use Rattle.little_endian.specs.Bytes.{number, bytes}
 use Rattle.little_endian.proofs.Bytes.{number-bytes, bytes-length}
@@ -13,7 +13,7 @@ use Rattle.laws.proofs.Tests.{both-ways}
 use Rattle.meter_keys.specs.Keys.{sameKey}
 use Rattle.meter_keys.proofs.Same.{same-key, key-same}
 use Rattle.watch_list.specs.List.{Entry, Watch, listed, renewed, without, clearPlace}
-use Rattle.watch_list.specs.Layout.{keysAt, estimatesAt, lengthField, keyField, estimateField, column, laidOut, encode, keyBytes, placeAt, placesFrom, inUse, decode}
+use Rattle.watch_list.specs.Layout.{keysAt, estimatesAt, listSize, lengthField, keyField, estimateField, column, laidOut, encode, keyBytes, placeAt, placesFrom, inUse, decode}
 
 -- something of each of some entries
 unfoldable pub Each : (Entry → Type 0) → List Entry → Type 0
@@ -282,3 +282,11 @@ decode-encode watch good =
     let back : placesFrom (laidOut (watch .mark) ps) (64 - length es) (length es) ≡ fs
     = places-are (watch .mark) ps (good .fit) full (64 - length es) (length es) (omega (arith, good .places)) ∙ rw (drop-at es fs (length es) refl) (take-all (64 - length es) fs (omega (arith, good .places))) in
     rw (used, front, back, mark-at (watch .mark) ps (good .fit) full)
+
+-- a cleared list: its bytes are all 0
+abbrev pub cleared : Watch
+cleared = record { mark = 0; entries = []; free = replicate 64 clearPlace }
+
+pub cleared-bytes : encode cleared ≡ replicate listSize 0
+unfolding encode laidOut column lengthField keyField estimateField bytes
+cleared-bytes = refl
