@@ -11,7 +11,7 @@ use Rattle.meter_keys.specs.Keys.{sameKey}
 use Rattle.meter_keys.proofs.Same.{same-key, key-same}
 use Rattle.watch_list.specs.List.{Entry, Watch, listed, joining, joined, renewed, noted, without, clearPlace, takenOff}
 use Rattle.watch_list.proofs.Lists.{Each, each-append, each-is, Fits, WellFormed, keysOf, listed-append, listed-keys, renewed-keys, renewed-each, without-each, without-length, without-other}
-use Rattle.watch_claim.specs.Claim.{estimateIn, Once, passing, tidy}
+use Rattle.watch_claim.specs.Claim.{estimateIn, Once, passing, held, tidy}
 use Rattle.watch_claim.proofs.Entries.{neither, renewed-once, joined-once, without-once, without-same, renewed-same, renewed-other, joined-same, joined-other, without-estimate, all-pass, without-passes}
 
 -- an entry whose unused bytes are 0
@@ -44,20 +44,24 @@ good-formed watch good =
     }
 
 -- it is made of its mark, its keys and its estimates
-used-are : (es : List Entry) → Each Used es → map (λ e. joining (e .key) (e .estimate)) es ≡ es
-unfolding Each
+used-are : (es : List Entry) → Each Used es → map (λ p. joining (p .0) (p .1)) (held es) ≡ es
+unfolding Each held
 used-are [] h = refl
 used-are (e ∷ es) h = rw (used-are es (h .1), ← h .0 .zeros)
+
+held-length : (es : List Entry) → length (held es) ≡ length es
+unfolding held
+held-length es = length-map es (λ (e : Entry). (e .key, e .estimate))
 
 clear-are : (fs : List Entry) → Each (λ e. e ≡ clearPlace) fs → replicate (length fs) clearPlace ≡ fs
 unfolding Each
 clear-are [] h = refl
 clear-are (f ∷ fs) h = rw (h .0, clear-are fs (h .1))
 
-pub good-tidy : (watch : Watch) → Good watch → watch ≡ tidy (watch .mark) (watch .entries)
+pub good-tidy : (watch : Watch) → Good watch → watch ≡ tidy (watch .mark) (held (watch .entries))
 unfolding tidy
 good-tidy watch good =
-    let n : 64 - length (watch .entries) ≡ length (watch .free) = omega (arith, good .places) in
+    let n : 64 - length (held (watch .entries)) ≡ length (watch .free) = omega (arith, held-length (watch .entries), good .places) in
     rw (used-are (watch .entries) (good .used), n, clear-are (watch .free) (good .clear))
 
 -- what `noted` can leave

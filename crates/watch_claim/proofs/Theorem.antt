@@ -20,7 +20,7 @@ use Rattle.traffic.specs.Traffic.{amountSum, keyTotal, lower}
 use Rattle.traffic.specs.Calls.{Calls, none, then, watch, traffic, after as afterCall, run, done, Faithful, Listed}
 use Rattle.traffic.proofs.Theorem.{answers, estimate-small}
 use Rattle.watch_claim.specs.Steps.{Step, update, remove, keyOf, State, status, stepped, after, markAfter, entriesAfter, listedAfter, accepted, ToldThese, Told, calls, total}
-use Rattle.watch_claim.specs.Claim.{takenOffSince, estimateIn, Once, joins, joinOrder, overfull, foundFull, tidy, Claim, WatchClaim}
+use Rattle.watch_claim.specs.Claim.{takenOffSince, estimateIn, Once, joins, joinOrder, overfull, foundFull, held, tidy, Claim, WatchClaim, EqualBytes}
 use Rattle.watch_claim.proofs.Holding.{Good, good-formed, good-tidy, Holding, orderNow, refused-holding, noted-holding, off-holding}
 
 -- a key that line 4 does not apply to
@@ -236,3 +236,6 @@ module _ (d w t : ℕ) (vd : validDepth d ≡ true) (vw : validWidth w ≡ true)
 -- Request 1's claim.
 pub watch-claim : WatchClaim
 watch-claim = claim
+
+pub equal-bytes : EqualBytes
+equal-bytes d w t d′ w′ t′ steps others c c′ m p = c .bytes ∙ rw (m, p) (sym (c′ .bytes))

@@ -58,10 +58,12 @@ unfoldable pub foundFull : ℕ → ℕ → ℕ → List Step → ℕ
 foundFull d w threshold [] = 0
 foundFull d w threshold (step ∷ steps) = cond (overfull d w threshold steps step) 1 (foundFull d w threshold steps)
 
--- the list of a mark and of these entries' keys and estimates whose unused bytes are all 0
-unfoldable pub tidy : ℕ → List Entry → Watch
-tidy mark entries =
-    record { mark = mark; entries = map (λ e. joining (e .key) (e .estimate)) entries; free = replicate (64 - length entries) clearPlace }
+-- the keys and estimates of entries, and the list of a mark, keys and estimates whose unused bytes are all 0
+unfoldable pub held : List Entry → List (List ℕ × ℕ)
+held entries = map (λ e. (e .key, e .estimate)) entries
+
+unfoldable pub tidy : ℕ → List (List ℕ × ℕ) → Watch
+tidy mark pairs = record { mark = mark; entries = map (λ p. joining (p .0) (p .1)) pairs; free = replicate (64 - length pairs) clearPlace }
 
 -- what holds after a list of steps
 pub record Claim (d w threshold : ℕ) (steps : List Step) : Type 0 where
@@ -74,7 +76,7 @@ pub record Claim (d w threshold : ℕ) (steps : List Step) : Type 0 where
   -- entries are in the order they joined
   pub order : map (λ (e : Entry). e .key) (entriesAfter d w steps) ≡ joinOrder d w steps
   -- unused bytes are 0
-  pub bytes : after d w steps .list ≡ encode (tidy (markAfter d w steps) (entriesAfter d w steps))
+  pub bytes : after d w steps .list ≡ encode (tidy (markAfter d w steps) (held (entriesAfter d w steps)))
   pub mark : markAfter d w steps ≡ foundFull d w threshold steps
 
 -- The claim, of every depth and width, every threshold but 0, which is refused, and every such list.
@@ -83,3 +85,11 @@ WatchClaim =
     (d w threshold : ℕ) → validDepth d ≡ true → validWidth w ≡ true → 1 ≤ threshold
     → (steps : List Step) → Told d w threshold steps
     → Claim d w threshold steps
+
+-- What follows: lists with the same mark, keys and estimates are the same bytes, whatever steps left them.
+abbrev pub EqualBytes : Type 0
+EqualBytes =
+    (d w threshold d′ w′ threshold′ : ℕ) (steps others : List Step) → Claim d w threshold steps → Claim d′ w′ threshold′ others
+    → markAfter d w steps ≡ markAfter d′ w′ others
+    → held (entriesAfter d w steps) ≡ held (entriesAfter d′ w′ others)
+    → after d w steps .list ≡ after d′ w′ others .list
