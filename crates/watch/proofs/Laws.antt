@@ -4,15 +4,18 @@ use mathlib.Core.Bool.{Bool, true, false, cond, true≢false}
 use mathlib.Core.List.{List, [], _∷_}
 use Prim.Native.Nat.{ℕ, zero, suc, _≤_}
 use native.Mathlib.Omega.{arith}
-use borrow.Author.Tests.{eqb-true, leb-true, ne-eqb}
+use native.Mathlib.Decide.{ℕ-discrete}
+use borrow.Author.Tests.{eqb-true, eq-eqb, leb-true, le-leb}
 use lib.Dec.{eqb, leb}
 use lib.ListN.{length}
+use Rattle.answer.specs.declared.Answer.{Answer}
 use Rattle.answer.specs.Answers.{answerOf, leaves, finish}
-use Rattle.answer.specs.Order.{firstOf, earliest}
+use Rattle.answer.specs.Order.{firstOf, earlier, earliest}
 use Rattle.answer.proofs.Answers.{status-is, left-after, finish-kept}
-use Rattle.answer.proofs.Order.{first-one, none-first, none-earlier}
+use Rattle.answer.proofs.Order.{first-one, first-stop, first-skip, none-first, earlier-none, none-earlier}
 use Rattle.geometry.specs.Checks.{badShape, badKey}
-use Rattle.meter.specs.Meter.{updated}
+use Rattle.meter.specs.Meter.{badCall, updated}
+use Rattle.meter.proofs.Calls.{call-shape-bad, call-key, updated-bad}
 use Rattle.watch_list.specs.List.{takenOff}
 use Rattle.watch_list.specs.Layout.{listSize, sound, encode, decode}
 use Rattle.watch.specs.Watch.{badList, brokenList, badThreshold, badLines, watchStatus, notedIn, watched, removed}
@@ -73,6 +76,32 @@ module _ (d w : ℕ) (memory list key : List ℕ) (amount threshold : ℕ) where
   unfolding watched leaves
   watched-kept e = rw (rw (status-is (watchStatus d w memory list key amount threshold) 0) at e) (refl, refl)
 
+-- With a list that is not broken and a threshold of 1 or more, the number is that of the meter's update.
+module _ (d w : ℕ) (memory list key : List ℕ) (amount threshold : ℕ) (long : length list ≡ listSize) (good : sound list ≡ true) where
+  lines-are : badLines d w memory list key ≡ badCall d w memory key
+  unfolding badLines
+  lines-are =
+      rw (eq-eqb (length list) listSize long)
+      (elim (ℕ-discrete (badShape d w (length memory)) 0) [
+        | yes z ↦ first-skip (badShape d w (length memory)) (0 ∷ badKey (length key) ∷ []) z
+            ∙ first-skip 0 (badKey (length key) ∷ []) refl
+            ∙ first-one (badKey (length key))
+            ∙ call-key d w memory key z
+        | no n ↦ first-stop (badShape d w (length memory)) (0 ∷ badKey (length key) ∷ []) n ∙ call-shape-bad d w memory key n
+      ])
+
+  pub watched-status : 1 ≤ threshold → watched d w memory list key amount threshold .answer .status ≡ updated d w memory key amount .answer .status
+  unfolding watched watchStatus earliest earlier
+  watched-status p =
+      let u = updated d w memory key amount .answer .status in
+      let bad = badCall d w memory key in
+      status-is (watchStatus d w memory list key amount threshold) 0
+      ∙ rw (lines-are, good, le-leb 1 threshold p, earlier-none u)
+      (elim (ℕ-discrete bad 0) [
+        | yes z ↦ first-skip bad (u ∷ []) z ∙ first-one u
+        | no n ↦ first-stop bad (u ∷ []) n ∙ sym (status-is bad 0) ∙ ap (λ (x : Answer). x .status) (updated-bad d w memory key amount bad refl n .0)
+      ])
+
 -- taking off
 module _ (list key : List ℕ) where
   pub record Removed : Type 0 where
@@ -98,3 +127,13 @@ module _ (list key : List ℕ) where
   pub removed-kept : eqb (removed list key .answer .status) 0 ≡ false → removed list key .memory ≡ list
   unfolding removed
   removed-kept e = finish-kept _ _ _ _ e
+
+  pub removed-status : length list ≡ listSize → sound list ≡ true → removed list key .answer .status ≡ badKey (length key)
+  unfolding removed finish firstOf
+  removed-status long good =
+      status-is (firstOf (badList list ∷ badKey (length key) ∷ brokenList list ∷ [])) 0
+      ∙ rw (eq-eqb (length list) listSize long, good) (last (badKey (length key)))
+    where
+      last : (s : ℕ) → firstOf (0 ∷ s ∷ 0 ∷ []) ≡ s
+      last zero = refl
+      last (suc s) = refl

@@ -12,8 +12,8 @@ use Rattle.geometry.specs.Checks.{badKey}
 use Rattle.meter.specs.Meter.{updated, estimated}
 use Rattle.meter_keys.specs.Keys.{sameKey}
 use Rattle.watch_list.specs.List.{Entry, Watch, listed, noted, clearPlace, takenOff}
-use Rattle.watch_list.specs.Layout.{listSize, encode, decode}
-use Rattle.watch_list.proofs.Lists.{Each, same-sym, decode-encode, cleared, cleared-bytes}
+use Rattle.watch_list.specs.Layout.{listSize, sound, encode, decode}
+use Rattle.watch_list.proofs.Lists.{Each, same-sym, decode-encode, encode-long, encode-sound, cleared, cleared-bytes}
 use Rattle.watch.specs.Watch.{notedIn, watched, removed}
 use Rattle.watch.proofs.Laws.{Accepted, watched-accepted, watched-kept, removed-accepted, removed-kept}
 use Rattle.traffic.specs.Traffic.{amountSum, keyTotal, lower}
@@ -220,6 +220,14 @@ module _ (d w t : ℕ) (vd : validDepth d ≡ true) (vw : validWidth w ≡ true)
       go true e i = removes steps key i e
       go false e i = refused steps (remove key) e i
 
+  -- the list that steps leave is not broken
+  unbroken : (steps : List Step) → Told d w t steps → (length (after d w steps .list) ≡ listSize) × (sound (after d w steps .list) ≡ true)
+  unbroken steps told =
+      let i = invariant steps told in
+      let watch = decode (after d w steps .list) in
+      let good = good-formed watch (i .holding .good) in
+      rw (i .list-is) (encode-long watch good, encode-sound watch good (i .holding .good .mark-le))
+
   claim : (steps : List Step) → Told d w t steps → Claim d w t steps
   claim steps told =
       let i = invariant steps told in
@@ -231,6 +239,7 @@ module _ (d w t : ℕ) (vd : validDepth d ≡ true) (vw : validWidth w ≡ true)
         order = h .order-is;
         bytes = i .list-is ∙ ap encode (good-tidy (decode (after d w steps .list)) (h .good));
         mark = h .mark-is;
+        unbroken = unbroken steps told;
       }
 
 -- Request 1's claim.

@@ -9,7 +9,7 @@ use Rattle.geometry.specs.Geometry.{validDepth, validWidth}
 use Rattle.meter.specs.Meter.{estimated}
 use Rattle.meter_keys.specs.Keys.{sameKey}
 use Rattle.watch_list.specs.List.{Entry, Watch, listed, joining, clearPlace}
-use Rattle.watch_list.specs.Layout.{encode}
+use Rattle.watch_list.specs.Layout.{listSize, sound, encode}
 use Rattle.watch_claim.specs.Steps.{Step, update, remove, keyOf, after, markAfter, entriesAfter, listedAfter, accepted, Told, total}
 
 -- Whether a key was taken off since its last accepted update. A taking off counts if it was accepted and the key was listed: one that
@@ -78,6 +78,8 @@ pub record Claim (d w threshold : ℕ) (steps : List Step) : Type 0 where
   -- unused bytes are 0
   pub bytes : after d w steps .list ≡ encode (tidy (markAfter d w steps) (held (entriesAfter d w steps)))
   pub mark : markAfter d w steps ≡ foundFull d w threshold steps
+  -- the list is not broken: no call is refused for it
+  pub unbroken : (length (after d w steps .list) ≡ listSize) × (sound (after d w steps .list) ≡ true)
 
 -- The claim, of every depth and width, every threshold but 0, which is refused, and every such list.
 abbrev pub WatchClaim : Type 0

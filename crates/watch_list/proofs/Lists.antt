@@ -5,6 +5,7 @@ use mathlib.Core.List.{List, [], _∷_, _++_, map, append-assoc, append-nil}
 use Prim.Native.Nat.{ℕ, zero, suc, _+_, _-_, _*_, _^_, _≤_, _<_}
 use native.Mathlib.Nat.{suc-mul}
 use native.Mathlib.Omega.{arith}
+use borrow.Author.Tests.{le-leb}
 use lib.ListN.{length, getD, take, drop, replicate, length-append}
 use lib.Seq.{drop-cons, drop-drop, take-at, drop-at, getD-at, getD-drop, getD-take, take-all}
 use Rattle.little_endian.specs.Bytes.{number, bytes}
@@ -13,7 +14,7 @@ use Rattle.laws.proofs.Tests.{both-ways}
 use Rattle.meter_keys.specs.Keys.{sameKey}
 use Rattle.meter_keys.proofs.Same.{same-key, key-same}
 use Rattle.watch_list.specs.List.{Entry, Watch, listed, renewed, without, clearPlace}
-use Rattle.watch_list.specs.Layout.{keysAt, estimatesAt, listSize, lengthField, keyField, estimateField, column, laidOut, encode, keyBytes, placeAt, placesFrom, inUse, decode}
+use Rattle.watch_list.specs.Layout.{keysAt, estimatesAt, listSize, lengthField, keyField, estimateField, column, laidOut, encode, keyBytes, placeAt, placesFrom, inUse, decode, allZero, soundLengths, sound}
 
 -- something of each of some entries
 unfoldable pub Each : (Entry → Type 0) → List Entry → Type 0
@@ -282,6 +283,51 @@ decode-encode watch good =
     let back : placesFrom (laidOut (watch .mark) ps) (64 - length es) (length es) ≡ fs
     = places-are (watch .mark) ps (good .fit) full (64 - length es) (length es) (omega (arith, good .places)) ∙ rw (drop-at es fs (length es) refl) (take-all (64 - length es) fs (omega (arith, good .places))) in
     rw (used, front, back, mark-at (watch .mark) ps (good .fit) full)
+
+-- Its bytes are as many as a list has, and no call finds them broken.
+module _ (watch : Watch) (good : WellFormed watch) where
+  abbrev places : List Entry
+  places = watch .entries ++ watch .free
+
+  places-full : length places ≡ 64
+  places-full = length-append (watch .entries) (watch .free) ∙ good .places
+
+  pub encode-long : length (encode watch) ≡ listSize
+  unfolding encode laidOut
+  encode-long =
+      let a = column lengthField places in
+      let b = column keyField places in
+      let c = column estimateField places in
+      let p = column-length lengthField 1 places (lengths-wide places (good .fit)) in
+      let q = column-length keyField 64 places (keys-wide places (good .fit)) in
+      let r = column-length estimateField 8 places (estimates-wide places (good .fit)) in
+      rw (length-append (a ++ (watch .mark ∷ []) ++ b) c, length-append (a ++ (watch .mark ∷ [])) b, length-append a (watch .mark ∷ []), p, q, r, places-full)
+
+  unused-sound : (fs : List Entry) → Each (λ e. length (e .key) ≡ 0) fs → allZero (column lengthField fs) ≡ true
+  unfolding column lengthField Each allZero
+  unused-sound [] h = refl
+  unused-sound (f ∷ fs) h = rw (h .0) (unused-sound fs (h .1))
+
+  lengths-sound : (es fs : List Entry) → Each (λ e. 1 ≤ length (e .key)) es → Each Fits (es ++ fs) → Each (λ e. length (e .key) ≡ 0) fs
+      → soundLengths (column lengthField (es ++ fs)) ≡ true
+  unfolding column lengthField Each soundLengths
+  lengths-sound [] [] h k l = refl
+  lengths-sound [] (f ∷ fs) h k l = rw (l .0) (unused-sound fs (l .1))
+  lengths-sound (e ∷ es) fs h k l = go (length (e .key)) (h .0) (omega (arith, k .0 .wide)) (lengths-sound es fs (h .1) (k .1) l)
+    where
+      go : (n : ℕ) → 1 ≤ n → n ≤ 64 → soundLengths (column lengthField (es ++ fs)) ≡ true → soundLengths (n ∷ column lengthField (es ++ fs)) ≡ true
+      go zero p q i = absurd (omega arith)
+      go (suc n) p q i = rw (le-leb (suc n) 64 q) i
+
+  pub encode-sound : watch .mark ≤ 1 → sound (encode watch) ≡ true
+  unfolding encode sound
+  encode-sound m =
+      rw (
+        lengths-are (watch .mark) places (good .fit) places-full,
+        mark-at (watch .mark) places (good .fit) places-full,
+        lengths-sound (watch .entries) (watch .free) (good .used) (good .fit) (good .unused),
+      )
+      (le-leb (watch .mark) 1 m)
 
 -- a cleared list: its bytes are all 0
 abbrev pub cleared : Watch
