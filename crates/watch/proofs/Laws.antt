@@ -1,6 +1,6 @@
 -- What the calls of a watch list leave, by whether they are accepted.
 use mathlib.Core.Path.{_≡_, refl, sym, ap, _∙_}
-use mathlib.Core.Bool.{Bool, true, false, cond, true≢false}
+use mathlib.Core.Bool.{Bool, true, false, cond}
 use mathlib.Core.List.{List, [], _∷_}
 use Prim.Native.Nat.{ℕ, zero, suc, _≤_}
 use native.Mathlib.Omega.{arith}
@@ -9,7 +9,7 @@ use borrow.Author.Tests.{eqb-true, eq-eqb, leb-true, le-leb}
 use lib.Dec.{eqb, leb}
 use lib.ListN.{length}
 use Rattle.answer.specs.declared.Answer.{Answer}
-use Rattle.answer.specs.Answers.{answerOf, leaves, finish}
+use Rattle.answer.specs.Answers.{leaves, finish}
 use Rattle.answer.specs.Order.{firstOf, earlier, earliest}
 use Rattle.answer.proofs.Answers.{status-is, left-after, finish-kept}
 use Rattle.answer.proofs.Order.{first-one, first-stop, first-skip, none-first, earlier-none, none-earlier}

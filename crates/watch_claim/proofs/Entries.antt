@@ -1,14 +1,12 @@
 -- Laws of the claim's terms over entries.
 use mathlib.Core.Path.{_≡_, refl, sym, ap, _∙_}
-use mathlib.Core.Bool.{Bool, true, false, cond, not, _&&_, _||_, true≢false, or-false, or-true}
-use mathlib.Core.List.{List, [], _∷_, _++_, map}
-use Prim.Native.Nat.{ℕ, zero, suc}
-use native.Mathlib.Omega.{arith}
-use lib.ListN.{length}
+use mathlib.Core.Bool.{Bool, true, false, cond, _||_, true≢false, or-true}
+use mathlib.Core.List.{List, [], _∷_, _++_}
+use Prim.Native.Nat.{ℕ}
 use Rattle.meter_keys.specs.Keys.{sameKey}
 use Rattle.meter_keys.proofs.Same.{same-key, key-same}
-use Rattle.watch_list.specs.List.{Entry, Watch, listed, renewed, without, joining}
-use Rattle.watch_list.proofs.Lists.{keysOf, same-sym, listed-append, listed-keys, renewed-keys, without-other}
+use Rattle.watch_list.specs.List.{Entry, listed, renewed, without}
+use Rattle.watch_list.proofs.Lists.{keysOf, same-sym, listed-append, listed-keys, renewed-keys}
 use Rattle.watch_claim.specs.Claim.{estimateIn, Once, passing}
 
 -- one of two tests that fails

@@ -2,25 +2,26 @@
 use mathlib.Core.Path.{_≡_, refl, sym, ap, subst, _∙_}
 use mathlib.Core.Bool.{Bool, true, false, cond, not, _&&_, _||_, true≢false, and-eq-true-iff}
 use mathlib.Core.List.{List, [], _∷_}
-use Prim.Native.Nat.{ℕ, zero, suc, _+_, _^_, _≤_, _<_}
+use Prim.Native.Nat.{ℕ, zero, suc, _^_, _≤_, _<_}
 use native.Mathlib.Omega.{arith}
 use borrow.Author.Tests.{eqb-true, leb-true}
 use lib.Dec.{eqb, leb}
 use lib.ListN.{length, replicate}
-use Rattle.geometry.specs.Geometry.{validDepth, validWidth, size}
+use Rattle.geometry.specs.Geometry.{validDepth, validWidth}
 use Rattle.geometry.specs.Checks.{badKey}
 use Rattle.meter.specs.Meter.{updated, estimated}
 use Rattle.meter_keys.specs.Keys.{sameKey}
-use Rattle.watch_list.specs.List.{Entry, Watch, listed, noted, clearPlace, takenOff}
+use Rattle.watch_list.specs.List.{Watch, listed, noted, clearPlace, takenOff}
 use Rattle.watch_list.specs.Layout.{listSize, sound, encode, decode}
 use Rattle.watch_list.proofs.Lists.{Each, same-sym, decode-encode, encode-long, encode-sound, cleared, cleared-bytes}
-use Rattle.watch.specs.Watch.{notedIn, watched, removed}
+use Rattle.watch.specs.Watch.{notedIn, watched}
 use Rattle.watch.proofs.Laws.{Accepted, watched-accepted, watched-kept, removed-accepted, removed-kept}
 use Rattle.traffic.specs.Traffic.{amountSum, keyTotal, lower}
-use Rattle.traffic.specs.Calls.{Calls, none, then, watch, traffic, after as afterCall, run, done, Faithful, Listed}
+use Rattle.traffic.specs.Calls.{watch, traffic, after as afterCall, run, done, Faithful, Listed}
 use Rattle.traffic.proofs.Theorem.{answers, estimate-small}
-use Rattle.watch_claim.specs.Steps.{Step, update, remove, keyOf, State, status, stepped, after, markAfter, entriesAfter, listedAfter, accepted, ToldThese, Told, calls, total}
-use Rattle.watch_claim.specs.Claim.{takenOffSince, estimateIn, Once, joins, joinOrder, overfull, foundFull, held, tidy, Claim, WatchClaim, EqualBytes}
+use Rattle.watch_claim.specs.Steps.{Step, update, remove, keyOf, State, status, stepped, after, entriesAfter, listedAfter, accepted, ToldThese, Told, calls, total}
+use Rattle.watch_claim.specs.Claim.{takenOffSince, Once, joins, joinOrder, overfull, foundFull, Claim, WatchClaim, EqualBytes}
+use Rattle.watch_claim.proofs.Entrywise.{Entered, passes, changed, entered, passes-is}
 use Rattle.watch_claim.proofs.Holding.{Good, good-formed, good-tidy, Holding, orderNow, refused-holding, noted-holding, off-holding}
 
 -- a key that line 4 does not apply to
@@ -67,9 +68,24 @@ module _ (d w t : ℕ) (vd : validDepth d ≡ true) (vw : validWidth w ≡ true)
   record Inv (steps : List Step) : Type 0 where
     list-is : after d w steps .list ≡ encode (decode (after d w steps .list))
     holding : Holding t (decode (after d w steps .list)) (total d w steps) (λ key. takenOffSince d w key steps) (joinOrder d w steps) (foundFull d w t steps)
+    memory-is : after d w steps .memory ≡ entered d w steps .memory
+    watch-is : decode (after d w steps .list) ≡ entered d w steps .watch
+
+  -- the list is not broken
+  inv-unbroken : (steps : List Step) → Inv steps → (length (after d w steps .list) ≡ listSize) × (sound (after d w steps .list) ≡ true)
+  inv-unbroken steps i =
+      let watch = decode (after d w steps .list) in
+      let good = good-formed watch (i .holding .good) in
+      rw (i .list-is) (encode-long watch good, encode-sound watch good (i .holding .good .mark-le))
+
+  inv-passes : (steps : List Step) → Inv steps → (step : Step) → passes step (entered d w steps) ≡ accepted d w steps step
+  unfolding accepted
+  inv-passes steps i step =
+      let u = inv-unbroken steps i in
+      sym (passes-is step (after d w steps) (entered d w steps) (i .memory-is) (u .0) (u .1))
 
   start : Inv []
-  unfolding after total calls traffic keyTotal amountSum takenOffSince joinOrder foundFull listed
+  unfolding after total calls traffic keyTotal amountSum takenOffSince joinOrder foundFull listed entered
   start =
       let is : decode (replicate listSize 0) ≡ cleared = ap decode (sym cleared-bytes) ∙ decode-encode cleared (good-formed cleared cleared-good) in
       record {
@@ -77,16 +93,20 @@ module _ (d w t : ℕ) (vd : validDepth d ≡ true) (vw : validWidth w ≡ true)
         holding =
             rw is
             (record { good = cleared-good; heavy = λ m key l s. absurd (omega (arith, l)); estimates = λ key l. absurd (true≢false (sym l)); order-is = refl; mark-is = refl });
+        memory-is = refl;
+        watch-is = is;
       }
 
   module _ (steps : List Step) where
     -- a step, by the list that it leaves
-    after-step : (step : Step) (now : Watch) → after d w (step ∷ steps) .list ≡ encode now → decode (after d w (step ∷ steps) .list) ≡ now
+    after-step : (step : Step) (now : Watch) → after d w (step ∷ steps) .list ≡ encode now
         → Holding t now (total d w (step ∷ steps)) (λ key. takenOffSince d w key (step ∷ steps)) (orderNow (keyOf step) (entriesAfter d w steps) (now .entries) (joinOrder d w steps))
         (cond (overfull d w t steps step) 1 (foundFull d w t steps))
+        → record { memory = after d w (step ∷ steps) .memory; watch = now } ≡ entered d w (step ∷ steps)
         → Inv (step ∷ steps)
     unfolding joinOrder joins foundFull
-    after-step step now e is h =
+    after-step step now e h x =
+        let is : decode (after d w (step ∷ steps) .list) ≡ now = ap decode e ∙ decode-encode now (good-formed now (h .good)) in
         record {
           list-is = e ∙ ap encode (sym is);
           holding =
@@ -95,7 +115,19 @@ module _ (d w t : ℕ) (vd : validDepth d ≡ true) (vw : validWidth w ≡ true)
               Holding t x (total d w (step ∷ steps)) (λ key. takenOffSince d w key (step ∷ steps))
               (orderNow (keyOf step) (entriesAfter d w steps) (x .entries) (joinOrder d w steps)) (cond (overfull d w t steps step) 1 (foundFull d w t steps)))
               (sym is) h;
+          memory-is = ap (λ (y : Entered). y .memory) x;
+          watch-is = is ∙ ap (λ (y : Entered). y .watch) x;
         }
+
+    -- what it leaves on entries, refused and accepted
+    entered-refused : Inv steps → (step : Step) → accepted d w steps step ≡ false → entered d w steps ≡ entered d w (step ∷ steps)
+    unfolding entered
+    entered-refused i step e = rw (inv-passes steps i step ∙ e)
+
+    entered-accepted : Inv steps → (step : Step) → accepted d w steps step ≡ true
+        → changed step (record { memory = after d w steps .memory; watch = decode (after d w steps .list) }) ≡ entered d w (step ∷ steps)
+    unfolding entered
+    entered-accepted i step e = rw (inv-passes steps i step ∙ e, i .memory-is, i .watch-is)
 
     -- a refused step
     refused-total : (step : Step) → accepted d w steps step ≡ false → (k : List ℕ) → total d w (step ∷ steps) k ≡ total d w steps k
@@ -117,10 +149,11 @@ module _ (d w t : ℕ) (vd : validDepth d ≡ true) (vw : validWidth w ≡ true)
     unfolding after accepted
     refused step e i =
         let s : stepped step (after d w steps) ≡ after d w steps = kept-state step (after d w steps) e in
-        after-step step (decode (after d w steps .list)) (ap (λ (x : State). x .list) s ∙ i .list-is) (ap (λ (x : State). decode (x .list)) s)
+        after-step step (decode (after d w steps .list)) (ap (λ (x : State). x .list) s ∙ i .list-is)
         (rw (refused-full step e)
         (refused-holding t (decode (after d w steps .list)) (total d w steps) (λ key. takenOffSince d w key steps) (joinOrder d w steps) (foundFull d w t steps) (i .holding)
         (keyOf step) (total d w (step ∷ steps)) (λ key. takenOffSince d w key (step ∷ steps)) (refused-total step e) (refused-since step e)))
+        (rw (ap (λ (x : State). x .memory) s, i .memory-is, i .watch-is) (entered-refused i step e))
 
     -- an accepted update
     module _ (key : List ℕ) (amount : ℕ) (told : Told d w t (update d w key amount t ∷ steps)) (i : Inv steps) (e : accepted d w steps (update d w key amount t) ≡ true) where
@@ -138,9 +171,18 @@ module _ (d w t : ℕ) (vd : validDepth d ≡ true) (vw : validWidth w ≡ true)
       unfolding accepted status
       passed = watched-accepted d w (after d w steps .memory) (after d w steps .list) key amount t (eqb-true _ 0 e)
 
+      memory-now : after d w (step ∷ steps) .memory ≡ updated d w (after d w steps .memory) key amount .memory
+      unfolding after stepped
+      memory-now = passed .memory-is
+
       list-now : after d w (step ∷ steps) .list ≡ encode (noted key value t before)
       unfolding after stepped notedIn
-      list-now = passed .list-is ∙ ap (λ (m : List ℕ). encode (noted key (estimated d w m key .value) t before)) (sym (passed .memory-is))
+      list-now = passed .list-is ∙ ap (λ (m : List ℕ). encode (noted key (estimated d w m key .value) t before)) (sym memory-now)
+
+      entered-now : record { memory = after d w (step ∷ steps) .memory; watch = noted key value t before } ≡ entered d w (step ∷ steps)
+      unfolding changed
+      entered-now =
+          ap {B = Entered} (λ (m : List ℕ). record { memory = m; watch = noted key (estimated d w m key .value) t before }) memory-now ∙ entered-accepted i step e
 
       now-faithful : Faithful d w (calls d w (step ∷ steps)) × (run d w (calls d w (step ∷ steps)) ≡ after d w (step ∷ steps) .memory)
       now-faithful = faithful (step ∷ steps) told
@@ -179,23 +221,22 @@ module _ (d w t : ℕ) (vd : validDepth d ≡ true) (vw : validWidth w ≡ true)
       updates : Inv (step ∷ steps)
       unfolding keyOf
       updates =
-          after-step step (noted key value t before) list-now
-          (ap decode list-now ∙ decode-encode (noted key value t before) (good-formed (noted key value t before) (noted-now .good))) noted-now
+          after-step step (noted key value t before) list-now noted-now entered-now
 
     -- an accepted taking off
     removes : (key : List ℕ) → Inv steps → accepted d w steps (remove key) ≡ true → Inv (remove key ∷ steps)
-    unfolding accepted status after stepped keyOf overfull total calls takenOffSince
+    unfolding accepted status after stepped keyOf overfull total calls takenOffSince changed
     removes key i e =
         let before = decode (after d w steps .list) in
         let r = removed-accepted (after d w steps .list) key (eqb-true _ 0 e) in
         let h = off-holding t before (total d w steps) (λ k. takenOffSince d w k steps) (joinOrder d w steps) (foundFull d w t steps) (i .holding) key in
         after-step (remove key) (takenOff key before) (r .list-is)
-        (ap decode (r .list-is) ∙ decode-encode (takenOff key before) (good-formed (takenOff key before) (h .good)))
         (subst
         (λ (b : Bool).
         Holding t (takenOff key before) (total d w steps) (λ k. b && (sameKey key k && listedAfter d w steps k) || takenOffSince d w k steps)
         (orderNow key (before .entries) (takenOff key before .entries) (joinOrder d w steps)) (foundFull d w t steps))
         (sym e) h)
+        (entered-accepted i (remove key) e)
 
   -- a step that was told d, w and t
   told-step : (steps : List Step) (d′ w′ t′ : ℕ) (key : List ℕ) (amount : ℕ) → d′ ≡ d → w′ ≡ w → t′ ≡ t
@@ -220,14 +261,6 @@ module _ (d w t : ℕ) (vd : validDepth d ≡ true) (vw : validWidth w ≡ true)
       go true e i = removes steps key i e
       go false e i = refused steps (remove key) e i
 
-  -- the list that steps leave is not broken
-  unbroken : (steps : List Step) → Told d w t steps → (length (after d w steps .list) ≡ listSize) × (sound (after d w steps .list) ≡ true)
-  unbroken steps told =
-      let i = invariant steps told in
-      let watch = decode (after d w steps .list) in
-      let good = good-formed watch (i .holding .good) in
-      rw (i .list-is) (encode-long watch good, encode-sound watch good (i .holding .good .mark-le))
-
   claim : (steps : List Step) → Told d w t steps → Claim d w t steps
   claim steps told =
       let i = invariant steps told in
@@ -239,7 +272,7 @@ module _ (d w t : ℕ) (vd : validDepth d ≡ true) (vw : validWidth w ≡ true)
         order = h .order-is;
         bytes = i .list-is ∙ ap encode (good-tidy (decode (after d w steps .list)) (h .good));
         mark = h .mark-is;
-        unbroken = unbroken steps told;
+        unbroken = inv-unbroken steps i;
       }
 
 -- Request 1's claim.
@@ -248,3 +281,14 @@ watch-claim = claim
 
 pub equal-bytes : EqualBytes
 equal-bytes d w t d′ w′ t′ steps others c c′ m p = c .bytes ∙ rw (m, p) (sym (c′ .bytes))
+
+-- What steps leave is what they leave on entries.
+pub by-entries : (d w t : ℕ) → validDepth d ≡ true → validWidth w ≡ true → 1 ≤ t → (steps : List Step) → Told d w t steps
+    → decode (after d w steps .list) ≡ entered d w steps .watch
+by-entries d w t vd vw pos steps told = invariant d w t vd vw pos steps told .watch-is
+
+-- The premise excludes no next step but an update that is accepted and was told something else.
+pub goes-on : (d w t : ℕ) → validDepth d ≡ true → validWidth w ≡ true → 1 ≤ t → (steps : List Step) → Told d w t steps
+    → (step : Step) → (passes step (entered d w steps) ≡ true → ToldThese d w t step) → Told d w t (step ∷ steps)
+unfolding Told
+goes-on d w t vd vw pos steps told step f = (told, λ e. f (inv-passes d w t vd vw pos steps (invariant d w t vd vw pos steps told) step ∙ e))

@@ -6,7 +6,7 @@ use mathlib.Core.List.{List, [], _∷_}
 use lib.Dec.{eqb}
 use lib.ListN.{replicate}
 use Rattle.geometry.specs.Geometry.{size}
-use Rattle.watch_list.specs.List.{Entry, Watch, listed}
+use Rattle.watch_list.specs.List.{Entry, listed}
 use Rattle.watch_list.specs.Layout.{listSize, decode}
 use Rattle.watch.specs.Watch.{watched, removed}
 use Rattle.traffic.specs.Traffic.{keyTotal}

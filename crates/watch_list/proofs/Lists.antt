@@ -1,5 +1,5 @@
 -- Laws of entries in lists, and of a list's bytes: what is laid out is read back.
-use mathlib.Core.Path.{_≡_, refl, sym, ap, ap₂, _∙_}
+use mathlib.Core.Path.{_≡_, refl, sym, ap, _∙_}
 use mathlib.Core.Bool.{Bool, true, false, cond, _||_, or-assoc, true≢false}
 use mathlib.Core.List.{List, [], _∷_, _++_, map, append-assoc, append-nil}
 use Prim.Native.Nat.{ℕ, zero, suc, _+_, _-_, _*_, _^_, _≤_, _<_}
@@ -8,7 +8,7 @@ use native.Mathlib.Omega.{arith}
 use borrow.Author.Tests.{le-leb}
 use lib.ListN.{length, getD, take, drop, replicate, length-append}
 use lib.Seq.{drop-cons, drop-drop, take-at, drop-at, getD-at, getD-drop, getD-take, take-all}
-use Rattle.little_endian.specs.Bytes.{number, bytes}
+use Rattle.little_endian.specs.Bytes.{bytes}
 use Rattle.little_endian.proofs.Bytes.{number-bytes, bytes-length}
 use Rattle.laws.proofs.Tests.{both-ways}
 use Rattle.meter_keys.specs.Keys.{sameKey}
