@@ -9,7 +9,7 @@ use Rattle.geometry.specs.Geometry.{validDepth, oneOfPowers, validWidth}
 use Rattle.watch_list.specs.List.{Watch, listed}
 use Rattle.watch_list.specs.Layout.{decode}
 use Rattle.watch_claim.specs.Steps.{Step, remove, after, Told}
-use Rattle.watch_claim.specs.Claim.{held}
+use Rattle.watch_claim.specs.Claim.{contents}
 use Rattle.watch_claim.proofs.Entrywise.{entered}
 use Rattle.watch_claim.proofs.Theorem.{by-entries}
 use Rattle.watch_cases.specs.Cases.{Case, AllMeet, cases, one, many, Full}
@@ -33,7 +33,7 @@ all-meet [] h = tt
 all-meet (c ∷ cs) h =
     let told = all-told 1 32 300 depth width (omega arith) (c .steps) (h .0 .0) in
     let w = is 300 (omega arith) (c .steps) told in
-    ((told, ap (λ (x : Watch). x .mark) w ∙ h .0 .1, ap (λ (x : Watch). held (x .entries)) w ∙ h .0 .2), all-meet cs (h .1))
+    ((told, ap (λ (x : Watch). x .mark) w ∙ h .0 .1, ap (λ (x : Watch). contents (x .entries)) w ∙ h .0 .2), all-meet cs (h .1))
 
 pub cases-meet : AllMeet cases
 cases-meet = all-meet cases (computed .all)

@@ -28,7 +28,7 @@ use Rattle.watch_cases.proofs.Told.{these, allTold}
 -- a case, on entries
 abbrev pub Computes : Case → Type 0
 Computes c =
-    (allTold 1 32 300 (c .steps) ≡ true) × (entered 1 32 (c .steps) .watch .mark ≡ 0) × (claim.held (entered 1 32 (c .steps) .watch .entries) ≡ c .listing)
+    (allTold 1 32 300 (c .steps) ≡ true) × (entered 1 32 (c .steps) .watch .mark ≡ 0) × (claim.contents (entered 1 32 (c .steps) .watch .entries) ≡ c .listing)
 
 abbrev pub AllCompute : List Case → Type 0
 AllCompute [] = Unit
@@ -51,7 +51,7 @@ _&_ : {A B : Type 0} → A → B → A × B
 a & b = (a, b)
 
 pub computed : Computed
-unfolding many these allTold entries.passes entries.changed entries.entered claim.held keys.sameKey
+unfolding many these allTold entries.passes entries.changed entries.entered claim.contents keys.sameKey
     layouts.bit layouts.ones layouts.marks layouts.layout layouts.valid layouts.widestIn
     blocks.cap blocks.shape blocks.numberOf blocks.fill blocks.block blocks.counterAt blocks.total changes.change sums.sumTotal
     sums.held sums.join sums.add sums.unite hashes.fnvStep hashes.fnv hashes.slotOf bytes.number bytes.bytes groups.decode groups.encode

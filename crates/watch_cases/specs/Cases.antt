@@ -5,7 +5,7 @@ use mathlib.Core.Bool.{true, false}
 use mathlib.Core.List.{List, [], _∷_}
 use lib.ListN.{length}
 use Rattle.watch_claim.specs.Steps.{Step, update, remove, markAfter, entriesAfter, listedAfter, Told}
-use Rattle.watch_claim.specs.Claim.{held}
+use Rattle.watch_claim.specs.Claim.{contents}
 
 -- Keys of one byte that land apart. The meter has 1 row of 32 slots.
 abbrev pub a : List ℕ
@@ -27,7 +27,7 @@ abbrev pub after : List Step → List (List ℕ × ℕ) → Case
 after steps listing = record { steps = steps; listing = listing }
 
 abbrev pub Meets : Case → Type 0
-Meets c = Told 1 32 300 (c .steps) × (markAfter 1 32 (c .steps) ≡ 0) × (held (entriesAfter 1 32 (c .steps)) ≡ c .listing)
+Meets c = Told 1 32 300 (c .steps) × (markAfter 1 32 (c .steps) ≡ 0) × (contents (entriesAfter 1 32 (c .steps)) ≡ c .listing)
 
 abbrev pub AllMeet : List Case → Type 0
 AllMeet [] = Unit

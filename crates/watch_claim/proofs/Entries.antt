@@ -7,7 +7,7 @@ use Rattle.meter_keys.specs.Keys.{sameKey}
 use Rattle.meter_keys.proofs.Same.{same-key, key-same}
 use Rattle.watch_list.specs.List.{Entry, listed, renewed, without}
 use Rattle.watch_list.proofs.Lists.{keysOf, same-sym, listed-append, listed-keys, renewed-keys}
-use Rattle.watch_claim.specs.Claim.{estimateIn, Once, passing}
+use Rattle.watch_claim.specs.Claim.{estimateIn, Once, filter}
 
 -- one of two tests that fails
 pub neither : (a b : Bool) → (a || b) ≡ false → (a ≡ false) × (b ≡ false)
@@ -108,21 +108,21 @@ without-estimate key other n (e ∷ es) = go (sameKey (e .key) key) refl (withou
     go false p i = rw i
 
 -- the order of keys: every key passes, and those that are left after one was taken off
-pub all-pass : (test : List ℕ → Bool) (es : List Entry) → ((key : List ℕ) → listed key es ≡ true → test key ≡ true) → passing test (keysOf es) ≡ keysOf es
-unfolding passing listed
+pub all-pass : (test : List ℕ → Bool) (es : List Entry) → ((key : List ℕ) → listed key es ≡ true → test key ≡ true) → filter test (keysOf es) ≡ keysOf es
+unfolding filter listed
 all-pass test [] h = refl
 all-pass test (e ∷ es) h =
     rw (h (e .key) (rw (key-same (e .key))))
     (ap (λ (ks : List (List ℕ)). e .key ∷ ks) (all-pass test es (λ key l. h key (rw l (or-true (sameKey (e .key) key))))))
 
-pass-alike : (p q : List ℕ → Bool) (es : List Entry) → ((key : List ℕ) → listed key es ≡ true → p key ≡ q key) → passing p (keysOf es) ≡ passing q (keysOf es)
-unfolding passing listed
+pass-alike : (p q : List ℕ → Bool) (es : List Entry) → ((key : List ℕ) → listed key es ≡ true → p key ≡ q key) → filter p (keysOf es) ≡ filter q (keysOf es)
+unfolding filter listed
 pass-alike p q [] h = refl
 pass-alike p q (e ∷ es) h =
     rw (h (e .key) (rw (key-same (e .key))), pass-alike p q es (λ key l. h key (rw l (or-true (sameKey (e .key) key)))))
 
-pub without-passes : (key : List ℕ) (es : List Entry) → Once es → passing (λ k. listed k (without key es)) (keysOf es) ≡ keysOf (without key es)
-unfolding passing without listed Once
+pub without-passes : (key : List ℕ) (es : List Entry) → Once es → filter (λ k. listed k (without key es)) (keysOf es) ≡ keysOf (without key es)
+unfolding filter without listed Once
 without-passes key [] o = refl
 without-passes key (e ∷ es) o = go (sameKey (e .key) key) (without-passes key es (o .1))
   where
@@ -134,8 +134,8 @@ without-passes key (e ∷ es) o = go (sameKey (e .key) key) (without-passes key 
         split true p = absurd (true≢false (sym l ∙ rw (← same-key (e .key) k p) (o .0)))
         split false p = refl
 
-    go : (b : Bool) → passing (λ k. listed k (without key es)) (keysOf es) ≡ keysOf (without key es)
-        → cond (listed (e .key) (cond b es (e ∷ without key es))) (e .key ∷ passing (λ k. listed k (cond b es (e ∷ without key es))) (keysOf es)) (passing (λ k. listed k (cond b es (e ∷ without key es))) (keysOf es))
+    go : (b : Bool) → filter (λ k. listed k (without key es)) (keysOf es) ≡ keysOf (without key es)
+        → cond (listed (e .key) (cond b es (e ∷ without key es))) (e .key ∷ filter (λ k. listed k (cond b es (e ∷ without key es))) (keysOf es)) (filter (λ k. listed k (cond b es (e ∷ without key es))) (keysOf es))
         ≡ keysOf (cond b es (e ∷ without key es))
     go true i = rw (o .0) (all-pass (λ k. listed k es) es (λ k l. l))
     go false i =

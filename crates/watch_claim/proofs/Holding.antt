@@ -11,7 +11,7 @@ use Rattle.meter_keys.specs.Keys.{sameKey}
 use Rattle.meter_keys.proofs.Same.{same-key, key-same}
 use Rattle.watch_list.specs.List.{Entry, Watch, listed, joining, joined, renewed, noted, without, clearPlace, takenOff}
 use Rattle.watch_list.proofs.Lists.{Each, each-append, each-is, Fits, WellFormed, keysOf, listed-append, listed-keys, renewed-keys, renewed-each, without-each, without-length, without-other}
-use Rattle.watch_claim.specs.Claim.{estimateIn, Once, passing, held, tidy}
+use Rattle.watch_claim.specs.Claim.{estimateIn, Once, filter, contents, canonical}
 use Rattle.watch_claim.proofs.Entries.{neither, renewed-once, joined-once, without-once, without-same, renewed-same, renewed-other, joined-same, joined-other, without-estimate, all-pass, without-passes}
 
 -- an entry whose unused bytes are 0
@@ -44,24 +44,24 @@ good-formed watch good =
     }
 
 -- it is made of its mark, its keys and its estimates
-used-are : (es : List Entry) → Each Used es → map (λ p. joining (p .0) (p .1)) (held es) ≡ es
-unfolding Each held
+used-are : (es : List Entry) → Each Used es → map (λ p. joining (p .0) (p .1)) (contents es) ≡ es
+unfolding Each contents
 used-are [] h = refl
 used-are (e ∷ es) h = rw (used-are es (h .1), ← h .0 .zeros)
 
-held-length : (es : List Entry) → length (held es) ≡ length es
-unfolding held
-held-length es = length-map es (λ (e : Entry). (e .key, e .estimate))
+contents-length : (es : List Entry) → length (contents es) ≡ length es
+unfolding contents
+contents-length es = length-map es (λ (e : Entry). (e .key, e .estimate))
 
 clear-are : (fs : List Entry) → Each (λ e. e ≡ clearPlace) fs → replicate (length fs) clearPlace ≡ fs
 unfolding Each
 clear-are [] h = refl
 clear-are (f ∷ fs) h = rw (h .0, clear-are fs (h .1))
 
-pub good-tidy : (watch : Watch) → Good watch → watch ≡ tidy (watch .mark) (held (watch .entries))
-unfolding tidy
-good-tidy watch good =
-    let n : 64 - length (held (watch .entries)) ≡ length (watch .free) = omega (arith, held-length (watch .entries), good .places) in
+pub good-canonical : (watch : Watch) → Good watch → watch ≡ canonical (watch .mark) (contents (watch .entries))
+unfolding canonical
+good-canonical watch good =
+    let n : 64 - length (contents (watch .entries)) ≡ length (watch .free) = omega (arith, contents-length (watch .entries), good .places) in
     rw (used-are (watch .entries) (good .used), n, clear-are (watch .free) (good .clear))
 
 -- what `noted` can leave
@@ -102,14 +102,14 @@ pub record Holding (t : ℕ) (watch : Watch) (total : List ℕ → ℕ) (since :
 
 -- the order after a change of a list, for a key that may have joined
 abbrev pub orderNow : List ℕ → List Entry → List Entry → List (List ℕ) → List (List ℕ)
-orderNow key before now order = passing (λ k. listed k now) order ++ cond (listed key now && not (listed key before)) (key ∷ []) []
+orderNow key before now order = filter (λ k. listed k now) order ++ cond (listed key now && not (listed key before)) (key ∷ []) []
 
 -- as it was, if the keys are
 same-order : (key : List ℕ) (before now : List Entry) (order : List (List ℕ)) → keysOf now ≡ keysOf before → keysOf before ≡ order
     → keysOf now ≡ orderNow key before now order
 same-order key before now order e o =
     let l : listed key now ≡ listed key before = listed-keys key now before e in
-    let p : passing (λ k. listed k now) (keysOf now) ≡ keysOf now = all-pass (λ k. listed k now) now (λ k h. h) in
+    let p : filter (λ k. listed k now) (keysOf now) ≡ keysOf now = all-pass (λ k. listed k now) now (λ k h. h) in
     rw (← o, ← e, p, l, never (listed key before)) (sym (append-nil (keysOf now)))
   where
     never : (b : Bool) → (b && not b) ≡ false

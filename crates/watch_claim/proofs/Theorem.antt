@@ -20,9 +20,9 @@ use Rattle.traffic.specs.Traffic.{amountSum, keyTotal, lower}
 use Rattle.traffic.specs.Calls.{watch, traffic, after as afterCall, run, done, Faithful, Listed}
 use Rattle.traffic.proofs.Theorem.{answers, estimate-small}
 use Rattle.watch_claim.specs.Steps.{Step, update, remove, keyOf, State, status, stepped, after, entriesAfter, listedAfter, accepted, ToldThese, Told, calls, total}
-use Rattle.watch_claim.specs.Claim.{takenOffSince, Once, joins, joinOrder, overfull, foundFull, Claim, WatchClaim, EqualBytes}
+use Rattle.watch_claim.specs.Claim.{takenOffSince, Once, joins, joinOrder, findsFull, foundFull, Claim, WatchClaim, EqualBytes}
 use Rattle.watch_claim.proofs.Entrywise.{Entered, passes, changed, entered, passes-is}
-use Rattle.watch_claim.proofs.Holding.{Good, good-formed, good-tidy, Holding, orderNow, refused-holding, noted-holding, off-holding}
+use Rattle.watch_claim.proofs.Holding.{Good, good-formed, good-canonical, Holding, orderNow, refused-holding, noted-holding, off-holding}
 
 -- a key that line 4 does not apply to
 good-length : (n : ℕ) → badKey n ≡ 0 → (1 ≤ n) × (n ≤ 64)
@@ -101,7 +101,7 @@ module _ (d w t : ℕ) (vd : validDepth d ≡ true) (vw : validWidth w ≡ true)
     -- a step, by the list that it leaves
     after-step : (step : Step) (now : Watch) → after d w (step ∷ steps) .list ≡ encode now
         → Holding t now (total d w (step ∷ steps)) (λ key. takenOffSince d w key (step ∷ steps)) (orderNow (keyOf step) (entriesAfter d w steps) (now .entries) (joinOrder d w steps))
-        (cond (overfull d w t steps step) 1 (foundFull d w t steps))
+        (cond (findsFull d w t steps step) 1 (foundFull d w t steps))
         → record { memory = after d w (step ∷ steps) .memory; watch = now } ≡ entered d w (step ∷ steps)
         → Inv (step ∷ steps)
     unfolding joinOrder joins foundFull
@@ -113,7 +113,7 @@ module _ (d w t : ℕ) (vd : validDepth d ≡ true) (vw : validWidth w ≡ true)
               subst
               (λ (x : Watch).
               Holding t x (total d w (step ∷ steps)) (λ key. takenOffSince d w key (step ∷ steps))
-              (orderNow (keyOf step) (entriesAfter d w steps) (x .entries) (joinOrder d w steps)) (cond (overfull d w t steps step) 1 (foundFull d w t steps)))
+              (orderNow (keyOf step) (entriesAfter d w steps) (x .entries) (joinOrder d w steps)) (cond (findsFull d w t steps step) 1 (foundFull d w t steps)))
               (sym is) h;
           memory-is = ap (λ (y : Entered). y .memory) x;
           watch-is = is ∙ ap (λ (y : Entered). y .watch) x;
@@ -140,8 +140,8 @@ module _ (d w t : ℕ) (vd : validDepth d ≡ true) (vw : validWidth w ≡ true)
     refused-since (update d′ w′ key amount t′) e k = rw e
     refused-since (remove key) e k = rw e
 
-    refused-full : (step : Step) → accepted d w steps step ≡ false → overfull d w t steps step ≡ false
-    unfolding overfull
+    refused-full : (step : Step) → accepted d w steps step ≡ false → findsFull d w t steps step ≡ false
+    unfolding findsFull
     refused-full (update d′ w′ key amount t′) e = rw e
     refused-full (remove key) e = refl
 
@@ -206,12 +206,12 @@ module _ (d w t : ℕ) (vd : validDepth d ≡ true) (vw : validWidth w ≡ true)
       unfolding takenOffSince
       kept k n = rw (e, n)
 
-      full-is : overfull d w t steps step ≡ (not (listed key (before .entries)) && (leb t value && eqb (length (before .entries)) 64))
-      unfolding overfull
+      full-is : findsFull d w t steps step ≡ (not (listed key (before .entries)) && (leb t value && eqb (length (before .entries)) 64))
+      unfolding findsFull
       full-is = rw e
 
       noted-now : Holding t (noted key value t before) (total d w (step ∷ steps)) (λ k. takenOffSince d w k (step ∷ steps))
-          (orderNow key (before .entries) (noted key value t before .entries) (joinOrder d w steps)) (cond (overfull d w t steps step) 1 (foundFull d w t steps))
+          (orderNow key (before .entries) (noted key value t before .entries) (joinOrder d w steps)) (cond (findsFull d w t steps step) 1 (foundFull d w t steps))
       noted-now =
           let n = good-length (length key) (passed .key-good) in
           rw full-is
@@ -225,7 +225,7 @@ module _ (d w t : ℕ) (vd : validDepth d ≡ true) (vw : validWidth w ≡ true)
 
     -- an accepted taking off
     removes : (key : List ℕ) → Inv steps → accepted d w steps (remove key) ≡ true → Inv (remove key ∷ steps)
-    unfolding accepted status after stepped keyOf overfull total calls takenOffSince changed
+    unfolding accepted status after stepped keyOf findsFull total calls takenOffSince changed
     removes key i e =
         let before = decode (after d w steps .list) in
         let r = removed-accepted (after d w steps .list) key (eqb-true _ 0 e) in
@@ -270,7 +270,7 @@ module _ (d w t : ℕ) (vd : validDepth d ≡ true) (vw : validWidth w ≡ true)
         estimates = h .estimates;
         once = h .good .once;
         order = h .order-is;
-        bytes = i .list-is ∙ ap encode (good-tidy (decode (after d w steps .list)) (h .good));
+        bytes = i .list-is ∙ ap encode (good-canonical (decode (after d w steps .list)) (h .good));
         mark = h .mark-is;
         unbroken = inv-unbroken steps i;
       }

@@ -12,8 +12,8 @@ use Rattle.watch_list.specs.List.{Entry, Watch, listed, joining, clearPlace}
 use Rattle.watch_list.specs.Layout.{listSize, sound, encode}
 use Rattle.watch_claim.specs.Steps.{Step, update, remove, keyOf, after, markAfter, entriesAfter, listedAfter, accepted, Told, total}
 
--- Whether a key was taken off since its last accepted update. A taking off counts if it was accepted and the key was listed: one that
--- finds no such key leaves the claim as it was.
+-- Whether a key was taken off since its last accepted update. A taking off counts if it was accepted and the key was listed; one that
+-- does not find the key takes nothing off. This is the reading by which the claim says most.
 unfoldable pub takenOffSince : ℕ → ℕ → List ℕ → List Step → Bool
 takenOffSince d w key [] = false
 takenOffSince d w key (update d′ w′ k amount threshold ∷ steps) =
@@ -32,38 +32,38 @@ Once (e ∷ es) = (listed (e .key) es ≡ false) × Once es
 
 -- The keys in the order they joined, by what is listed before and after each step alone: a key that is listed after a step and was not
 -- before comes last, and one that is not listed after it is struck out.
-unfoldable pub passing : (List ℕ → Bool) → List (List ℕ) → List (List ℕ)
-passing test [] = []
-passing test (key ∷ keys) = cond (test key) (key ∷ passing test keys) (passing test keys)
+unfoldable pub filter : (List ℕ → Bool) → List (List ℕ) → List (List ℕ)
+filter test [] = []
+filter test (key ∷ keys) = cond (test key) (key ∷ filter test keys) (filter test keys)
 
 unfoldable pub joins : ℕ → ℕ → List Step → Step → Bool
 joins d w steps step = listedAfter d w (step ∷ steps) (keyOf step) && not (listedAfter d w steps (keyOf step))
 
 unfoldable pub joinOrder : ℕ → ℕ → List Step → List (List ℕ)
 joinOrder d w [] = []
-joinOrder d w (step ∷ steps) = passing (listedAfter d w (step ∷ steps)) (joinOrder d w steps) ++ cond (joins d w steps step) (keyOf step ∷ []) []
+joinOrder d w (step ∷ steps) = filter (listedAfter d w (step ∷ steps)) (joinOrder d w steps) ++ cond (joins d w steps step) (keyOf step ∷ []) []
 
 -- Whether a step finds the list full: an accepted update of a key that is not listed, which leaves an estimate at or above the threshold
 -- while 64 are listed.
-unfoldable pub overfull : ℕ → ℕ → ℕ → List Step → Step → Bool
-overfull d w threshold steps (update d′ w′ key amount threshold′) =
+unfoldable pub findsFull : ℕ → ℕ → ℕ → List Step → Step → Bool
+findsFull d w threshold steps (update d′ w′ key amount threshold′) =
     accepted d w steps (update d′ w′ key amount threshold′)
     && (not (listedAfter d w steps key)
     && (leb threshold (estimated d w (after d w (update d′ w′ key amount threshold′ ∷ steps) .memory) key .value)
     && eqb (length (entriesAfter d w steps)) 64))
-overfull d w threshold steps (remove key) = false
+findsFull d w threshold steps (remove key) = false
 
 -- the mark is off until a step finds the list full, and on from then
 unfoldable pub foundFull : ℕ → ℕ → ℕ → List Step → ℕ
 foundFull d w threshold [] = 0
-foundFull d w threshold (step ∷ steps) = cond (overfull d w threshold steps step) 1 (foundFull d w threshold steps)
+foundFull d w threshold (step ∷ steps) = cond (findsFull d w threshold steps step) 1 (foundFull d w threshold steps)
 
 -- the keys and estimates of entries, and the list of a mark, keys and estimates whose unused bytes are all 0
-unfoldable pub held : List Entry → List (List ℕ × ℕ)
-held entries = map (λ e. (e .key, e .estimate)) entries
+unfoldable pub contents : List Entry → List (List ℕ × ℕ)
+contents entries = map (λ e. (e .key, e .estimate)) entries
 
-unfoldable pub tidy : ℕ → List (List ℕ × ℕ) → Watch
-tidy mark pairs = record { mark = mark; entries = map (λ p. joining (p .0) (p .1)) pairs; free = replicate (64 - length pairs) clearPlace }
+unfoldable pub canonical : ℕ → List (List ℕ × ℕ) → Watch
+canonical mark pairs = record { mark = mark; entries = map (λ p. joining (p .0) (p .1)) pairs; free = replicate (64 - length pairs) clearPlace }
 
 -- what holds after a list of steps
 pub record Claim (d w threshold : ℕ) (steps : List Step) : Type 0 where
@@ -76,7 +76,7 @@ pub record Claim (d w threshold : ℕ) (steps : List Step) : Type 0 where
   -- entries are in the order they joined
   pub order : map (λ (e : Entry). e .key) (entriesAfter d w steps) ≡ joinOrder d w steps
   -- unused bytes are 0
-  pub bytes : after d w steps .list ≡ encode (tidy (markAfter d w steps) (held (entriesAfter d w steps)))
+  pub bytes : after d w steps .list ≡ encode (canonical (markAfter d w steps) (contents (entriesAfter d w steps)))
   pub mark : markAfter d w steps ≡ foundFull d w threshold steps
   -- the list is not broken: no call is refused for it
   pub unbroken : (length (after d w steps .list) ≡ listSize) × (sound (after d w steps .list) ≡ true)
@@ -93,5 +93,5 @@ abbrev pub EqualBytes : Type 0
 EqualBytes =
     (d w threshold d′ w′ threshold′ : ℕ) (steps others : List Step) → Claim d w threshold steps → Claim d′ w′ threshold′ others
     → markAfter d w steps ≡ markAfter d′ w′ others
-    → held (entriesAfter d w steps) ≡ held (entriesAfter d′ w′ others)
+    → contents (entriesAfter d w steps) ≡ contents (entriesAfter d′ w′ others)
     → after d w steps .list ≡ after d′ w′ others .list
