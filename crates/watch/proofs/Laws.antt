@@ -1,6 +1,6 @@
 -- What the calls of a watch list leave, by whether they are accepted.
 use mathlib.Core.Path.{_≡_, refl, sym, ap, _∙_}
-use mathlib.Core.Bool.{Bool, true, false, cond}
+use mathlib.Core.Bool.{Bool, true, false}
 use mathlib.Core.List.{List, [], _∷_}
 use Prim.Native.Nat.{ℕ, zero, suc, _≤_}
 use native.Mathlib.Omega.{arith}
@@ -10,7 +10,7 @@ use lib.Dec.{eqb, leb}
 use lib.ListN.{length}
 use Rattle.answer.specs.declared.Answer.{Answer}
 use Rattle.answer.specs.Answers.{leaves, finish}
-use Rattle.answer.specs.Order.{firstOf, earlier, earliest}
+use Rattle.answer.specs.Order.{unless, firstOf, earlier, earliest}
 use Rattle.answer.proofs.Answers.{status-is, left-after, finish-kept}
 use Rattle.answer.proofs.Order.{first-one, first-stop, first-skip, none-first, earlier-none, none-earlier}
 use Rattle.geometry.specs.Checks.{badShape, badKey}
@@ -21,16 +21,16 @@ use Rattle.watch_list.specs.Layout.{listSize, sound, encode, decode}
 use Rattle.watch.specs.Watch.{badList, brokenList, badThreshold, badLines, watchStatus, notedIn, watched, removed}
 
 -- what a test asks for holds where its line does not apply
-held : (b : Bool) (n : ℕ) → cond b 0 (suc n) ≡ 0 → b ≡ true
-held true n e = refl
-held false n e = absurd (omega arith)
+pub none-unless : (b : Bool) (n : ℕ) → unless b (suc n) ≡ 0 → b ≡ true
+none-unless true n e = refl
+none-unless false n e = absurd (omega arith)
 
 -- a list that no line applies to
 good-list : (list : List ℕ) → badList list ≡ 0 → length list ≡ listSize
-good-list list e = eqb-true (length list) listSize (held (eqb (length list) listSize) 2 e)
+good-list list e = eqb-true (length list) listSize (none-unless (eqb (length list) listSize) 2 e)
 
 sound-list : (list : List ℕ) → brokenList list ≡ 0 → sound list ≡ true
-sound-list list e = held (sound list) 4 e
+sound-list list e = none-unless (sound list) 4 e
 
 module _ (d w : ℕ) (memory list key : List ℕ) (amount threshold : ℕ) where
   -- what an accepted update through a list has passed, and what it leaves
@@ -65,7 +65,7 @@ module _ (d w : ℕ) (memory list key : List ℕ) (amount threshold : ℕ) where
         key-good = sym (first-one (badKey (length key))) ∙ r .1;
         update = t .0;
         list-sound = sound-list list (u .0);
-        positive = leb-true 1 threshold (held (leb 1 threshold) 10 (v .0));
+        positive = leb-true 1 threshold (none-unless (leb 1 threshold) 10 (v .0));
         memory-is = left-after (watchStatus d w memory list key amount threshold) (updated d w memory key amount .memory) memory s;
         list-is = left-after (watchStatus d w memory list key amount threshold) (notedIn d w (updated d w memory key amount .memory) list key threshold) list s;
       }

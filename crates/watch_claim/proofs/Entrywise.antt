@@ -12,7 +12,7 @@ use Rattle.geometry.specs.Checks.{badKey}
 use Rattle.meter.specs.Meter.{updated, estimated}
 use Rattle.watch_list.specs.List.{Watch, noted, takenOff}
 use Rattle.watch_list.specs.Layout.{listSize, sound}
-use Rattle.watch_list.proofs.Lists.{cleared}
+use Rattle.watch_list.proofs.Lists.{by-test, cleared}
 use Rattle.watch.specs.Watch.{watched}
 use Rattle.watch.proofs.Laws.{watched-accepted, watched-status, removed-status}
 use Rattle.watch_claim.specs.Steps.{Step, update, remove, State, status}
@@ -43,11 +43,9 @@ entered d w (step ∷ steps) = cond (passes step (entered d w steps)) (changed s
 pub passes-is : (step : Step) (s : State) (x : Entered) → s .memory ≡ x .memory → length (s .list) ≡ listSize → sound (s .list) ≡ true
     → eqb (status step s) 0 ≡ passes step x
 unfolding status passes
-passes-is (update d w key amount zero) s x e long good = go (eqb (watched d w (s .memory) (s .list) key amount 0 .answer .status) 0) refl
-  where
-    go : (b : Bool) → eqb (watched d w (s .memory) (s .list) key amount 0 .answer .status) 0 ≡ b → b ≡ false
-    go true p = absurd (omega (arith, watched-accepted d w (s .memory) (s .list) key amount 0 (eqb-true _ 0 p) .positive))
-    go false p = refl
+passes-is (update d w key amount zero) s x e long good =
+    by-test (eqb (watched d w (s .memory) (s .list) key amount 0 .answer .status) 0) (λ b. b ≡ false)
+    (λ p. absurd (omega (arith, watched-accepted d w (s .memory) (s .list) key amount 0 (eqb-true _ 0 p) .positive))) (λ p. refl)
 passes-is (update d w key amount (suc t)) s x e long good =
     rw (watched-status d w (s .memory) (s .list) key amount (suc t) long good (omega arith), e, le-leb 1 (suc t) (omega arith))
 passes-is (remove key) s x e long good = rw (removed-status (s .list) key long good)

@@ -10,7 +10,7 @@ use lib.ListN.{length, replicate, length-append, length-replicate, length-map}
 use Rattle.meter_keys.specs.Keys.{sameKey}
 use Rattle.meter_keys.proofs.Same.{same-key, key-same}
 use Rattle.watch_list.specs.List.{Entry, Watch, listed, joining, joined, renewed, noted, without, clearPlace, takenOff}
-use Rattle.watch_list.proofs.Lists.{Each, each-append, each-is, Fits, WellFormed, keysOf, listed-append, listed-keys, renewed-keys, renewed-each, without-each, without-length, without-other}
+use Rattle.watch_list.proofs.Lists.{Each, each-append, each-is, Fits, WellFormed, keysOf, by-test, listed-append, listed-keys, renewed-keys, renewed-each, without-each, without-length, without-other}
 use Rattle.watch_claim.specs.Claim.{estimateIn, Once, filter, contents, canonical}
 use Rattle.watch_claim.proofs.Entries.{neither, renewed-once, joined-once, without-once, without-same, renewed-same, renewed-other, joined-same, joined-other, without-estimate, all-pass, without-passes}
 
@@ -85,11 +85,7 @@ noted-cases key v t watch P renews joins full stays = go (listed key (watch .ent
 
 -- two keys are one or not
 same-or-not : {A : Type 0} (key other : List ℕ) → (key ≡ other → A) → (sameKey key other ≡ false → A) → A
-same-or-not {A = A} key other f g = go (sameKey key other) refl
-  where
-    go : (b : Bool) → sameKey key other ≡ b → A
-    go true p = f (same-key key other p)
-    go false p = g p
+same-or-not {A = A} key other f g = by-test (sameKey key other) (λ b. A) (λ p. f (same-key key other p)) g
 
 -- What holds of a list by a threshold, the keys' totals, which keys were taken off since, the order of joining and whether the list was
 -- found full.
@@ -269,9 +265,6 @@ module _ (t : ℕ) (watch : Watch) (total : List ℕ → ℕ) (since : List ℕ 
 
     pub off-holding : Off (takenOff key watch)
     unfolding takenOff
-    off-holding = go (listed key (watch .entries)) refl
-      where
-        go : (b : Bool) → listed key (watch .entries) ≡ b
-            → Off (cond b (record { mark = watch .mark; entries = without key (watch .entries); free = clearPlace ∷ watch .free }) watch)
-        go true l = leaves l
-        go false l = absent
+    off-holding =
+        by-test (listed key (watch .entries))
+        (λ b. Off (cond b (record { mark = watch .mark; entries = without key (watch .entries); free = clearPlace ∷ watch .free }) watch)) leaves (λ l. absent)

@@ -13,9 +13,9 @@ use Rattle.meter.specs.Meter.{updated, estimated}
 use Rattle.meter_keys.specs.Keys.{sameKey}
 use Rattle.watch_list.specs.List.{Watch, listed, noted, clearPlace, takenOff}
 use Rattle.watch_list.specs.Layout.{listSize, sound, encode, decode}
-use Rattle.watch_list.proofs.Lists.{Each, same-sym, decode-encode, encode-long, encode-sound, cleared, cleared-bytes}
+use Rattle.watch_list.proofs.Lists.{Each, same-sym, by-test, decode-encode, encode-long, encode-sound, cleared, cleared-bytes}
 use Rattle.watch.specs.Watch.{notedIn, watched}
-use Rattle.watch.proofs.Laws.{Accepted, watched-accepted, watched-kept, removed-accepted, removed-kept}
+use Rattle.watch.proofs.Laws.{none-unless, Accepted, watched-accepted, watched-kept, removed-accepted, removed-kept}
 use Rattle.traffic.specs.Traffic.{amountSum, keyTotal, lower}
 use Rattle.traffic.specs.Calls.{watch, traffic, after as afterCall, run, done, Faithful, Listed}
 use Rattle.traffic.proofs.Theorem.{answers, estimate-small}
@@ -27,12 +27,8 @@ use Rattle.watch_claim.proofs.Holding.{Good, good-formed, good-canonica
 -- a key that line 4 does not apply to
 good-length : (n : ℕ) → badKey n ≡ 0 → (1 ≤ n) × (n ≤ 64)
 good-length n e =
-    let p = and-eq-true-iff (leb 1 n) (leb n 64) .0 (go (leb 1 n && leb n 64) e) in
+    let p = and-eq-true-iff (leb 1 n) (leb n 64) .0 (none-unless (leb 1 n && leb n 64) 3 e) in
     (leb-true 1 n (p .0), leb-true n 64 (p .1))
-  where
-    go : (b : Bool) → cond {A = ℕ} b 0 4 ≡ 0 → b ≡ true
-    go true e = refl
-    go false e = absurd (omega arith)
 
 -- a refused step leaves memory and list
 kept-state : (step : Step) (s : State) → eqb (status step s) 0 ≡ false → stepped step s ≡ s
@@ -248,18 +244,16 @@ module _ (d w t : ℕ) (vd : validDepth d ≡ true) (vw : validWidth w ≡ true)
   unfolding Told ToldThese
   invariant [] told = start
   invariant (update d′ w′ key amount t′ ∷ steps) told =
-      go (accepted d w steps (update d′ w′ key amount t′)) refl (invariant steps (told .0))
-    where
-      go : (b : Bool) → accepted d w steps (update d′ w′ key amount t′) ≡ b → Inv steps → Inv (update d′ w′ key amount t′ ∷ steps)
-      go true e i =
-          let x = told .1 e in
-          told-step steps d′ w′ t′ key amount (x .0) (x .1) (x .2) (λ y z. updates steps key amount y i z) told e
-      go false e i = refused steps (update d′ w′ key amount t′) e i
-  invariant (remove key ∷ steps) told = go (accepted d w steps (remove key)) refl (invariant steps (told .0))
-    where
-      go : (b : Bool) → accepted d w steps (remove key) ≡ b → Inv steps → Inv (remove key ∷ steps)
-      go true e i = removes steps key i e
-      go false e i = refused steps (remove key) e i
+      let step = update d′ w′ key amount t′ in
+      let i = invariant steps (told .0) in
+      by-test (accepted d w steps step) (λ b. Inv (step ∷ steps))
+      (λ e.
+      let x = told .1 e in
+      told-step steps d′ w′ t′ key amount (x .0) (x .1) (x .2) (λ y z. updates steps key amount y i z) told e)
+      (λ e. refused steps step e i)
+  invariant (remove key ∷ steps) told =
+      let i = invariant steps (told .0) in
+      by-test (accepted d w steps (remove key)) (λ b. Inv (remove key ∷ steps)) (λ e. removes steps key i e) (λ e. refused steps (remove key) e i)
 
   claim : (steps : List Step) → Told d w t steps → Claim d w t steps
   claim steps told =

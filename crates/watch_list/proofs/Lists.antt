@@ -51,28 +51,31 @@ listed-append key (e ∷ es) fs = rw (listed-append key es fs) (sym (or-assoc (s
 abbrev pub keysOf : List Entry → List (List ℕ)
 keysOf es = map (λ (e : Entry). e .key) es
 
--- Renewing leaves the keys.
+-- what a test decides, by its answer
+pub by-test : (b : Bool) (P : Bool → Type 0) → (b ≡ true → P true) → (b ≡ false → P false) → P b
+by-test true P f g = f refl
+by-test false P f g = g refl
+
+-- Renewing changes the first entry that has the key, and leaves the keys.
 module _ (key : List ℕ) (estimate : ℕ) where
+  pub renewed-cases : (e : Entry) (es : List Entry) (P : List Entry → Type 0)
+      → (sameKey (e .key) key ≡ true → P (record { key = e .key; unused = e .unused; estimate = estimate } ∷ es))
+      → (sameKey (e .key) key ≡ false → P (e ∷ renewed key estimate es))
+      → P (renewed key estimate (e ∷ es))
+  unfolding renewed
+  renewed-cases e es P =
+      by-test (sameKey (e .key) key) (λ b. P (cond b (record { key = e .key; unused = e .unused; estimate = estimate } ∷ es) (e ∷ renewed key estimate es)))
+
   pub renewed-keys : (es : List Entry) → keysOf (renewed key estimate es) ≡ keysOf es
   unfolding renewed
   renewed-keys [] = refl
-  renewed-keys (e ∷ es) = go (sameKey (e .key) key) (renewed-keys es)
-    where
-      go : (b : Bool) → keysOf (renewed key estimate es) ≡ keysOf es
-          → keysOf (cond b (record { key = e .key; unused = e .unused; estimate = estimate } ∷ es) (e ∷ renewed key estimate es)) ≡ e .key ∷ keysOf es
-      go true i = refl
-      go false i = ap (λ (ks : List (List ℕ)). e .key ∷ ks) i
+  renewed-keys (e ∷ es) = renewed-cases e es (λ now. keysOf now ≡ e .key ∷ keysOf es) (λ p. refl) (λ p. ap (λ (ks : List (List ℕ)). e .key ∷ ks) (renewed-keys es))
 
   pub renewed-each : (P : Entry → Type 0) → ((e : Entry) → P e → P (record { key = e .key; unused = e .unused; estimate = estimate }))
       → (es : List Entry) → Each P es → Each P (renewed key estimate es)
   unfolding renewed Each
   renewed-each P f [] h = tt
-  renewed-each P f (e ∷ es) h = go (sameKey (e .key) key) (renewed-each P f es (h .1))
-    where
-      go : (b : Bool) → Each P (renewed key estimate es)
-          → Each P (cond b (record { key = e .key; unused = e .unused; estimate = estimate } ∷ es) (e ∷ renewed key estimate es))
-      go true i = (f e (h .0), h .1)
-      go false i = (h .0, i)
+  renewed-each P f (e ∷ es) h = renewed-cases e es (Each P) (λ p. (f e (h .0), h .1)) (λ p. (h .0, renewed-each P f es (h .1)))
 
 -- what is listed, by the keys alone
 pub listed-keys : (key : List ℕ) (es fs : List Entry) → keysOf es ≡ keysOf fs → listed key es ≡ listed key fs
@@ -85,37 +88,30 @@ listed-keys key (e ∷ es) (f ∷ fs) p =
     let ks : keysOf es ≡ keysOf fs = cc in
     rw (k, listed-keys key es fs ks)
 
--- Taking off leaves the other entries.
+-- Taking off drops the first entry that has the key, and leaves the others.
 module _ (key : List ℕ) where
+  pub without-cases : (e : Entry) (es : List Entry) (P : List Entry → Type 0)
+      → (sameKey (e .key) key ≡ true → P es) → (sameKey (e .key) key ≡ false → P (e ∷ without key es)) → P (without key (e ∷ es))
+  unfolding without
+  without-cases e es P = by-test (sameKey (e .key) key) (λ b. P (cond b es (e ∷ without key es)))
+
   pub without-each : (P : Entry → Type 0) (es : List Entry) → Each P es → Each P (without key es)
   unfolding without Each
   without-each P [] h = tt
-  without-each P (e ∷ es) h = go (sameKey (e .key) key) (without-each P es (h .1))
-    where
-      go : (b : Bool) → Each P (without key es) → Each P (cond b es (e ∷ without key es))
-      go true i = h .1
-      go false i = (h .0, i)
+  without-each P (e ∷ es) h = without-cases e es (Each P) (λ p. h .1) (λ p. (h .0, without-each P es (h .1)))
 
   pub without-length : (es : List Entry) → listed key es ≡ true → suc (length (without key es)) ≡ length es
   unfolding without listed
   without-length [] l = absurd (true≢false (sym l))
-  without-length (e ∷ es) l = go (sameKey (e .key) key) l (without-length es)
-    where
-      go : (b : Bool) → (b || listed key es) ≡ true → (listed key es ≡ true → suc (length (without key es)) ≡ length es)
-          → suc (length (cond b es (e ∷ without key es))) ≡ suc (length es)
-      go true h i = refl
-      go false h i = ap suc (i h)
+  without-length (e ∷ es) l =
+      without-cases e es (λ now. suc (length now) ≡ suc (length es)) (λ p. refl) (λ p. ap suc (without-length es (rw p at l)))
 
   -- another key is listed as before
   pub without-other : (other : List ℕ) → sameKey key other ≡ false → (es : List Entry) → listed other (without key es) ≡ listed other es
   unfolding without listed
   without-other other n [] = refl
-  without-other other n (e ∷ es) = go (sameKey (e .key) key) refl (without-other other n es)
-    where
-      go : (b : Bool) → sameKey (e .key) key ≡ b → listed other (without key es) ≡ listed other es
-          → listed other (cond b es (e ∷ without key es)) ≡ (sameKey (e .key) other || listed other es)
-      go true p i = rw (same-key (e .key) key p, n)
-      go false p i = rw i
+  without-other other n (e ∷ es) =
+      without-cases e es (λ now. listed other now ≡ (sameKey (e .key) other || listed other es)) (λ p. rw (same-key (e .key) key p, n)) (λ p. rw (without-other other n es))
 
 -- a column from its i-th field on, and its i-th field, whatever comes before and after the column
 module _ (f : Entry → List ℕ) (m : ℕ) where
