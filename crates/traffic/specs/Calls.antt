@@ -50,9 +50,9 @@ mutual
 unfoldable pub recordPair : List ℕ → Pair
 recordPair words = record { key = keyOf (payload words 0) words; amount = amountOf (payload words 0) words }
 
--- The traffic (document 01: the book) sees the calls and whether each was accepted, and no memory. An accepted update, by call or
--- record or through a watch list, adds its pair; an accepted clearing empties it; an accepted union adds the traffic of the source's list; an accepted image puts
--- that of the image's list in its place. All else, refused calls too, leaves it.
+-- The traffic (document 01: the book) sees the calls and whether each was accepted, and no memory. An accepted update, by call, by
+-- record or through a watch list, adds its pair; an accepted clearing empties it; an accepted union adds the traffic of the source's
+-- list; an accepted image puts that of the image's list in its place. All else, refused calls too, leaves it.
 unfoldable mutual
   pub traffic : Calls → List Pair
   traffic none = []

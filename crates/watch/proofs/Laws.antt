@@ -7,7 +7,7 @@ use native.Mathlib.Omega.{arith}
 use native.Mathlib.Decide.{ℕ-discrete}
 use borrow.Author.Tests.{eqb-true, eq-eqb, leb-true, le-leb}
 use lib.Dec.{eqb, leb}
-use lib.ListN.{length}
+use lib.ListN.{length, replicate}
 use Rattle.answer.specs.declared.Answer.{Answer}
 use Rattle.answer.specs.Answers.{leaves, finish}
 use Rattle.answer.specs.Order.{unless, firstOf, earlier, earliest}
@@ -18,7 +18,7 @@ use Rattle.meter.specs.Meter.{badCall, updated}
 use Rattle.meter.proofs.Calls.{call-shape-bad, call-key, updated-bad}
 use Rattle.watch_list.specs.List.{takenOff}
 use Rattle.watch_list.specs.Layout.{listSize, sound, encode, decode}
-use Rattle.watch.specs.Watch.{badList, brokenList, badThreshold, badLines, watchStatus, notedIn, watched, removed}
+use Rattle.watch.specs.Watch.{badList, brokenList, badThreshold, listCleared, badLines, watchStatus, notedIn, watched, removed}
 
 -- what a test asks for holds where its line does not apply
 pub none-unless : (b : Bool) (n : ℕ) → unless b (suc n) ≡ 0 → b ≡ true
@@ -31,6 +31,11 @@ good-list list e = eqb-true (length list) listSize (none-unless (eqb (length lis
 
 sound-list : (list : List ℕ) → brokenList list ≡ 0 → sound list ≡ true
 sound-list list e = none-unless (sound list) 4 e
+
+-- a cleared list is what steps start from
+pub cleared-is : (list : List ℕ) → length list ≡ listSize → listCleared list .memory ≡ replicate listSize 0
+unfolding listCleared finish leaves
+cleared-is list long = rw long
 
 module _ (d w : ℕ) (memory list key : List ℕ) (amount threshold : ℕ) where
   -- what an accepted update through a list has passed, and what it leaves

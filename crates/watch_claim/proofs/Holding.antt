@@ -87,12 +87,12 @@ noted-cases key v t watch P renews joins full stays = go (listed key (watch .ent
 same-or-not : {A : Type 0} (key other : List ℕ) → (key ≡ other → A) → (sameKey key other ≡ false → A) → A
 same-or-not {A = A} key other f g = by-test (sameKey key other) (λ b. A) (λ p. f (same-key key other p)) g
 
--- What holds of a list by a threshold, the keys' totals, which keys were taken off since, the order of joining and whether the list was
--- found full.
-pub record Holding (t : ℕ) (watch : Watch) (total : List ℕ → ℕ) (since : List ℕ → Bool) (order : List (List ℕ)) (full : ℕ) : Type 0 where
+-- What holds of a list by a threshold, the keys' totals, what is right of a key's estimate, which keys were taken off since, the order of
+-- joining and whether the list was found full.
+pub record Holding (t : ℕ) (watch : Watch) (total : List ℕ → ℕ) (Right : List ℕ → ℕ → Type 0) (since : List ℕ → Bool) (order : List (List ℕ)) (full : ℕ) : Type 0 where
   pub good : Good watch
   pub heavy : watch .mark ≡ 0 → (key : List ℕ) → t ≤ total key → since key ≡ false → listed key (watch .entries) ≡ true
-  pub estimates : (key : List ℕ) → listed key (watch .entries) ≡ true → total key ≤ estimateIn key (watch .entries)
+  pub estimates : (key : List ℕ) → listed key (watch .entries) ≡ true → Right key (estimateIn key (watch .entries))
   pub order-is : keysOf (watch .entries) ≡ order
   pub mark-is : watch .mark ≡ full
 
@@ -112,15 +112,17 @@ same-order key before now order e o =
     never true = refl
     never false = refl
 
-module _ (t : ℕ) (watch : Watch) (total : List ℕ → ℕ) (since : List ℕ → Bool) (order : List (List ℕ)) (full : ℕ) (h : Holding t watch total since order full) where
+module _ (t : ℕ) (watch : Watch) (total : List ℕ → ℕ) (Right : List ℕ → ℕ → Type 0) (since : List ℕ → Bool) (order : List (List ℕ)) (full : ℕ)
+    (h : Holding t watch total Right since order full) where
   -- a refused step: totals are as they were
-  pub refused-holding : (key : List ℕ) (total′ : List ℕ → ℕ) (since′ : List ℕ → Bool) → ((k : List ℕ) → total′ k ≡ total k) → ((k : List ℕ) → since′ k ≡ since k)
-      → Holding t watch total′ since′ (orderNow key (watch .entries) (watch .entries) order) full
-  refused-holding key total′ since′ p q =
+  pub refused-holding : (key : List ℕ) (total′ : List ℕ → ℕ) (Right′ : List ℕ → ℕ → Type 0) (since′ : List ℕ → Bool)
+      → ((k : List ℕ) → total′ k ≡ total k) → ((k : List ℕ) (x : ℕ) → Right k x → Right′ k x) → ((k : List ℕ) → since′ k ≡ since k)
+      → Holding t watch total′ Right′ since′ (orderNow key (watch .entries) (watch .entries) order) full
+  refused-holding key total′ Right′ since′ p r q =
       record {
         good = h .good;
         heavy = λ m k l s. h .heavy m k (rw (← p k) l) (sym (q k) ∙ s);
-        estimates = λ k l. rw (p k) (h .estimates k l);
+        estimates = λ k l. r k (estimateIn k (watch .entries)) (h .estimates k l);
         order-is = same-order key (watch .entries) (watch .entries) order refl (h .order-is);
         mark-is = h .mark-is;
       }
@@ -128,18 +130,19 @@ module _ (t : ℕ) (watch : Watch) (total : List ℕ → ℕ) (since : List ℕ 
   -- an accepted update of a key, by its estimate after it
   module _ (key : List ℕ) (v : ℕ) (some : 1 ≤ length key) (most : length key ≤ 64) (small : v < 2 ^ 64)
       (total′ : List ℕ → ℕ) (above : total′ key ≤ v) (others : (k : List ℕ) → sameKey key k ≡ false → total′ k ≡ total k)
+      (Right′ : List ℕ → ℕ → Type 0) (right : Right′ key v) (rights : (k : List ℕ) (x : ℕ) → sameKey key k ≡ false → Right k x → Right′ k x)
       (since′ : List ℕ → Bool) (kept : (k : List ℕ) → sameKey key k ≡ false → since′ k ≡ since k) where
     abbrev Now : Watch → Type 0
     Now now =
-        Holding t now total′ since′ (orderNow key (watch .entries) (now .entries) order)
+        Holding t now total′ Right′ since′ (orderNow key (watch .entries) (now .entries) order)
         (cond (not (listed key (watch .entries)) && (leb t v && eqb (length (watch .entries)) 64)) 1 full)
 
     -- of another key
     heavy-other : watch .mark ≡ 0 → (k : List ℕ) → sameKey key k ≡ false → t ≤ total′ k → since′ k ≡ false → listed k (watch .entries) ≡ true
     heavy-other m k n l s = h .heavy m k (rw (← others k n) l) (sym (kept k n) ∙ s)
 
-    estimate-other : (k : List ℕ) → sameKey key k ≡ false → listed k (watch .entries) ≡ true → total′ k ≤ estimateIn k (watch .entries)
-    estimate-other k n l = rw (others k n) (h .estimates k l)
+    estimate-other : (k : List ℕ) → sameKey key k ≡ false → listed k (watch .entries) ≡ true → Right′ k (estimateIn k (watch .entries))
+    estimate-other k n l = rights k (estimateIn k (watch .entries)) n (h .estimates k l)
 
     renews : listed key (watch .entries) ≡ true → Now (record { mark = watch .mark; entries = renewed key v (watch .entries); free = watch .free })
     renews l =
@@ -158,7 +161,7 @@ module _ (t : ℕ) (watch : Watch) (total : List ℕ → ℕ) (since : List ℕ 
               };
           heavy = λ m k r s. same k ∙ same-or-not key k (λ p. rw (← p) l) (λ p. heavy-other m k p r s);
           estimates = λ k r.
-              same-or-not key k (λ p. rw (← p, renewed-same key v es l) above)
+              same-or-not key k (λ p. rw (← p, renewed-same key v es l) right)
               (λ p. rw (renewed-other key v k p es) (estimate-other k p (sym (same k) ∙ r)));
           order-is = same-order key es (renewed key v es) order ks (h .order-is);
           mark-is = rw l (h .mark-is);
@@ -186,7 +189,7 @@ module _ (t : ℕ) (watch : Watch) (total : List ℕ → ℕ) (since : List ℕ 
               };
           heavy = λ m k r s. same-or-not key k (λ p. rw (← p) here) (λ p. more k (heavy-other m k p r s));
           estimates = λ k r.
-              same-or-not key k (λ p. rw (← p, joined-same es (joining key v) l) above)
+              same-or-not key k (λ p. rw (← p, joined-same es (joining key v) l) right)
               (λ p. rw (joined-other k es (joining key v) p) (estimate-other k p (sym (or-false (listed k es)) ∙ rw (listed-append k es (joining key v ∷ []), p) at r)));
           order-is =
               map-append (λ (e : Entry). e .key) es (joining key v ∷ [])
@@ -226,7 +229,7 @@ module _ (t : ℕ) (watch : Watch) (total : List ℕ → ℕ) (since : List ℕ 
   module _ (key : List ℕ) where
     abbrev Off : Watch → Type 0
     Off now =
-        Holding t now total (λ k. sameKey key k && listed k (watch .entries) || since k) (orderNow key (watch .entries) (now .entries) order) full
+        Holding t now total Right (λ k. sameKey key k && listed k (watch .entries) || since k) (orderNow key (watch .entries) (now .entries) order) full
 
     leaves : listed key (watch .entries) ≡ true → Off (record { mark = watch .mark; entries = without key (watch .entries); free = clearPlace ∷ watch .free })
     unfolding Each

@@ -11,6 +11,7 @@ use Rattle.geometry.specs.Geometry.{validDepth, validWidth}
 use Rattle.geometry.specs.Checks.{badKey}
 use Rattle.meter.specs.Meter.{updated, estimated}
 use Rattle.meter_keys.specs.Keys.{sameKey}
+use Rattle.meter_keys.proofs.Same.{key-same}
 use Rattle.watch_list.specs.List.{Watch, listed, noted, clearPlace, takenOff}
 use Rattle.watch_list.specs.Layout.{listSize, sound, encode, decode}
 use Rattle.watch_list.proofs.Lists.{Each, same-sym, by-test, decode-encode, encode-long, encode-sound, cleared, cleared-bytes}
@@ -20,7 +21,7 @@ use Rattle.traffic.specs.Traffic.{amountSum, keyTotal, lower}
 use Rattle.traffic.specs.Calls.{watch, traffic, after as afterCall, run, done, Faithful, Listed}
 use Rattle.traffic.proofs.Theorem.{answers, estimate-small}
 use Rattle.watch_claim.specs.Steps.{Step, update, remove, keyOf, State, status, stepped, after, entriesAfter, listedAfter, accepted, ToldThese, Told, calls, total}
-use Rattle.watch_claim.specs.Claim.{takenOffSince, Once, joins, joinOrder, findsFull, foundFull, Claim, WatchClaim, EqualBytes}
+use Rattle.watch_claim.specs.Claim.{takenOffSince, lastEstimate, Once, joins, joinOrder, findsFull, foundFull, Claim, WatchClaim, EqualBytes}
 use Rattle.watch_claim.proofs.Entrywise.{Entered, passes, changed, entered, passes-is}
 use Rattle.watch_claim.proofs.Holding.{Good, good-formed, good-canonical, Holding, orderNow, refused-holding, noted-holding, off-holding}
 
@@ -60,10 +61,14 @@ module _ (d w t : ℕ) (vd : validDepth d ≡ true) (vw : validWidth w ≡ true)
       )
   faithful (remove key ∷ steps) told = faithful steps (told .0)
 
+  -- what is right of a key's estimate
+  abbrev Right : List Step → List ℕ → ℕ → Type 0
+  Right steps key x = (total d w steps key ≤ x) × (x ≡ lastEstimate d w key steps)
+
   -- the invariant
   record Inv (steps : List Step) : Type 0 where
     list-is : after d w steps .list ≡ encode (decode (after d w steps .list))
-    holding : Holding t (decode (after d w steps .list)) (total d w steps) (λ key. takenOffSince d w key steps) (joinOrder d w steps) (foundFull d w t steps)
+    holding : Holding t (decode (after d w steps .list)) (total d w steps) (Right steps) (λ key. takenOffSince d w key steps) (joinOrder d w steps) (foundFull d w t steps)
     memory-is : after d w steps .memory ≡ entered d w steps .memory
     watch-is : decode (after d w steps .list) ≡ entered d w steps .watch
 
@@ -96,7 +101,7 @@ module _ (d w t : ℕ) (vd : validDepth d ≡ true) (vw : validWidth w ≡ true)
   module _ (steps : List Step) where
     -- a step, by the list that it leaves
     after-step : (step : Step) (now : Watch) → after d w (step ∷ steps) .list ≡ encode now
-        → Holding t now (total d w (step ∷ steps)) (λ key. takenOffSince d w key (step ∷ steps)) (orderNow (keyOf step) (entriesAfter d w steps) (now .entries) (joinOrder d w steps))
+        → Holding t now (total d w (step ∷ steps)) (Right (step ∷ steps)) (λ key. takenOffSince d w key (step ∷ steps)) (orderNow (keyOf step) (entriesAfter d w steps) (now .entries) (joinOrder d w steps))
         (cond (findsFull d w t steps step) 1 (foundFull d w t steps))
         → record { memory = after d w (step ∷ steps) .memory; watch = now } ≡ entered d w (step ∷ steps)
         → Inv (step ∷ steps)
@@ -108,7 +113,7 @@ module _ (d w t : ℕ) (vd : validDepth d ≡ true) (vw : validWidth w ≡ true)
           holding =
               subst
               (λ (x : Watch).
-              Holding t x (total d w (step ∷ steps)) (λ key. takenOffSince d w key (step ∷ steps))
+              Holding t x (total d w (step ∷ steps)) (Right (step ∷ steps)) (λ key. takenOffSince d w key (step ∷ steps))
               (orderNow (keyOf step) (entriesAfter d w steps) (x .entries) (joinOrder d w steps)) (cond (findsFull d w t steps step) 1 (foundFull d w t steps)))
               (sym is) h;
           memory-is = ap (λ (y : Entered). y .memory) x;
@@ -136,6 +141,11 @@ module _ (d w t : ℕ) (vd : validDepth d ≡ true) (vw : validWidth w ≡ true)
     refused-since (update d′ w′ key amount t′) e k = rw e
     refused-since (remove key) e k = rw e
 
+    refused-last : (step : Step) → accepted d w steps step ≡ false → (k : List ℕ) → lastEstimate d w k (step ∷ steps) ≡ lastEstimate d w k steps
+    unfolding lastEstimate
+    refused-last (update d′ w′ key amount t′) e k = rw e
+    refused-last (remove key) e k = refl
+
     refused-full : (step : Step) → accepted d w steps step ≡ false → findsFull d w t steps step ≡ false
     unfolding findsFull
     refused-full (update d′ w′ key amount t′) e = rw e
@@ -147,8 +157,8 @@ module _ (d w t : ℕ) (vd : validDepth d ≡ true) (vw : validWidth w ≡ true)
         let s : stepped step (after d w steps) ≡ after d w steps = kept-state step (after d w steps) e in
         after-step step (decode (after d w steps .list)) (ap (λ (x : State). x .list) s ∙ i .list-is)
         (rw (refused-full step e)
-        (refused-holding t (decode (after d w steps .list)) (total d w steps) (λ key. takenOffSince d w key steps) (joinOrder d w steps) (foundFull d w t steps) (i .holding)
-        (keyOf step) (total d w (step ∷ steps)) (λ key. takenOffSince d w key (step ∷ steps)) (refused-total step e) (refused-since step e)))
+        (refused-holding t (decode (after d w steps .list)) (total d w steps) (Right steps) (λ key. takenOffSince d w key steps) (joinOrder d w steps) (foundFull d w t steps) (i .holding)
+        (keyOf step) (total d w (step ∷ steps)) (Right (step ∷ steps)) (λ key. takenOffSince d w key (step ∷ steps)) (refused-total step e) (λ k x r. rw (refused-total step e k, refused-last step e k) r) (refused-since step e)))
         (rw (ap (λ (x : State). x .memory) s, i .memory-is, i .watch-is) (entered-refused i step e))
 
     -- an accepted update
@@ -202,17 +212,25 @@ module _ (d w t : ℕ) (vd : validDepth d ≡ true) (vw : validWidth w ≡ true)
       unfolding takenOffSince
       kept k n = rw (e, n)
 
+      last-same : lastEstimate d w key (step ∷ steps) ≡ value
+      unfolding lastEstimate
+      last-same = rw (e, key-same key)
+
+      last-other : (k : List ℕ) → sameKey key k ≡ false → lastEstimate d w k (step ∷ steps) ≡ lastEstimate d w k steps
+      unfolding lastEstimate
+      last-other k n = rw (e, n)
+
       full-is : findsFull d w t steps step ≡ (not (listed key (before .entries)) && (leb t value && eqb (length (before .entries)) 64))
       unfolding findsFull
       full-is = rw e
 
-      noted-now : Holding t (noted key value t before) (total d w (step ∷ steps)) (λ k. takenOffSince d w k (step ∷ steps))
+      noted-now : Holding t (noted key value t before) (total d w (step ∷ steps)) (Right (step ∷ steps)) (λ k. takenOffSince d w k (step ∷ steps))
           (orderNow key (before .entries) (noted key value t before .entries) (joinOrder d w steps)) (cond (findsFull d w t steps step) 1 (foundFull d w t steps))
       noted-now =
           let n = good-length (length key) (passed .key-good) in
           rw full-is
-          (noted-holding t before (total d w steps) (λ k. takenOffSince d w k steps) (joinOrder d w steps) (foundFull d w t steps) (i .holding) key value (n .0) (n .1) small
-          (total d w (step ∷ steps)) above others (λ k. takenOffSince d w k (step ∷ steps)) kept)
+          (noted-holding t before (total d w steps) (Right steps) (λ k. takenOffSince d w k steps) (joinOrder d w steps) (foundFull d w t steps) (i .holding) key value (n .0) (n .1) small
+          (total d w (step ∷ steps)) above others (Right (step ∷ steps)) (above, sym last-same) (λ k x n r. rw (others k n, last-other k n) r) (λ k. takenOffSince d w k (step ∷ steps)) kept)
 
       updates : Inv (step ∷ steps)
       unfolding keyOf
@@ -221,15 +239,15 @@ module _ (d w t : ℕ) (vd : validDepth d ≡ true) (vw : validWidth w ≡ true)
 
     -- an accepted taking off
     removes : (key : List ℕ) → Inv steps → accepted d w steps (remove key) ≡ true → Inv (remove key ∷ steps)
-    unfolding accepted status after stepped keyOf findsFull total calls takenOffSince changed
+    unfolding accepted status after stepped keyOf findsFull total calls lastEstimate takenOffSince changed
     removes key i e =
         let before = decode (after d w steps .list) in
         let r = removed-accepted (after d w steps .list) key (eqb-true _ 0 e) in
-        let h = off-holding t before (total d w steps) (λ k. takenOffSince d w k steps) (joinOrder d w steps) (foundFull d w t steps) (i .holding) key in
+        let h = off-holding t before (total d w steps) (Right steps) (λ k. takenOffSince d w k steps) (joinOrder d w steps) (foundFull d w t steps) (i .holding) key in
         after-step (remove key) (takenOff key before) (r .list-is)
         (subst
         (λ (b : Bool).
-        Holding t (takenOff key before) (total d w steps) (λ k. b && (sameKey key k && listedAfter d w steps k) || takenOffSince d w k steps)
+        Holding t (takenOff key before) (total d w steps) (Right steps) (λ k. b && (sameKey key k && listedAfter d w steps k) || takenOffSince d w k steps)
         (orderNow key (before .entries) (takenOff key before .entries) (joinOrder d w steps)) (foundFull d w t steps))
         (sym e) h)
         (entered-accepted i (remove key) e)
@@ -261,7 +279,8 @@ module _ (d w t : ℕ) (vd : validDepth d ≡ true) (vw : validWidth w ≡ true)
       let h = i .holding in
       record {
         heavy = h .heavy;
-        estimates = h .estimates;
+        estimates = λ key l. h .estimates key l .0;
+        latest = λ key l. h .estimates key l .1;
         once = h .good .once;
         order = h .order-is;
         bytes = i .list-is ∙ ap encode (good-canonical (decode (after d w steps .list)) (h .good));

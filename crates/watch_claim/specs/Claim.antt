@@ -25,6 +25,14 @@ unfoldable pub estimateIn : List ℕ → List Entry → ℕ
 estimateIn key [] = 0
 estimateIn key (e ∷ es) = cond (sameKey (e .key) key) (e .estimate) (estimateIn key es)
 
+-- the meter's estimate of a key just after its last accepted update
+unfoldable pub lastEstimate : ℕ → ℕ → List ℕ → List Step → ℕ
+lastEstimate d w key [] = 0
+lastEstimate d w key (update d′ w′ k amount threshold ∷ steps) =
+    cond (accepted d w steps (update d′ w′ k amount threshold) && sameKey k key)
+    (estimated d w (after d w (update d′ w′ k amount threshold ∷ steps) .memory) key .value) (lastEstimate d w key steps)
+lastEstimate d w key (remove k ∷ steps) = lastEstimate d w key steps
+
 -- no key is there twice
 unfoldable pub Once : List Entry → Type 0
 Once [] = Unit
@@ -70,8 +78,9 @@ pub record Claim (d w threshold : ℕ) (steps : List Step) : Type 0 where
   -- while the mark is off, a key whose accepted total reached the threshold is listed, unless taken off since its last accepted update
   pub heavy : markAfter d w steps ≡ 0 → (key : List ℕ) → threshold ≤ total d w steps key → takenOffSince d w key steps ≡ false
       → listedAfter d w steps key ≡ true
-  -- a listed key's estimate is at least its accepted total
+  -- a listed key's estimate is at least its accepted total, and is the meter's just after the key's last accepted update
   pub estimates : (key : List ℕ) → listedAfter d w steps key ≡ true → total d w steps key ≤ estimateIn key (entriesAfter d w steps)
+  pub latest : (key : List ℕ) → listedAfter d w steps key ≡ true → estimateIn key (entriesAfter d w steps) ≡ lastEstimate d w key steps
   pub once : Once (entriesAfter d w steps)
   -- entries are in the order they joined
   pub order : map (λ (e : Entry). e .key) (entriesAfter d w steps) ≡ joinOrder d w steps
