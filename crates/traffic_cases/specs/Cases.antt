@@ -51,8 +51,8 @@ endWords = 0x40000007 ∷ []
 abbrev pub other : Calls
 other = none ▸ feed 1 updateWords ▸ feed 5 queryWords ▸ feed 7 endWords ▸ unite (from (none ▸ update at-8 70000))
 
--- Every kind of call, accepted and refused. Refused are a record whose words are missing, a call told another depth and width, an image
--- written into too few words, a union with too few bytes and an image of no words.
+-- Every kind of call but the one through a watch list, which `watching` has, accepted and refused. Refused are a record whose words are
+-- missing, a call told another depth and width, an image written into too few words, a union with too few bytes and an image of no words.
 abbrev pub mixed : Calls
 mixed = none ▸ update at-0 9 ▸ clear ▸ update at-11 7 ▸ estimate at-11 ▸ unite (from other) ▸ read (from other)
 
