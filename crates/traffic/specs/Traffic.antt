@@ -1,7 +1,7 @@
 -- The traffic, and the figures that document 01 defines from it, in 'Traffic and its two figures'. Cited by theorems. Nothing here knows
 -- of a meter's memory.
 use Prim.Native.Nat.{ℕ, zero, suc, _+_, _/_, _^_, min}
-use mathlib.Core.Bool.{Bool, true, false, cond, _&&_, _||_}
+use mathlib.Core.Bool.{Bool, false, cond, _||_}
 use mathlib.Core.List.{List, [], _∷_}
 use lib.Dec.{leb, eqb}
 use Rattle.group_block.specs.Block.{cap}
