@@ -14,7 +14,8 @@ use Rattle.meter_keys.specs.Keys.{sameKey}
 use Rattle.watch_list.specs.List.{Entry, Watch, listed, joining, joined, renewed, noted, without, clearPlace, takenOff}
 use Rattle.watch_list.specs.Layout.{keysAt, estimatesAt, listSize, lengthField, keyField, estimateField, laidOut, encode, placeAt, placesFrom, inUse, decode, sound}
 use Rattle.watch_list.specs.Parts.{Holds, KeyLong, indexOf, put, putPlace, closedPlace}
-use Rattle.watch_list.proofs.Columns.{Whole, AllWhole, whole-append, laid-mark, laid-put, laid-renewed, laid-closed}
+use Rattle.watch_list.proofs.Lists.{each-append}
+use Rattle.watch_list.proofs.Columns.{Whole, AllWhole, laid-mark, laid-put, laid-renewed, laid-closed}
 use Rattle.watch_list.proofs.Places.{places-length, places-split, place-whole, places-whole, in-use-most, laid-places, encode-decode}
 
 -- a test by which a number was picked
@@ -137,7 +138,7 @@ module _ (xs : List ℕ) (n : ℕ) (holds : Holds xs n) (small : Bytes xs) (key 
           ap (renewed key estimate) (around xs n i h) ∙ found-renewed key fs (placeAt xs i) estimate es here in
           let rest : i + suc (length (fs ++ free)) ≡ 64 = omega (arith, most, ap length after, places-length xs (64 - suc i) (suc i)) in
           rw (is-list, is-listed, renews, append-assoc es (new estimate ∷ fs) free)
-          (laid-renewed mark es (fs ++ free) (placeAt xs i) (new estimate) i es-whole (whole-append fs free fs-whole free-whole) here-whole here-whole (places-length xs i 0) rest refl refl
+          (laid-renewed mark es (fs ++ free) (placeAt xs i) (new estimate) i es-whole (each-append Whole fs free fs-whole free-whole) here-whole here-whole (places-length xs i 0) rest refl refl
           ∙ ap (λ (l : List ℕ). put l (estimatesAt + i * 8) (bytes 8 estimate)) whole-list)
 
       pub off-is : encode (takenOff key (decode xs)) ≡ closedPlace xs i n

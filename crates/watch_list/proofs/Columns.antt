@@ -11,6 +11,7 @@ use Rattle.little_endian.proofs.Bytes.{bytes-length}
 use Rattle.watch_list.specs.List.{Entry, clearPlace}
 use Rattle.watch_list.specs.Layout.{keysAt, estimatesAt, lengthField, keyField, estimateField, column, laidOut}
 use Rattle.watch_list.specs.Parts.{put, closed, putPlace, closedPlace}
+use Rattle.watch_list.proofs.Lists.{Each, each-append, each-is, Wide, column-length}
 
 -- bytes put in place of those from `at` to `end`
 unfoldable instead : List ℕ → ℕ → ℕ → List ℕ → List ℕ
@@ -68,14 +69,8 @@ closed-part xs part ys zs at end width a w e =
 abbrev pub Whole : Entry → Type 0
 Whole e = length (e .key ++ e .unused) ≡ 64
 
-unfoldable pub AllWhole : List Entry → Type 0
-AllWhole [] = Unit
-AllWhole (e ∷ es) = Whole e × AllWhole es
-
-pub whole-append : (es fs : List Entry) → AllWhole es → AllWhole fs → AllWhole (es ++ fs)
-unfolding AllWhole
-whole-append [] fs h k = k
-whole-append (e ∷ es) fs h k = (h .0, whole-append es fs (h .1) k)
+abbrev pub AllWhole : List Entry → Type 0
+AllWhole es = Each Whole es
 
 -- a column of fields of `width` bytes
 module _ (field : Entry → List ℕ) (width : ℕ) (wide : (e : Entry) → Whole e → length (field e) ≡ width) where
@@ -84,10 +79,8 @@ module _ (field : Entry → List ℕ) (width : ℕ) (wide : (e : Entry) → Whol
   column-append [] fs = refl
   column-append (e ∷ es) fs = rw (column-append es fs) (sym (append-assoc (field e) (column field es) (column field fs)))
 
-  pub column-length : (es : List Entry) → AllWhole es → length (column field es) ≡ length es * width
-  unfolding column AllWhole
-  column-length [] h = omega arith
-  column-length (e ∷ es) h = omega (arith, length-append (field e) (column field es), wide e (h .0), column-length es (h .1), suc-mul (length es) width)
+  whole-length : (es : List Entry) → AllWhole es → length (column field es) ≡ length es * width
+  whole-length es h = column-length field width es (each-is Whole (Wide field width) wide es h)
 
   -- an entry with the same field
   column-same : (es fs : List Entry) (old new : Entry) → field new ≡ field old → column field (es ++ (new ∷ fs)) ≡ column field (es ++ (old ∷ fs))
@@ -99,7 +92,7 @@ module _ (field : Entry → List ℕ) (width : ℕ) (wide : (e : Entry) → Whol
       → column field (es ++ (new ∷ fs)) ≡ put (column field (es ++ (old ∷ fs))) (i * width) (field new)
   unfolding column put
   column-put es fs old new i w o n e =
-      let front : length (column field es) ≡ i * width = column-length es w ∙ ap (λ (k : ℕ). k * width) e in
+      let front : length (column field es) ≡ i * width = whole-length es w ∙ ap (λ (k : ℕ). k * width) e in
       let past : i * width + length (field new) ≡ length (column field es ++ field old) = omega (arith, length-append (column field es) (field old), wide old o, wide new n, front) in
       rw (column-append es (new ∷ fs), column-append es (old ∷ fs), past, take-at (column field es) (field old ++ column field fs) (i * width) front, ← append-assoc (column field es) (field old) (column field fs), drop-at (column field es ++ field old) (column field fs) (length (column field es ++ field old)) refl)
       (sym (append-assoc (column field es) (field new) (column field fs)))
@@ -110,9 +103,9 @@ module _ (field : Entry → List ℕ) (width : ℕ) (wide : (e : Entry) → Whol
       → column field (es ++ fs ++ (zeros ∷ gs)) ≡ closed (column field (es ++ (old ∷ fs) ++ gs)) (i * width) (n * width) width
   unfolding column closed
   column-closed es fs gs old zeros i n w v o e k z =
-      let front : length (column field es) ≡ i * width = column-length es w ∙ ap (λ (k : ℕ). k * width) e in
+      let front : length (column field es) ≡ i * width = whole-length es w ∙ ap (λ (k : ℕ). k * width) e in
       let all : length (column field es) + (length (field old) + length (column field fs)) ≡ n * width =
-      omega (arith, wide old o, column-length es w, column-length fs v, add-mul (length es) (suc (length fs)) width, suc-mul (length fs) width, ap (λ (k : ℕ). k * width) k) in
+      omega (arith, wide old o, whole-length es w, whole-length fs v, add-mul (length es) (suc (length fs)) width, suc-mul (length fs) width, ap (λ (k : ℕ). k * width) k) in
       rw (column-append (es ++ fs) (zeros ∷ gs), column-append es fs, column-append (es ++ (old ∷ fs)) gs, column-append es (old ∷ fs), z)
       (sym (append-assoc (column field es ++ column field fs) (replicate width 0) (column field gs))
       ∙ sym (closed-part (column field es) (field old) (column field fs) (column field gs) (i * width) (n * width) width front (wide old o) all))
@@ -182,10 +175,10 @@ abbrev estimatesOf : List Entry → List ℕ
 estimatesOf places = column estimateField places
 
 lengths-long : (places : List Entry) → AllWhole places → length places ≡ 64 → length (lengthsOf places) ≡ 64
-lengths-long places w e = column-length lengthField 1 length-wide places w ∙ ap (λ (k : ℕ). k * 1) e
+lengths-long places w e = whole-length lengthField 1 length-wide places w ∙ ap (λ (k : ℕ). k * 1) e
 
 keys-long : (places : List Entry) → AllWhole places → length places ≡ 64 → length (keysOf places) ≡ 4096
-keys-long places w e = column-length keyField 64 key-wide places w ∙ ap (λ (k : ℕ). k * 64) e
+keys-long places w e = whole-length keyField 64 key-wide places w ∙ ap (λ (k : ℕ). k * 64) e
 
 -- laid out, another mark
 pub laid-mark : (old new : ℕ) (places : List Entry) → AllWhole places → length places ≡ 64 → laidOut new places ≡ set (laidOut old places) 64 new
@@ -203,12 +196,12 @@ module _ (mark : ℕ) (es fs : List Entry) (old new : Entry) (i : ℕ) (w : AllW
   after = es ++ (new ∷ fs)
 
   before-whole : AllWhole before
-  unfolding before AllWhole
-  before-whole = whole-append es (old ∷ fs) w (o, v)
+  unfolding before Each
+  before-whole = each-append Whole es (old ∷ fs) w (o, v)
 
   after-whole : AllWhole after
-  unfolding after AllWhole
-  after-whole = whole-append es (new ∷ fs) w (n, v)
+  unfolding after Each
+  after-whole = each-append Whole es (new ∷ fs) w (n, v)
 
   before-long : length before ≡ 64
   unfolding before
@@ -258,12 +251,12 @@ module _ (mark : ℕ) (es fs gs : List Entry) (old : Entry) (i n : ℕ) (w : All
   out = es ++ fs ++ (clearPlace ∷ gs)
 
   full-whole : AllWhole full
-  unfolding full AllWhole
-  full-whole = whole-append (es ++ (old ∷ fs)) gs (whole-append es (old ∷ fs) w (o, v)) u
+  unfolding full Each
+  full-whole = each-append Whole (es ++ (old ∷ fs)) gs (each-append Whole es (old ∷ fs) w (o, v)) u
 
   out-whole : AllWhole out
-  unfolding out AllWhole
-  out-whole = whole-append (es ++ fs) (clearPlace ∷ gs) (whole-append es fs w v) (refl, u)
+  unfolding out Each
+  out-whole = each-append Whole (es ++ fs) (clearPlace ∷ gs) (each-append Whole es fs w v) (refl, u)
 
   full-long : length full ≡ 64
   unfolding full

@@ -1,4 +1,4 @@
+pub mod Lists
 pub mod Columns
 pub mod Places
 pub mod Changes
-pub mod Lists

@@ -15,6 +15,7 @@ use Rattle.little_endian.proofs.Bytes.{bytes-number}
 use Rattle.watch_list.specs.List.{Entry}
 use Rattle.watch_list.specs.Layout.{keysAt, estimatesAt, listSize, lengthField, keyField, estimateField, column, laidOut, encode, keyBytes, placeAt, placesFrom, inUse, decode, allZero, soundLengths, sound}
 use Rattle.watch_list.specs.Parts.{Holds}
+use Rattle.watch_list.proofs.Lists.{Each}
 use Rattle.watch_list.proofs.Columns.{Whole, AllWhole}
 
 pub places-length : (xs : List ℕ) (n k : ℕ) → length (placesFrom xs n k) ≡ n
@@ -75,7 +76,7 @@ module _ (xs : List ℕ) (long : length xs ≡ listSize) where
   place-whole k h = ap length (place-key k) ∙ key-bytes-long k h
 
   pub places-whole : (n k : ℕ) → n + k ≤ 64 → AllWhole (placesFrom xs n k)
-  unfolding placesFrom AllWhole
+  unfolding placesFrom Each
   places-whole zero k h = tt
   places-whole (suc n) k h = (place-whole k (omega arith), places-whole n (suc k) (omega arith))
 
