@@ -1,4 +1,4 @@
--- Document 01's numbers of refusals, in checking order. Cited by contracts and theorems.
+-- The numbers of refusals, of documents 01 and 02, in checking order. Cited by contracts and theorems.
 use Prim.Native.Nat.{ℕ}
 use mathlib.Core.List.{List, [], _∷_}
 
@@ -14,8 +14,9 @@ wrongLength = 3
 abbrev pub invalidKeyLength : ℕ
 invalidKeyLength = 4
 
-abbrev pub invalidMerge : ℕ
-invalidMerge = 5
+-- a merge byte, or what is kept beside a meter, that is not valid
+abbrev pub invalidContent : ℕ
+invalidContent = 5
 
 abbrev pub counterFull : ℕ
 counterFull = 6
@@ -32,6 +33,9 @@ badPayload = 9
 abbrev pub otherMeter : ℕ
 otherMeter = 10
 
+abbrev pub zeroThreshold : ℕ
+zeroThreshold = 11
+
 -- The list. A number's line comes before another's where it stands before it here, whatever their sizes.
 abbrev pub order : List ℕ
 order =
@@ -39,7 +43,8 @@ order =
     ∷ invalidWidth
     ∷ wrongLength
     ∷ invalidKeyLength
-    ∷ invalidMerge
+    ∷ invalidContent
+    ∷ zeroThreshold
     ∷ counterFull
     ∷ tooFewWords
     ∷ badWord

@@ -14,7 +14,8 @@ pub const WRONG_LENGTH: u8 = 3;
 
 pub const INVALID_KEY_LENGTH: u8 = 4;
 
-pub const INVALID_MERGE: u8 = 5;
+// A merge byte, or what is kept beside a meter, that is not valid.
+pub const INVALID_CONTENT: u8 = 5;
 
 pub const COUNTER_FULL: u8 = 6;
 
@@ -26,13 +27,16 @@ pub const BAD_PAYLOAD: u8 = 9;
 
 pub const OTHER_METER: u8 = 10;
 
+pub const ZERO_THRESHOLD: u8 = 11;
+
 // The list, in checking order.
-const ORDER: [u8; 10] = [
+const ORDER: [u8; 11] = [
     INVALID_DEPTH,
     INVALID_WIDTH,
     WRONG_LENGTH,
     INVALID_KEY_LENGTH,
-    INVALID_MERGE,
+    INVALID_CONTENT,
+    ZERO_THRESHOLD,
     COUNTER_FULL,
     TOO_FEW_WORDS,
     BAD_WORD,

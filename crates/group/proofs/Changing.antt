@@ -5,8 +5,8 @@ use Prim.Native.Nat.{ℕ, zero, suc, _/_, _%_, _^_, _<_}
 use native.Mathlib.Nat.{mod-eq-of-lt, mod-lt}
 use native.Mathlib.Omega.{arith}
 use lib.ListN.{getD, replicate}
-use Rattle.group_bytes.specs.Bytes.{number, bytes}
-use Rattle.group_bytes.proofs.Bytes.{number-bytes, bytes-length}
+use Rattle.little_endian.specs.Bytes.{number, bytes}
+use Rattle.little_endian.proofs.Bytes.{number-bytes, bytes-length}
 use Rattle.group_layout.specs.Layout.{layout, valid}
 use Rattle.group_block.specs.Block.{Block, cap, Fits, shape, numberOf, block, counterAt}
 use Rattle.group_block.specs.Change.{change}

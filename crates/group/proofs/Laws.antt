@@ -8,9 +8,9 @@ use native.Mathlib.Omega.{arith}
 use borrow.Author.Tests.{ltb-true, ltb-false}
 use lib.Dec.{ltb}
 use lib.ListN.{length}
-use Rattle.group_bytes.specs.Bytes.{number}
+use Rattle.little_endian.specs.Bytes.{number}
 use Rattle.laws.proofs.Lists.{Bytes}
-use Rattle.group_bytes.proofs.Bytes.{number-lt, number-bytes, bytes-number}
+use Rattle.little_endian.proofs.Bytes.{number-lt, number-bytes, bytes-number}
 use Rattle.group_layout.specs.Layout.{valid}
 use Rattle.group_layout.proofs.Laws.{valid-marks}
 use Rattle.group_block.specs.declared.Summed.{Summed}
@@ -26,7 +26,7 @@ use Rattle.group.specs.declared.Kept.{Kept}
 use Rattle.group.specs.declared.Outcome.{Outcome}
 use Rattle.group.specs.Group.{decode, encode, settle, unchanged, added, holds, unitedGroups}
 use Rattle.group.specs.Stored.{stored}
-use Rattle.answer.specs.Numbers.{invalidMerge, counterFull}
+use Rattle.answer.specs.Numbers.{invalidContent, counterFull}
 
 -- a counter of level 3 holds 64 bits
 pub cap-three : cap 3 ≡ 2 ^ 64
@@ -76,7 +76,7 @@ settle-over g (fits b) f h = absurd (omega (arith, total-lt b f, cap-three))
 settle-over g (over s) f h = refl
 
 module _ (g : Group) (slot amount : ℕ) where
-  pub added-invalid : valid 3 (g .merge) ≡ false → added g slot amount ≡ unchanged invalidMerge g
+  pub added-invalid : valid 3 (g .merge) ≡ false → added g slot amount ≡ unchanged invalidContent g
   unfolding added
   added-invalid v = rw v
 
@@ -120,11 +120,11 @@ module _ (g : Group) (slot amount : ℕ) where
       added-held (sym h ∙ t) ∙ ap (λ (l : List ℕ). record { status = 0; group = record { counts = l; merge = g .merge } }) (sym (rw t at e))
 
 module _ (g source : Group) where
-  pub united-invalid : valid 3 (g .merge) ≡ false → unitedGroups g source ≡ unchanged invalidMerge g
+  pub united-invalid : valid 3 (g .merge) ≡ false → unitedGroups g source ≡ unchanged invalidContent g
   unfolding unitedGroups
   united-invalid v = rw v
 
-  pub united-source-invalid : valid 3 (g .merge) ≡ true → valid 3 (source .merge) ≡ false → unitedGroups g source ≡ unchanged invalidMerge g
+  pub united-source-invalid : valid 3 (g .merge) ≡ true → valid 3 (source .merge) ≡ false → unitedGroups g source ≡ unchanged invalidContent g
   unfolding unitedGroups
   united-source-invalid v w = rw (v, w)
 
@@ -154,8 +154,8 @@ module _ (g source : Group) where
   unfolding unitedGroups settle
   united-refused = go (valid 3 (g .merge) && valid 3 (source .merge)) (unite (decode g) (decode source))
     where
-      go : (t : Bool) (x : Sum 3) → (cond t (settle g x) (unchanged invalidMerge g) .status ≡ 0 → ⊥)
-          → cond t (settle g x) (unchanged invalidMerge g) ≡ unchanged (cond t (settle g x) (unchanged invalidMerge g) .status) g
+      go : (t : Bool) (x : Sum 3) → (cond t (settle g x) (unchanged invalidContent g) .status ≡ 0 → ⊥)
+          → cond t (settle g x) (unchanged invalidContent g) ≡ unchanged (cond t (settle g x) (unchanged invalidContent g) .status) g
       go true (fits b) n = absurd (n refl)
       go true (over s) n = refl
       go false x n = refl
@@ -164,7 +164,7 @@ module _ (g source : Group) where
   unfolding unitedGroups
   both-valid = go (valid 3 (g .merge) && valid 3 (source .merge))
     where
-      go : (t : Bool) → cond t (settle g (unite (decode g) (decode source))) (unchanged invalidMerge g) .status ≡ 0 → t ≡ true
+      go : (t : Bool) → cond t (settle g (unite (decode g) (decode source))) (unchanged invalidContent g) .status ≡ 0 → t ≡ true
       go true e = refl
       go false e = absurd (omega arith)
 

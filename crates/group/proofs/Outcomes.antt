@@ -4,12 +4,12 @@ use mathlib.Core.Bool.{Bool, true, false, cond, _&&_}
 use Prim.Native.Nat.{ℕ, _%_}
 use native.Mathlib.Omega.{arith}
 use lib.ListN.{length}
-use Rattle.group_bytes.proofs.Bytes.{bytes-length}
+use Rattle.little_endian.proofs.Bytes.{bytes-length}
 use Rattle.group_layout.specs.Layout.{valid}
 use Rattle.group_block.specs.Block.{numberOf}
 use Rattle.group_block.specs.Sum.{Sum, fits, over, add, unite}
 use Rattle.group.specs.declared.Group.{Group}
-use Rattle.answer.specs.Numbers.{invalidMerge}
+use Rattle.answer.specs.Numbers.{invalidContent}
 use Rattle.group.specs.Group.{decode, encode, settle, unchanged, added, unitedGroups}
 use Rattle.group.proofs.Laws.{encode-valid}
 
@@ -23,12 +23,12 @@ unfolding settle
 settle-valid g (fits b) e = encode-valid b
 settle-valid g (over s) e = absurd (omega arith)
 
-either-eight : (b : Bool) (g : Group) (x : Sum 3) → length (g .counts) ≡ 8 → length (cond b (settle g x) (unchanged invalidMerge g) .group .counts) ≡ 8
+either-eight : (b : Bool) (g : Group) (x : Sum 3) → length (g .counts) ≡ 8 → length (cond b (settle g x) (unchanged invalidContent g) .group .counts) ≡ 8
 either-eight true g x h = settle-eight g x h
 either-eight false g x h = h
 
-either-valid : (b : Bool) (g : Group) (x : Sum 3) → cond b (settle g x) (unchanged invalidMerge g) .status ≡ 0
-    → valid 3 (cond b (settle g x) (unchanged invalidMerge g) .group .merge) ≡ true
+either-valid : (b : Bool) (g : Group) (x : Sum 3) → cond b (settle g x) (unchanged invalidContent g) .status ≡ 0
+    → valid 3 (cond b (settle g x) (unchanged invalidContent g) .group .merge) ≡ true
 either-valid true g x e = settle-valid g x e
 either-valid false g x e = absurd (omega arith)
 

@@ -2,7 +2,7 @@
 use Prim.Native.Nat.{ℕ, _+_, _%_}
 use mathlib.Core.Bool.{Bool, cond, _&&_}
 use lib.Dec.{ltb}
-use Rattle.group_bytes.specs.Bytes.{number, bytes}
+use Rattle.little_endian.specs.Bytes.{number, bytes}
 use Rattle.group_layout.specs.Layout.{marks, layout, valid}
 use Rattle.group_layout.specs.Layout as layout-spec
 use Rattle.group_block.specs.declared.Counter.{Counter}
@@ -15,7 +15,7 @@ use Rattle.group.specs.declared.Group.{Group}
 use Rattle.group.specs.declared.Reading.{Reading}
 use Rattle.group.specs.declared.Outcome.{Outcome}
 use Rattle.answer.specs.Answers.{accepted, refused}
-use Rattle.answer.specs.Numbers.{invalidMerge, counterFull}
+use Rattle.answer.specs.Numbers.{invalidContent, counterFull}
 
 -- whether a merge byte is one of the 26 valid ones
 abbrev pub validMerge : ℕ → Bool
@@ -33,7 +33,7 @@ unfoldable pub reading : Counter → Reading
 reading c = record { status = 0; value = c .value; level = c .level }
 
 unfoldable pub read : Group → ℕ → Reading
-read g slot = cond (valid 3 (g .merge)) (reading (counterAt (decode g) (slot % 8))) (record { status = invalidMerge; value = 0; level = 0 })
+read g slot = cond (valid 3 (g .merge)) (reading (counterAt (decode g) (slot % 8))) (record { status = invalidContent; value = 0; level = 0 })
 
 -- a refused call leaves the group as it was
 abbrev pub unchanged : ℕ → Group → Outcome
@@ -45,7 +45,7 @@ settle g (over s) = unchanged counterFull g
 
 -- an amount added to the counter of a slot
 unfoldable pub added : Group → ℕ → ℕ → Outcome
-added g slot amount = cond (valid 3 (g .merge)) (settle g (sum.add (decode g) (slot % 8) amount)) (unchanged invalidMerge g)
+added g slot amount = cond (valid 3 (g .merge)) (settle g (sum.add (decode g) (slot % 8) amount)) (unchanged invalidContent g)
 
 -- whether the counter of a slot holds its value with an amount added
 unfoldable pub holds : Group → ℕ → ℕ → Bool
@@ -54,15 +54,15 @@ holds g slot amount = valid 3 (g .merge) && ltb (counterAt (decode g) (slot % 8)
 -- a source group united with a target
 unfoldable pub unitedGroups : Group → Group → Outcome
 unitedGroups target source =
-    cond (valid 3 (target .merge) && valid 3 (source .merge)) (settle target (sum.unite (decode target) (decode source))) (unchanged invalidMerge target)
+    cond (valid 3 (target .merge) && valid 3 (source .merge)) (settle target (sum.unite (decode target) (decode source))) (unchanged invalidContent target)
 
 -- the largest level of a group's counters
 unfoldable pub widestOf : ℕ → Answer
-widestOf m = cond (valid 3 m) (accepted (layout-spec.widestIn (layout 3 m))) (refused invalidMerge)
+widestOf m = cond (valid 3 m) (accepted (layout-spec.widestIn (layout 3 m))) (refused invalidContent)
 
 -- another value in the counter of a slot; the layout stays
 unfoldable pub changed : Group → ℕ → ℕ → Outcome
 changed g slot value =
     cond (valid 3 (g .merge))
     (record { status = 0; group = record { counts = bytes 8 (numberOf (change (decode g) (slot % 8) value)); merge = g .merge } })
-    (unchanged invalidMerge g)
+    (unchanged invalidContent g)

@@ -1,5 +1,5 @@
 -- The code's own terms. The group that the code makes of the count bytes and merge bits of a block.
-use Rattle.group_bytes.specs.Bytes.{bytes}
+use Rattle.little_endian.specs.Bytes.{bytes}
 use Rattle.group_block.specs.declared.Summed.{Summed}
 use Rattle.group.specs.declared.Outcome.{Outcome}
 

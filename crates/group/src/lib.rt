@@ -45,12 +45,12 @@ pub fn counter(g: Group, slot: usize) -> Reading
     let counts = g.counts;
     if !is_valid(g.merge) {
         return Reading {
-            status: answer::INVALID_MERGE,
+            status: answer::INVALID_CONTENT,
             value: 0,
             level: 0,
         };
     }
-    let c = group_sums::counter_at(group_bytes::number_of(counts), g.merge, slot % 8);
+    let c = group_sums::counter_at(little_endian::number_of(counts), g.merge, slot % 8);
     Reading {
         status: 0,
         value: c.value,
@@ -65,7 +65,7 @@ fn settled(s: Summed) -> Outcome
     Outcome {
         status: 0,
         group: Group {
-            counts: group_bytes::bytes_of(s.word),
+            counts: little_endian::bytes_of(s.word),
             merge: s.merge,
         },
     }
@@ -96,7 +96,7 @@ pub fn add_in_place(g: Group, slot: usize, amount: u32) -> Kept
             counts,
         };
     }
-    let sum = group_sums::add_in_place(group_bytes::number_of(counts), g.merge, slot % 8, amount);
+    let sum = group_sums::add_in_place(little_endian::number_of(counts), g.merge, slot % 8, amount);
     if sum.over {
         return Kept {
             held: false,
@@ -105,7 +105,7 @@ pub fn add_in_place(g: Group, slot: usize, amount: u32) -> Kept
     }
     Kept {
         held: true,
-        counts: group_bytes::bytes_of(sum.word),
+        counts: little_endian::bytes_of(sum.word),
     }
 }
 
@@ -116,9 +116,9 @@ pub fn add_widening(g: Group, slot: usize, amount: u32) -> Outcome
 {
     let counts = g.counts;
     if !is_valid(g.merge) {
-        return unchanged(answer::INVALID_MERGE, g);
+        return unchanged(answer::INVALID_CONTENT, g);
     }
-    let word = group_bytes::number_of(counts);
+    let word = little_endian::number_of(counts);
     let k = slot % 8;
     let level = level_at(g.merge, k);
     if level == 3 {
@@ -152,13 +152,13 @@ pub fn unite_status(target: Group, source: Group) -> u8
     let target_counts = target.counts;
     let source_counts = source.counts;
     if !is_valid(target.merge) {
-        return answer::INVALID_MERGE;
+        return answer::INVALID_CONTENT;
     }
     if !is_valid(source.merge) {
-        return answer::INVALID_MERGE;
+        return answer::INVALID_CONTENT;
     }
-    let target_word = group_bytes::number_of(target_counts);
-    let source_word = group_bytes::number_of(source_counts);
+    let target_word = little_endian::number_of(target_counts);
+    let source_word = little_endian::number_of(source_counts);
     if !sum_fits(target_word, target.merge, source_word, source.merge) {
         return answer::COUNTER_FULL;
     }
@@ -175,8 +175,8 @@ pub fn unite(target: Group, source: Group) -> Outcome
     if status != 0 {
         return unchanged(status, target);
     }
-    let word = group_bytes::number_of(target_counts);
-    let source_word = group_bytes::number_of(source_counts);
+    let word = little_endian::number_of(target_counts);
+    let source_word = little_endian::number_of(source_counts);
     settled(group_union::unite(3, word, target.merge, source_word, source.merge))
 }
 
@@ -185,7 +185,7 @@ pub fn widest(merge: u8) -> Answer
     ensures { λ r. ⌜ r ≡ widestOf merge ⌝ }
 {
     if !is_valid(merge) {
-        return answer::refused(answer::INVALID_MERGE);
+        return answer::refused(answer::INVALID_CONTENT);
     }
     answer::accepted(widest_level(merge) as u64)
 }
@@ -196,13 +196,13 @@ pub fn change(g: Group, slot: usize, value: u64) -> Outcome
 {
     let counts = g.counts;
     if !is_valid(g.merge) {
-        return unchanged(answer::INVALID_MERGE, g);
+        return unchanged(answer::INVALID_CONTENT, g);
     }
-    let word = with_value(group_bytes::number_of(counts), g.merge, slot % 8, value);
+    let word = with_value(little_endian::number_of(counts), g.merge, slot % 8, value);
     Outcome {
         status: 0,
         group: Group {
-            counts: group_bytes::bytes_of(word),
+            counts: little_endian::bytes_of(word),
             merge: g.merge,
         },
     }

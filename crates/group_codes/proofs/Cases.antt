@@ -1,6 +1,6 @@
 -- P1 to P12 hold of the definitions, by computation.
 use mathlib.Core.Path.{refl}
-use Rattle.group_bytes.specs.Bytes.{number, bytes}
+use Rattle.little_endian.specs.Bytes.{number, bytes}
 use Rattle.group_layout.specs.Layout.{bit, ones, marks, layout, valid}
 use Rattle.group_layout.specs.Code.{layouts, mergedCode, code}
 use Rattle.group_block.specs.Block.{cap, shape, numberOf, fill, block, total}

@@ -14,7 +14,7 @@ use Rattle.group_layout.proofs.Laws.{layout-marks, marks-layout, valid-marks}
 use Rattle.group_layout.proofs.Codes.{code-lt, uncode-code, code-uncode}
 use Rattle.group.specs.Group.{validMerge}
 use Rattle.answer.specs.Answers.{accepted, refused}
-use Rattle.answer.specs.Numbers.{invalidMerge, badPayload}
+use Rattle.answer.specs.Numbers.{invalidContent, badPayload}
 use Rattle.group_codes.specs.declared.Unpacked.{Unpacked}
 use Rattle.group_codes.specs.Pack.{layoutsOf, mergeCode, codeMerge, codeOfFour, fourCode, packed, fourMerges, unpacked}
 use Rattle.group_codes.specs.Codes.{codeOf, isCode, fourOf, codesOf, mergesOf}
@@ -100,7 +100,7 @@ pub packed-lt : (a b c d : ℕ) → packed a b c d .value < layoutsOf 4
 unfolding packed
 packed-lt a b c d = go (validMerge a && validMerge b && validMerge c && validMerge d)
   where
-    go : (t : Bool) → cond t (accepted (fourCode a b c d)) (refused invalidMerge) .value < layoutsOf 4
+    go : (t : Bool) → cond t (accepted (fourCode a b c d)) (refused invalidContent) .value < layoutsOf 4
     go true = four-below a b c d
     go false = omega arith
 
@@ -119,7 +119,7 @@ four-of a b c d =
     go (mergeCode a) (mergeCode b) (mergeCode c) (mergeCode d) (code-below a) (code-below b) (code-below c) (code-below d) (validMerge a) (validMerge b) (validMerge c) (validMerge d)
   where
     go : (w x y z : ℕ) → w < 26 → x < 26 → y < 26 → z < 26 → (p q r s : Bool)
-        → cond (p && q && r && s) (accepted (codeOfFour w x y z)) (refused invalidMerge) .value
+        → cond (p && q && r && s) (accepted (codeOfFour w x y z)) (refused invalidContent) .value
         ≡ cond (isCode (cond p w 26) && isCode (cond q x 26) && isCode (cond r y 26) && isCode (cond s z 26))
         (codeOfFour (cond p w 26) (cond q x 26) (cond r y 26) (cond s z 26)) 0
     go w x y z hw hx hy hz false q r s = refl

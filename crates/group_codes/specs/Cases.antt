@@ -6,7 +6,7 @@ use Rattle.answer.specs.declared.Answer.{Answer}
 use Rattle.group.specs.declared.Group.{Group}
 use Rattle.group.specs.declared.Outcome.{Outcome}
 use Rattle.answer.specs.Answers.{accepted, refused}
-use Rattle.answer.specs.Numbers.{invalidMerge, counterFull}
+use Rattle.answer.specs.Numbers.{invalidContent, counterFull}
 use Rattle.group.specs.Group.{unchanged, added, unitedGroups}
 use Rattle.group_codes.specs.Pack.{groupCode, packed}
 
@@ -64,9 +64,9 @@ cases =
     ∷ codes 0x07 (accepted 20)
     ∷ codes 0x77 (accepted 24)
     ∷ codes 0x7f (accepted 25)
-    ∷ codes 0x02 (refused invalidMerge)
-    ∷ codes 0x08 (refused invalidMerge)
-    ∷ codes 0x80 (refused invalidMerge)
+    ∷ codes 0x02 (refused invalidContent)
+    ∷ codes 0x08 (refused invalidContent)
+    ∷ codes 0x80 (refused invalidContent)
     -- P10
     ∷ packs 0x70 0x44 0x00 0x00 (accepted 74360)
     ∷ packs 0x7f 0x7f 0x7f 0x7f (accepted 456975)

@@ -8,7 +8,7 @@ use Rattle.group_layout.specs.Code.{code, uncode}
 use Rattle.answer.specs.declared.Answer.{Answer}
 use Rattle.group.specs.Group.{validMerge}
 use Rattle.answer.specs.Answers.{accepted, refused}
-use Rattle.answer.specs.Numbers.{invalidMerge, badPayload}
+use Rattle.answer.specs.Numbers.{invalidContent, badPayload}
 use Rattle.group_codes.specs.declared.Unpacked.{Unpacked}
 
 -- how many layouts n groups in a row have: 26, 676, 17,576, 456,976
@@ -24,7 +24,7 @@ codeMerge c = marks (uncode 3 c)
 
 -- the layout code of one group
 unfoldable pub groupCode : ℕ → Answer
-groupCode m = cond (validMerge m) (accepted (mergeCode m)) (refused invalidMerge)
+groupCode m = cond (validMerge m) (accepted (mergeCode m)) (refused invalidContent)
 
 -- the layout code of four groups in a row, by the code of each
 abbrev pub codeOfFour : ℕ → ℕ → ℕ → ℕ → ℕ
@@ -34,7 +34,7 @@ unfoldable pub fourCode : ℕ → ℕ → ℕ → ℕ → ℕ
 fourCode a b c d = codeOfFour (mergeCode a) (mergeCode b) (mergeCode c) (mergeCode d)
 
 unfoldable pub packed : ℕ → ℕ → ℕ → ℕ → Answer
-packed a b c d = cond (validMerge a && validMerge b && validMerge c && validMerge d) (accepted (fourCode a b c d)) (refused invalidMerge)
+packed a b c d = cond (validMerge a && validMerge b && validMerge c && validMerge d) (accepted (fourCode a b c d)) (refused invalidContent)
 
 -- the four merge bytes of a code; all 0 when refused
 unfoldable pub fourMerges : ℕ → List ℕ

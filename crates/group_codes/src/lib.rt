@@ -26,7 +26,7 @@ pub fn code(merge: u8) -> Answer
     ensures { λ r. ⌜ r ≡ groupCode merge ⌝ }
 {
     if !group::is_valid(merge) {
-        return answer::refused(answer::INVALID_MERGE);
+        return answer::refused(answer::INVALID_CONTENT);
     }
     answer::accepted(group_layout::code(3, merge) as u64)
 }
@@ -49,7 +49,7 @@ pub fn pack(a: u8, b: u8, c: u8, d: u8) -> Answer
     ensures { λ r. ⌜ r ≡ packed a b c d ⌝ }
 {
     if !four_valid(a, b, c, d) {
-        return answer::refused(answer::INVALID_MERGE);
+        return answer::refused(answer::INVALID_CONTENT);
     }
     let high = group_layout::code(3, a) * THREE_LAYOUTS + group_layout::code(3, b) * TWO_LAYOUTS;
     let three = high + group_layout::code(3, c) * LAYOUTS;

@@ -7,8 +7,8 @@ use native.Mathlib.Omega.{arith}
 use lib.Arith.{digits-lt}
 use lib.ListN.{replicate}
 use lib.Pow.{pow-pos, pow-add, pow-mono, field, mod-mod-pow, shr-shr}
-use Rattle.group_bytes.specs.Bytes.{number, bytes}
-use Rattle.group_bytes.proofs.Bytes.{number-bytes}
+use Rattle.little_endian.specs.Bytes.{number, bytes}
+use Rattle.little_endian.proofs.Bytes.{number-bytes}
 use Rattle.group_block.specs.Block.{cap, block, counterAt}
 use Rattle.group.specs.declared.Group.{Group}
 use Rattle.group.specs.Group.{validMerge, decode, read, changed}

@@ -11,7 +11,7 @@ use lib.Dec.{ltb}
 use lib.ListN.{getD}
 use lib.Pow.{pow-pos, shr-shr}
 use Rattle.laws.proofs.Lists.{Bytes}
-use Rattle.group_bytes.specs.Bytes.{number}
+use Rattle.little_endian.specs.Bytes.{number}
 use Rattle.group_layout.specs.Layout.{Layout, layout, valid, bit, ones}
 use Rattle.group_block.specs.declared.Counter.{Counter}
 use Rattle.group_block.specs.Block.{cap, counterAt}
@@ -20,7 +20,7 @@ use Rattle.group_slots.proofs.Slots.{levelOf, level-is, level-le, value-lt}
 use Rattle.group.specs.declared.Group.{Group}
 use Rattle.group.specs.declared.Reading.{Reading}
 use Rattle.group.specs.Group.{validMerge, decode, read, reading, changed}
-use Rattle.answer.specs.Numbers.{invalidMerge}
+use Rattle.answer.specs.Numbers.{invalidContent}
 use Rattle.group.proofs.Laws.{Eight, number-in}
 use Rattle.group.proofs.Changing.{Good, good-fits, shape-decode, read-is, good-changed}
 use Rattle.group.proofs.Changing as changing
@@ -40,7 +40,7 @@ module _ (g : Group) where
       go true e = f e
       go false e = h e
 
-  pub invalid-reading : (k : ℕ) → validMerge (g .merge) ≡ false → read g k ≡ record { status = invalidMerge; value = 0; level = 0 }
+  pub invalid-reading : (k : ℕ) → validMerge (g .merge) ≡ false → read g k ≡ record { status = invalidContent; value = 0; level = 0 }
   unfolding read
   invalid-reading k e = rw e
 
@@ -63,7 +63,7 @@ pub level-most : (g : Group) (k : ℕ) → read g k .level ≤ 3
 unfolding read reading
 level-most g k = go (validMerge (g .merge))
   where
-    go : (b : Bool) → cond b (reading (counterAt (decode g) (k % 8))) (record { status = invalidMerge; value = 0; level = 0 }) .level ≤ 3
+    go : (b : Bool) → cond b (reading (counterAt (decode g) (k % 8))) (record { status = invalidContent; value = 0; level = 0 }) .level ≤ 3
     go true = level-le (decode g) (k % 8)
     go false = omega arith
 
@@ -73,7 +73,7 @@ unfolding read reading
 level-of g k = go (validMerge (g .merge))
   where
     go : (b : Bool)
-        → cond b (reading (counterAt (decode g) (k % 8))) (record { status = invalidMerge; value = 0; level = 0 }) .level
+        → cond b (reading (counterAt (decode g) (k % 8))) (record { status = invalidContent; value = 0; level = 0 }) .level
         ≡ cond b (levelOf (layout 3 (g .merge)) (k % 8)) 0
     go true = level-is (decode g) (k % 8) ∙ ap (λ (L : Layout 3). levelOf L (k % 8)) (shape-decode g)
     go false = refl

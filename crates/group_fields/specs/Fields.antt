@@ -1,7 +1,7 @@
 -- A group's count bytes as bit fields. The code's own terms: contracts of this crate and of those that write and read images cite them.
 use Prim.Native.Nat.{ℕ, _+_, _*_, _/_, _%_, _^_}
 use mathlib.Core.List.{List}
-use Rattle.group_bytes.specs.Bytes.{number, bytes}
+use Rattle.little_endian.specs.Bytes.{number, bytes}
 use Rattle.group.specs.declared.Group.{Group}
 use Rattle.group_fields.specs.declared.Fields.{Fields}
 

@@ -22,7 +22,7 @@ impl Fields {
         ensures { λ r. ⌜ r ≡ fieldsOf counts ⌝ }
     {
         Fields {
-            word: group_bytes::number_of(counts),
+            word: little_endian::number_of(counts),
         }
     }
 
@@ -30,7 +30,7 @@ impl Fields {
     pub fn counts(self) -> [u8; 8]
         ensures { λ r. ⌜ r ≡ countsOf self ⌝ }
     {
-        group_bytes::bytes_of(self.word)
+        little_endian::bytes_of(self.word)
     }
 
     // So many bits from a place on.

@@ -12,8 +12,8 @@ use lib.Pow.{pow-pos, pow-mono}
 use lib.Seq.{length-take-le}
 use Rattle.laws.proofs.Lists.{Bytes, bytes-drop, bytes-take}
 use Rattle.laws.proofs.Tests.{both-ways}
-use Rattle.group_bytes.specs.Bytes.{number}
-use Rattle.group_bytes.proofs.Bytes.{number-lt}
+use Rattle.little_endian.specs.Bytes.{number}
+use Rattle.little_endian.proofs.Bytes.{number-lt}
 use Rattle.group_layout.specs.Layout.{ones, marks, layout}
 use Rattle.group_block.specs.Block.{counter, cap, shape, fill, block, total}
 use Rattle.group_block.specs.Sum.{Sum, fits, over, held, join, unite, sumTotal}

@@ -12,8 +12,8 @@ use lib.ListN.{length, take, drop, length-drop}
 use lib.Pow.{pow-add}
 use lib.Seq.{length-take-le}
 use Rattle.laws.proofs.Lists.{Bytes}
-use Rattle.group_bytes.specs.Bytes.{number, bytes}
-use Rattle.group_bytes.proofs.Bytes.{number-lt, bytes-number}
+use Rattle.little_endian.specs.Bytes.{number, bytes}
+use Rattle.little_endian.proofs.Bytes.{number-lt, bytes-number}
 use Rattle.group_layout.specs.Layout.{Layout, merged, halves, bit, ones, layout, valid}
 use Rattle.group_block.specs.Block.{Block, cap, Fits, fill, block, total}
 use Rattle.group_block.specs.Sum.{fits, held, join, unite}

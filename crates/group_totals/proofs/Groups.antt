@@ -6,7 +6,7 @@ use native.Mathlib.Nat.{mod-lt}
 use native.Mathlib.Omega.{arith}
 use lib.Dec.{eqb}
 use lib.ListN.{getD, replicate}
-use Rattle.group_bytes.specs.Bytes.{bytes}
+use Rattle.little_endian.specs.Bytes.{bytes}
 use Rattle.group_layout.specs.Layout.{valid, marks, ones}
 use Rattle.group_layout.specs.Layout as layouts
 use Rattle.group_layout.proofs.Laws.{layout-marks, marks-in, widest-le}

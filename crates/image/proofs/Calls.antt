@@ -7,7 +7,7 @@ use borrow.Author.Tests.{eq-eqb, ne-eqb, le-leb, lt-leb}
 use lib.Dec.{leb}
 use lib.ListN.{length, drop}
 use Rattle.answer.specs.Answers.{accepted, refused, answerOf, leaves}
-use Rattle.answer.specs.Numbers.{invalidMerge, tooFewWords}
+use Rattle.answer.specs.Numbers.{invalidContent, tooFewWords}
 use Rattle.geometry.specs.Geometry.{stride, size}
 use Rattle.answer.specs.Order.{unless, firstOf}
 use Rattle.geometry.specs.Checks.{badShape}
@@ -36,12 +36,12 @@ module _ (d w : ℕ) (memory words : List ℕ) where
   write-call s e h = rw (← e) (go s h)
     where
       go : (s : ℕ) → (s ≡ 0 → ⊥)
-          → finishWrite (firstOf (s ∷ unless (validRows d w memory) invalidMerge ∷ unless (leb (length (image d w memory)) (length words)) tooFewWords ∷ [])) (image d w memory) words ≡ record { answer = refused s; words = words }
+          → finishWrite (firstOf (s ∷ unless (validRows d w memory) invalidContent ∷ unless (leb (length (image d w memory)) (length words)) tooFewWords ∷ [])) (image d w memory) words ≡ record { answer = refused s; words = words }
       go zero h = absurd (h refl)
       go (suc s) h = rw (ne-eqb (suc s) 0 h)
 
   module _ (s : ℕ) (e : s ≡ badShape d w (length memory)) (z : s ≡ 0) where
-    pub write-invalid : validRows d w memory ≡ false → written d w memory words ≡ record { answer = refused invalidMerge; words = words }
+    pub write-invalid : validRows d w memory ≡ false → written d w memory words ≡ record { answer = refused invalidContent; words = words }
     unfolding written writeStatus firstOf finishWrite answerOf leaves
     write-invalid v = rw (← e, z, v)
 

@@ -16,7 +16,7 @@ pub fn write(d: usize, w: usize, memory: &[u8], words: &mut [u32]) -> Answer
         return answer::refused(status);
     }
     if !image_size::rows_valid(memory, d, w) {
-        return answer::refused(answer::INVALID_MERGE);
+        return answer::refused(answer::INVALID_CONTENT);
     }
     let n = image_size::table_size(memory, w);
     let sizes = image_format::size_table(n);

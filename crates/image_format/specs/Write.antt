@@ -7,7 +7,7 @@ use lib.ListN.{length, take, drop}
 use Rattle.answer.specs.declared.Answer.{Answer}
 use Rattle.group.specs.Group.{validMerge}
 use Rattle.answer.specs.Answers.{answerOf, leaves}
-use Rattle.answer.specs.Numbers.{invalidMerge, tooFewWords}
+use Rattle.answer.specs.Numbers.{invalidContent, tooFewWords}
 use Rattle.geometry.specs.Geometry.{stride}
 use Rattle.answer.specs.Order.{unless, firstOf}
 use Rattle.geometry.specs.Checks.{badShape}
@@ -42,7 +42,7 @@ pub record Written : Type 0 where
 unfoldable pub writeStatus : ℕ → ℕ → List ℕ → List ℕ → ℕ
 writeStatus d w memory words =
     firstOf
-    (badShape d w (length memory) ∷ unless (validRows d w memory) invalidMerge
+    (badShape d w (length memory) ∷ unless (validRows d w memory) invalidContent
     ∷ unless (leb (length (image d w memory)) (length words)) tooFewWords ∷ [])
 
 -- Lent words past the image stay.

@@ -13,8 +13,8 @@ ghost use lib.ListN.{length, replicate};
 ghost use Rattle.meter.specs.Meter.{cleared, badCall, updated, estimated};
 ghost use Rattle.meter.specs.Meter as spec;
 
-// Every byte 0.
-fn fill(memory: &mut [u8])
+// Every byte 0: a meter, or what is kept beside one.
+pub fn fill(memory: &mut [u8])
     ensures { λ _. ⌜ now (memory .exit) ≡ replicate (length (now (memory .entry))) 0 ⌝ }
 {
     for i in 0..memory.len() {

@@ -1,8 +1,16 @@
--- Where a key lands in a row. Document 01, 'Where a key lands'. Cited by contracts.
+-- Where a key lands in a row. Document 01, 'Where a key lands'. And whether two keys are the same. Cited by contracts and theorems.
 use Prim.Native.Nat.{ℕ}
-use mathlib.Core.List.{List}
+use mathlib.Core.Bool.{Bool, true, false, _&&_}
+use mathlib.Core.List.{List, [], _∷_}
+use lib.Dec.{eqb}
 use Rattle.hash.specs.Hash.{rowHash, slotOf}
 
 -- the slot of a key in row r, by a hash that goes on from a state
 unfoldable pub keySlot : ℕ → ℕ → List ℕ → ℕ → ℕ
 keySlot state w key r = slotOf (rowHash state r key) w
+
+unfoldable pub sameKey : List ℕ → List ℕ → Bool
+sameKey [] [] = true
+sameKey [] (b ∷ bs) = false
+sameKey (b ∷ bs) [] = false
+sameKey (b ∷ bs) (c ∷ cs) = eqb b c && sameKey bs cs

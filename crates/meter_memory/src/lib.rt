@@ -21,7 +21,7 @@ pub fn row_at(w: usize, memory: &[u8], r: usize) -> &[u8]
 }
 
 // The eight bytes from `at` on.
-fn eight(s: &[u8], at: usize) -> [u8; 8]
+pub fn eight(s: &[u8], at: usize) -> [u8; 8]
     requires { ⌜ at + 8 ≤ length (now s) ⌝ }
     ensures { λ r. ⌜ r ≡ take 8 (drop at (now (s .entry))) ⌝ }
 {
@@ -33,7 +33,7 @@ fn eight(s: &[u8], at: usize) -> [u8; 8]
 }
 
 // Eight bytes stored from `at` on.
-fn put_eight(s: &mut [u8], at: usize, x: [u8; 8])
+pub fn put_eight(s: &mut [u8], at: usize, x: [u8; 8])
     requires { ⌜ at + 8 ≤ length (now s) ⌝ }
     ensures { λ _. ⌜ now (s .exit) ≡ take at (now (s .entry)) ++ x ++ drop (at + 8) (now (s .entry)) ⌝ }
 {

@@ -51,7 +51,7 @@ fn outcome(o: Outcome) {
     let g = o.group;
     let counts = g.counts;
     decimal(o.status as u64);
-    hex(group_bytes::number_of(counts), 16);
+    hex(little_endian::number_of(counts), 16);
     byte(g.merge);
     text(b"\n");
 }

@@ -11,6 +11,7 @@ use lib.Pow.{pow-pos, shl-shr}
 use Rattle.group.specs.declared.Group.{Group}
 use Rattle.group.specs.declared.Reading.{Reading}
 use Rattle.answer.specs.Answers.{accepted, answerOf}
+use Rattle.group_block.specs.Block.{cap}
 use Rattle.hash.specs.Hash.{basis}
 use Rattle.group.specs.Group.{read, widestOf}
 use Rattle.group_totals.proofs.Groups.{groupOf, widest-status, widest-most, widest-cause, read-status, read-level, read-value, wider}
@@ -135,6 +136,20 @@ module _ (d w : ℕ) (vd : validDepth d ≡ true) (vw : validWidth w ≡ true) (
       value-high =
           let l = read-level (blockTotal w r ps) (slot / 8) (holds .fits r (slot / 8) p group) slot in
           rw value-is (wider-le w r ps slot (read there slot .level) (level d w ps) (omega (arith, l, group-le r (slot / 8) p group)))
+
+      -- and so fits in 64 bits
+      value-fits : readValue w key r (rowOf w memory r) < cap 3
+      value-fits =
+          let l = read-level (blockTotal w r ps) (slot / 8) (holds .fits r (slot / 8) p group) slot in
+          let m = widest-most (blockTotal w r ps) (slot / 8) in
+          let e = wider-le w r ps slot (read there slot .level) 3 (omega (arith, l, m)) in
+          rw value-is (omega (arith, e, holds .fits r (slot / 8) p group))
+
+    pub estimate-fits : least (ofRows (readValue w key) (stride w) d 0 memory) < cap 3
+    estimate-fits =
+        let f : ℕ → ℕ = λ r. readValue w key r (rowOf w memory r) in
+        let some = depth-in d vd .0 in
+        rw (rows-are (readValue w key) d w memory) (omega (arith, least-le f d 0 0 (omega arith) (omega arith), value-fits 0 (omega arith)))
 
     pub estimate-holds : badKey (length key) ≡ 0 → estimated d w memory key ≡ accepted (least (ofRows (readValue w key) (stride w) d 0 memory))
     unfolding answerOf

@@ -15,7 +15,7 @@ use Rattle.feed.specs.declared.Recorded.the-variants as case
 use Rattle.feed.specs.Answers.{recordAnswer}
 use Rattle.feed.specs.Record.{recorded}
 use Rattle.traffic.specs.Traffic.{Pair, amountSum, blockOf, blockTotal}
-use Rattle.traffic.specs.Calls.{Call, clear, update, estimate, widest, unite, write, read, feed, Source, from, raw, Calls, none, then, traffic, run, done, Faithful, Listed, LeftBy}
+use Rattle.traffic.specs.Calls.{Call, clear, update, estimate, widest, unite, write, read, feed, watch, Source, from, raw, Calls, none, then, traffic, run, done, Faithful, Listed, LeftBy}
 use Rattle.traffic.specs.Claim.{Between, Claim}
 use Rattle.traffic.specs.Corollaries.{EveryAnswer, Answered, EveryBehind, Within, Reordered, AnyOrder}
 use Rattle.traffic.proofs.Records.{only-queries}
@@ -46,6 +46,7 @@ module _ (d w : ℕ) (vd : validDepth d ≡ true) (vw : validWidth w ≡ true) w
     answered calls c (write words) l e = tt
     answered calls c (read source) l e = every-behind source l
     answered calls c (feed before words) l e = λ due. c .records before words due e
+    answered calls c (watch list key amount threshold) l e = tt
 
     every-behind : (source : Source) → LeftBy d w source → EveryBehind d w source
     every-behind (from calls) l = every calls l

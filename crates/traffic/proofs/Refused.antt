@@ -10,7 +10,8 @@ use Rattle.answer.proofs.Answers.{finish-kept}
 use Rattle.image_format.specs.Read.{finishRead, taken}
 use Rattle.feed.specs.Answers.{recordAnswer}
 use Rattle.feed.specs.Record.{finishRecord, recorded}
-use Rattle.traffic.specs.Calls.{Call, clear, update, estimate, widest, unite, write, read, feed, done, wordsOf}
+use Rattle.watch.proofs.Laws.{watched-kept}
+use Rattle.traffic.specs.Calls.{Call, clear, update, estimate, widest, unite, write, read, feed, watch, done, wordsOf}
 
 -- an image read
 read-kept : (d w : ℕ) (memory words : List ℕ) → eqb (taken d w memory words .answer .status) 0 ≡ false → taken d w memory words .memory ≡ memory
@@ -34,3 +35,4 @@ kept d w d′ w′ (unite source) memory e = finish-kept _ _ _ _ e
 kept d w d′ w′ (write words) memory e = refl
 kept d w d′ w′ (read source) memory e = read-kept d′ w′ memory (wordsOf d w source) e
 kept d w d′ w′ (feed before words) memory e = record-kept d′ w′ memory before words e
+kept d w d′ w′ (watch list key amount threshold) memory e = watched-kept d′ w′ memory list key amount threshold e .0

@@ -2,13 +2,14 @@
 use mathlib.Core.Path.{_≡_, refl, sym, ap, subst, _∙_}
 use mathlib.Core.Bool.{true, false, cond, true≢false}
 use mathlib.Core.List.{List, _∷_, _++_}
-use Prim.Native.Nat.{ℕ, _≤_}
+use Prim.Native.Nat.{ℕ, _^_, _≤_, _<_}
 use native.Mathlib.Decide.{ℕ-discrete}
 use borrow.Author.Tests.{eqb-true}
 use lib.Dec.{eqb}
 use lib.ListN.{length, drop, replicate}
 use Rattle.answer.specs.declared.Answer.{Answer}
 use Rattle.answer.specs.Answers.{accepted}
+use Rattle.group_block.specs.Block.{cap}
 use Rattle.geometry.specs.Geometry.{validDepth, validWidth, size}
 use Rattle.geometry.specs.Checks.{badKey}
 use Rattle.meter.specs.Meter.{cleared, updated, estimated}
@@ -23,11 +24,13 @@ use Rattle.feed.specs.declared.Recorded.the-variants as case
 use Rattle.feed.specs.Answers.{recordAnswer}
 use Rattle.feed_records.specs.Words.{updateKind, keyOf, amountOf}
 use Rattle.feed.specs.Record.{recorded}
+use Rattle.watch.specs.Watch.{watched}
+use Rattle.watch.proofs.Laws.{watched-accepted}
 use Rattle.traffic.specs.Traffic.{Pair}
-use Rattle.traffic.specs.Calls.{Call, clear, update, estimate, widest, unite, write, read, feed, Source, from, raw, Calls, none, then, recordPair, traffic, after, behind, run, done, bytesOf, wordsOf, Faithful, Listed, LeftBy}
+use Rattle.traffic.specs.Calls.{Call, clear, update, estimate, widest, unite, write, read, feed, watch, Source, from, raw, Calls, none, then, recordPair, traffic, after, behind, run, done, bytesOf, wordsOf, Faithful, Listed, LeftBy}
 use Rattle.traffic.proofs.Holds.{Holds}
 use Rattle.traffic.specs.Claim.{Between, Claim, Demand3}
-use Rattle.traffic.proofs.Answers.{good-shape, good-key, widest-holds, estimate-holds, estimate-between}
+use Rattle.traffic.proofs.Answers.{good-shape, good-key, widest-holds, estimate-holds, estimate-fits, estimate-between}
 use Rattle.traffic.proofs.Steps.{start-holds, update-holds, unite-holds}
 use Rattle.traffic.proofs.Records.{record-cases, outcome-status, query-is}
 use Rattle.answer.proofs.Answers.{status-is}
@@ -67,6 +70,14 @@ module _ (d w : ℕ) (vd : validDepth d ≡ true) (vw : validWidth w ≡ true) w
       (λ due q e. rw due h)
       (λ due q e. rw due h)
 
+  -- an update through a watch list
+  watch-holds : (memory : List ℕ) (ps : List Pair) → Holds d w memory ps → (list key : List ℕ) (amount threshold : ℕ)
+      → watched d w memory list key amount threshold .answer .status ≡ 0
+      → Holds d w (watched d w memory list key amount threshold .memory) (record { key = key; amount = amount } ∷ ps)
+  watch-holds memory ps h list key amount threshold e =
+      let a = watched-accepted d w memory list key amount threshold e in
+      rw (a .memory-is) (update-holds d w vw vd memory ps h key amount (a .update))
+
   mutual
     unfolding run done bytesOf wordsOf traffic after behind Faithful Listed LeftBy
 
@@ -89,6 +100,7 @@ module _ (d w : ℕ) (vd : validDepth d ≡ true) (vw : validWidth w ≡ true) w
     accepted-holds (write words) memory ps h l e = h
     accepted-holds (read source) memory ps h l e = read-holds source memory (h .long) l
     accepted-holds (feed before words) memory ps h l e = record-holds memory ps h before words e
+    accepted-holds (watch list key amount threshold) memory ps h l e = watch-holds memory ps h list key amount threshold (eqb-true _ _ e)
 
     source-holds : (source : Source) → LeftBy d w source → Holds d w (bytesOf d w source) (behind source)
     source-holds (from calls) l = holds calls l
@@ -111,11 +123,17 @@ module _ (d w : ℕ) (vd : validDepth d ≡ true) (vw : validWidth w ≡ true) w
       write-done d w (run d w calls) lent 0 (sym (good-shape d w (length (run d w calls)) vd vw (h .long))) refl (holds-valid d w (run d w calls) (traffic calls) h) room
 
   module _ (calls : Calls) (f : Faithful d w calls) where
-    answers : (key : List ℕ) → badKey (length key) ≡ 0
+    pub answers : (key : List ℕ) → badKey (length key) ≡ 0
         → (estimated d w (run d w calls) key ≡ accepted (estimated d w (run d w calls) key .value)) × Between d w (traffic calls) key (estimated d w (run d w calls) key .value)
     answers key k =
         rw (estimate-holds d w vd vw (run d w calls) (traffic calls) (holds calls f) key k)
         (refl, estimate-between d w vd vw (run d w calls) (traffic calls) (holds calls f) key)
+
+    -- an estimate has 64 bits
+    pub estimate-small : (key : List ℕ) → badKey (length key) ≡ 0 → estimated d w (run d w calls) key .value < 2 ^ 64
+    unfolding cap
+    estimate-small key k =
+        rw (estimate-holds d w vd vw (run d w calls) (traffic calls) (holds calls f) key k) (estimate-fits d w vd vw (run d w calls) (traffic calls) (holds calls f) key)
 
     -- an estimate that was accepted had a sound key
     sound-key : (key : List ℕ) → estimated d w (run d w calls) key .status ≡ 0 → badKey (length key) ≡ 0

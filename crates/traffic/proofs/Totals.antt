@@ -1,7 +1,7 @@
 -- Laws of the traffic's totals and of L.
-use mathlib.Core.Path.{_≡_, refl, sym, ap, ap₂, _∙_}
+use mathlib.Core.Path.{_≡_, refl, sym, ap, _∙_}
 use mathlib.Core.Logic.{⊎-elim}
-use mathlib.Core.Bool.{Bool, true, false, cond, true≢false, or-true, and-eq-true-iff}
+use mathlib.Core.Bool.{Bool, true, false, cond, true≢false, or-true}
 use mathlib.Core.List.{List, [], _∷_, _++_}
 use Prim.Native.Nat.{ℕ, zero, suc, _+_, _-_, _*_, _/_, _^_, _≤_, _<_}
 use native.Mathlib.Decide.{ℕ-discrete}
@@ -15,8 +15,9 @@ use Rattle.group_block.specs.Block.{cap}
 use Rattle.group_block_laws.specs.Counts.{Adds}
 use Rattle.group_block_laws.proofs.Sides.{half}
 use Rattle.hash.specs.Hash.{basis}
-use Rattle.meter_keys.specs.Keys.{keySlot}
-use Rattle.traffic.specs.Traffic.{Pair, amountSum, sameKey, keyTotal, blockOf, blockTotal, anyBelow, overflows, levelUpTo}
+use Rattle.meter_keys.specs.Keys.{keySlot, sameKey}
+use Rattle.meter_keys.proofs.Same.{same-key}
+use Rattle.traffic.specs.Traffic.{Pair, amountSum, keyTotal, blockOf, blockTotal, anyBelow, overflows, levelUpTo}
 
 pub sum-append : (f : List ℕ → Bool) (xs ys : List Pair) → amountSum f (xs ++ ys) ≡ amountSum f xs + amountSum f ys
 unfolding amountSum
@@ -50,16 +51,6 @@ either-half x i a =
       ]
       | no e ↦ rw (ne-eqb (x / 2) i e, ne-eqb x (2 * i) (λ z. e (omega arith)), ne-eqb x (2 * i + 1) (λ z. e (omega arith)))
     ]
-
--- keys that pass the test are the same
-same-key : (key other : List ℕ) → sameKey key other ≡ true → key ≡ other
-unfolding sameKey
-same-key [] [] e = refl
-same-key [] (c ∷ cs) e = absurd (true≢false (sym e))
-same-key (b ∷ bs) [] e = absurd (true≢false (sym e))
-same-key (b ∷ bs) (c ∷ cs) e =
-    let p = and-eq-true-iff (eqb b c) (sameKey bs cs) .0 e in
-    ap₂ (λ (x : ℕ) (xs : List ℕ). x ∷ xs) (eqb-true b c (p .0)) (same-key bs cs (p .1))
 
 -- slots in one block are in one larger block
 up : (x s m n : ℕ) → m ≤ n → x / 2 ^ m ≡ s / 2 ^ m → x / 2 ^ n ≡ s / 2 ^ n

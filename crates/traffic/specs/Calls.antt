@@ -16,6 +16,7 @@ use Rattle.word.specs.Word.{payload, isDue}
 use Rattle.feed.specs.Answers.{recordAnswer}
 use Rattle.feed_records.specs.Words.{updateKind, keyOf, amountOf}
 use Rattle.feed.specs.Record.{recorded}
+use Rattle.watch.specs.Watch.{watched}
 use Rattle.traffic.specs.Traffic.{Pair}
 
 mutual
@@ -31,6 +32,8 @@ mutual
     read : Source → Call
     -- a feed's record or end, in the words lent from there on, told how many words came before
     feed : (before : ℕ) (words : List ℕ) → Call
+    -- an update through a watch list, with any content of the list
+    watch : (list key : List ℕ) (amount threshold : ℕ) → Call
 
   -- Where a union's source or an image comes from: the list that left the meter, or anything at all, bytes or words.
   pub data Source : Type 0 where
@@ -47,9 +50,9 @@ mutual
 unfoldable pub recordPair : List ℕ → Pair
 recordPair words = record { key = keyOf (payload words 0) words; amount = amountOf (payload words 0) words }
 
--- The traffic (document 01: the book) sees the calls and whether each was accepted, and no memory. An accepted update, by call or
--- record, adds its pair; an accepted clearing empties it; an accepted union adds the traffic of the source's list; an accepted image puts
--- that of the image's list in its place. All else, refused calls too, leaves it.
+-- The traffic (document 01: the book) sees the calls and whether each was accepted, and no memory. An accepted update, by call, by
+-- record or through a watch list, adds its pair; an accepted clearing empties it; an accepted union adds the traffic of the source's
+-- list; an accepted image puts that of the image's list in its place. All else, refused calls too, leaves it.
 unfoldable mutual
   pub traffic : Calls → List Pair
   traffic none = []
@@ -64,13 +67,15 @@ unfoldable mutual
   after (write words) pairs = pairs
   after (read source) pairs = behind source
   after (feed before words) pairs = cond (isDue words 0 updateKind) (recordPair words ∷ pairs) pairs
+  after (watch list key amount threshold) pairs = record { key = key; amount = amount } ∷ pairs
 
   pub behind : Source → List Pair
   behind (from calls) = traffic calls
   behind (raw content) = []
 
 -- The memory that a list leaves, of a meter of d rows of w slots: it starts cleared, and each call gets the memory that the last one
--- left. What a call answers and leaves is by the definitions that its contract cites; d′ and w′ are what it was told.
+-- left. What a call answers and leaves is by the definitions that its contract cites; d′ and w′ are what it was told. What is left of a
+-- watch list is not the meter's.
 unfoldable mutual
   pub run : ℕ → ℕ → Calls → List ℕ
   run d w none = replicate (size d w) 0
@@ -86,6 +91,8 @@ unfoldable mutual
   done d w d′ w′ (read source) memory = taken d′ w′ memory (wordsOf d w source)
   done d w d′ w′ (feed before words) memory =
       record { answer = recordAnswer (recorded d′ w′ memory before words .outcome); memory = recorded d′ w′ memory before words .memory }
+  done d w d′ w′ (watch list key amount threshold) memory =
+      record { answer = watched d′ w′ memory list key amount threshold .answer; memory = watched d′ w′ memory list key amount threshold .memory }
 
   -- a union's source
   pub bytesOf : ℕ → ℕ → Source → List ℕ
@@ -117,6 +124,7 @@ unfoldable mutual
   Listed d w (write words) = Unit
   Listed d w (read source) = LeftBy d w source
   Listed d w (feed before words) = Unit
+  Listed d w (watch list key amount threshold) = Unit
 
   pub LeftBy : ℕ → ℕ → Source → Type 0
   LeftBy d w (from calls) = Faithful d w calls

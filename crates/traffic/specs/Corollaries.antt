@@ -9,7 +9,7 @@ use Rattle.geometry.specs.Geometry.{validDepth, validWidth}
 use Rattle.word.specs.Word.{payload, isDue}
 use Rattle.feed_records.specs.Words.{queryKind, keyOf}
 use Rattle.traffic.specs.Traffic.{Pair, level}
-use Rattle.traffic.specs.Calls.{Call, clear, update, estimate, widest, unite, write, read, feed, Source, from, raw, Calls, none, then, traffic, run, done, Faithful}
+use Rattle.traffic.specs.Calls.{Call, clear, update, estimate, widest, unite, write, read, feed, watch, Source, from, raw, Calls, none, then, traffic, run, done, Faithful}
 use Rattle.traffic.specs.Claim.{Between}
 
 unfoldable mutual
@@ -30,6 +30,7 @@ unfoldable mutual
   Answered d w pairs (write words) answer = Unit
   Answered d w pairs (read source) answer = EveryBehind d w source
   Answered d w pairs (feed before words) answer = isDue words 0 queryKind ≡ true → Between d w pairs (keyOf (payload words 0) words) (answer .value)
+  Answered d w pairs (watch list key amount threshold) answer = Unit
 
   pub EveryBehind : ℕ → ℕ → Source → Type 0
   EveryBehind d w (from calls) = EveryAnswer d w calls

@@ -1,12 +1,12 @@
 -- The traffic, and the figures that document 01 defines from it, in 'Traffic and its two figures'. Cited by theorems. Nothing here knows
 -- of a meter's memory.
 use Prim.Native.Nat.{ℕ, zero, suc, _+_, _/_, _^_, min}
-use mathlib.Core.Bool.{Bool, true, false, cond, _&&_, _||_}
+use mathlib.Core.Bool.{Bool, false, cond, _||_}
 use mathlib.Core.List.{List, [], _∷_}
 use lib.Dec.{leb, eqb}
 use Rattle.group_block.specs.Block.{cap}
 use Rattle.hash.specs.Hash.{basis}
-use Rattle.meter_keys.specs.Keys.{keySlot}
+use Rattle.meter_keys.specs.Keys.{keySlot, sameKey}
 
 -- The traffic, which document 01's book holds, is a list of pairs of key and amount.
 pub record Pair : Type 0 where
@@ -17,12 +17,6 @@ pub record Pair : Type 0 where
 unfoldable pub amountSum : (List ℕ → Bool) → List Pair → ℕ
 amountSum test [] = 0
 amountSum test (p ∷ ps) = cond (test (p .key)) (p .amount) 0 + amountSum test ps
-
-unfoldable pub sameKey : List ℕ → List ℕ → Bool
-sameKey [] [] = true
-sameKey [] (b ∷ bs) = false
-sameKey (b ∷ bs) [] = false
-sameKey (b ∷ bs) (c ∷ cs) = eqb b c && sameKey bs cs
 
 -- a key's total: the sum of its pairs' amounts
 unfoldable pub keyTotal : List ℕ → List Pair → ℕ

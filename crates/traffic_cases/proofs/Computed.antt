@@ -6,7 +6,7 @@ use Prim.Native.Nat.{ℕ, zero, suc, _-_, _^_}
 use lib.Dec.{eqb, ltb}
 use lib.ListN.{replicate}
 use Rattle.answer.specs.Answers.{accepted}
-use Rattle.group_bytes.specs.Bytes as bytes
+use Rattle.little_endian.specs.Bytes as bytes
 use Rattle.group_layout.specs.Layout as layouts
 use Rattle.group_layout.specs.Code as codes
 use Rattle.group_block.specs.Block as blocks
@@ -29,6 +29,8 @@ use Rattle.image_format.specs.Write as writing
 use Rattle.image_format.specs.Read as reading
 use Rattle.feed_records.specs.Words as records
 use Rattle.feed.specs.Record as carrying
+use Rattle.watch_list.specs.Layout as layout
+use Rattle.watch.specs.Watch as watch
 use Rattle.traffic.specs.Traffic as totals
 use Rattle.traffic.specs.Calls as calls
 use Rattle.traffic.specs.Calls.{none, update, estimate, feed, run, done, Faithful}
@@ -95,7 +97,7 @@ a & b = (a, b)
 
 pub computed : Computed
 unfolding numbers allRefuse allFit twice calls.recordPair calls.traffic calls.after calls.behind calls.run calls.done calls.bytesOf
-    calls.wordsOf calls.Faithful calls.Listed calls.LeftBy totals.amountSum totals.sameKey totals.keyTotal totals.blockOf totals.blockTotal
+    calls.wordsOf calls.Faithful calls.Listed calls.LeftBy totals.amountSum keys.sameKey totals.keyTotal totals.blockOf totals.blockTotal
     totals.anyBelow totals.overflows totals.levelUpTo totals.level totals.lower totals.leastBelow totals.landingTotal totals.upper
     layouts.bit layouts.ones layouts.marks layouts.layout layouts.valid layouts.widestIn codes.layouts codes.mergedCode codes.code
     codes.uncode blocks.cap blocks.shape blocks.numberOf blocks.fill blocks.block blocks.counterAt blocks.total changes.change sums.sumTotal
@@ -117,6 +119,7 @@ unfolding numbers allRefuse allFit twice calls.recordPair calls.traffic calls.af
     records.keyPayload records.keyWord records.checkKey records.checkAmount records.keyByte records.keyFrom records.amountOf
     records.updateStep records.queryStep records.bodyOf records.updateBody records.queryBody carrying.outcomeOf carrying.updateOutcome
     carrying.queried carrying.openedOutcome carrying.recordOutcome carrying.updateMemory carrying.recordMemory carrying.finishRecord carrying.recorded
+    layout.allZero layout.soundLengths layout.sound watch.badLines watch.watchStatus watch.watched
 computed =
     let other-is : Faithful 1 32 other = ((((tt, refl, took tt), refl, took tt), refl, took tt), refl, took (tt, refl, took tt)) in
     let mixed-is : Faithful 1 32 mixed
@@ -132,6 +135,7 @@ computed =
           & ((((tt, refl, took tt), refl, took tt), refl, took tt), refl, refl, refl, refl, refl)
           & ((((((tt, refl, took tt), refl, took tt), refl, took tt), refl, no), refl, took tt), refl, refl, refl, refl, refl)
           & (every-is, refl, refl, refl, refl, refl)
+          & (((((tt, refl, took tt), refl, no), refl, took tt), refl, no), refl, refl, refl, refl, refl)
           & (((tt, refl, took tt), refl, took tt), refl, refl, refl, refl, refl)
           & tt;
       by-hand = (refl, refl, refl);

@@ -8,7 +8,8 @@ use native.Mathlib.Omega.{arith}
 use lib.Dec.{eqb}
 use Rattle.answer.specs.Answers.{Done}
 use Rattle.meter.specs.Meter.{united, updated}
-use Rattle.traffic.specs.Traffic.{sameKey, keyTotal, lower, amountSum}
+use Rattle.meter_keys.specs.Keys.{sameKey}
+use Rattle.traffic.specs.Traffic.{keyTotal, lower, amountSum}
 use Rattle.traffic.specs.Calls.{Call, Calls, none, update, estimate, unite, feed, from, traffic, after, behind, run, done, bytesOf, Faithful, Listed, LeftBy}
 use Rattle.traffic.proofs.Totals.{sum-append}
 use Rattle.traffic_cases.specs.Cases.{at-10, at-11, _▸_, updateWords}

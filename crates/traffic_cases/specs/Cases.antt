@@ -7,8 +7,9 @@ use lib.ListN.{replicate}
 use Rattle.answer.specs.Answers.{accepted}
 use Rattle.meter.specs.Meter as meter
 use Rattle.image_format.specs.Read.{taken}
+use Rattle.watch_list.specs.Layout.{listSize}
 use Rattle.traffic.specs.Traffic.{level, lower, upper}
-use Rattle.traffic.specs.Calls.{Call, Calls, none, then, clear, update, estimate, widest, unite, write, read, feed, from, raw, traffic, run, done, Faithful}
+use Rattle.traffic.specs.Calls.{Call, Calls, none, then, clear, update, estimate, widest, unite, write, read, feed, watch, from, raw, traffic, run, done, Faithful}
 use Rattle.traffic.specs.Claim.{answerTo}
 
 -- Keys of one byte that land at slots 0, 8, 10, 11 and 12.
@@ -50,8 +51,8 @@ endWords = 0x40000007 ∷ []
 abbrev pub other : Calls
 other = none ▸ feed 1 updateWords ▸ feed 5 queryWords ▸ feed 7 endWords ▸ unite (from (none ▸ update at-8 70000))
 
--- Every kind of call, accepted and refused. Refused are a record whose words are missing, a call told another depth and width, an image
--- written into too few words, a union with too few bytes and an image of no words.
+-- Every kind of call but the one through a watch list, which `watching` has, accepted and refused. Refused are a record whose words are
+-- missing, a call told another depth and width, an image written into too few words, a union with too few bytes and an image of no words.
 abbrev pub mixed : Calls
 mixed = none ▸ update at-0 9 ▸ clear ▸ update at-11 7 ▸ estimate at-11 ▸ unite (from other) ▸ read (from other)
 
@@ -65,6 +66,17 @@ every = then fed 2 64 (update at-8 1) false ▸ widest ▸ write (replicate 40 0
 -- traffic that is not emptied has 311 and one that a refused clearing empties has 6.
 abbrev pub clearings : Calls
 clearings = then (none ▸ update at-10 300 ▸ clear ▸ update at-10 5) 1 64 clear false ▸ update at-10 6
+
+-- a cleared watch list, and one with a key length above 64
+abbrev pub cleared : List ℕ
+cleared = replicate listSize 0
+
+abbrev pub broken : List ℕ
+broken = 65 ∷ replicate 4672 0
+
+-- Updates through a watch list, whatever it holds. Refused, with a list that is broken or a threshold of 0, they leave no trace.
+abbrev pub watching : Calls
+watching = none ▸ update at-10 300 ▹ watch broken at-10 7 1 ▸ watch cleared at-10 5 1 ▹ watch cleared at-10 7 0
 
 -- on a meter of 2 rows of 32 slots: the keys of bytes 65 and 122 land together in row 0 and apart in row 1
 abbrev pub twoRows : Calls
@@ -116,6 +128,7 @@ cases =
     ∷ small (none ▸ update at-10 4294967295 ▸ update at-12 9 ▸ update at-10 1) [] 3 4294967296 4294967305 4294967305
     ∷ small clearings (3 ∷ []) 0 11 11 11
     ∷ small every (8 ∷ 3 ∷ 7 ∷ 3 ∷ 8 ∷ []) 2 600 70600 70600
+    ∷ small watching (11 ∷ 5 ∷ []) 1 305 305 305
     ∷ record { d = 2; w = 32; calls = twoRows; refused = []; key = at-10; widest-level = 0; low = 5; value = 5; high = 5 }
     ∷ []
 

@@ -5,8 +5,8 @@ use mathlib.Core.Bool.{true, false}
 use mathlib.Core.List.{List, [], _∷_, _++_}
 use lib.ListN.{replicate}
 use Rattle.traffic.specs.Traffic.{Pair}
-use Rattle.traffic.specs.Calls.{Call, Calls, none, then, clear, update, estimate, widest, unite, write, read, feed, from, raw, traffic, run, done, Faithful}
-use Rattle.traffic_cases.specs.Cases.{at-0, at-8, updateWords, endWords}
+use Rattle.traffic.specs.Calls.{Call, Calls, none, then, clear, update, estimate, widest, unite, write, read, feed, watch, from, raw, traffic, run, done, Faithful}
+use Rattle.traffic_cases.specs.Cases.{at-0, at-8, updateWords, endWords, cleared, broken}
 
 -- updates of keys of one byte on a meter of 1 row of 64 slots, the last first
 abbrev pub one : ℕ → ℕ → Pair
@@ -90,6 +90,15 @@ refusals =
     ∷ told 2 32 (feed 1 (0x50000001 ∷ 0x700a0000 ∷ 0x80000000 ∷ 0x80000001 ∷ [])) 6
     ∷ told 1 64 (feed 1 []) 8
     ∷ told 1 64 (feed 1 endWords) 9
+    ∷ told 9 64 (watch cleared at-0 1 1) 1
+    ∷ told 1 63 (watch cleared at-0 1 1) 2
+    ∷ told 1 32 (watch cleared at-0 1 1) 3
+    ∷ told 1 64 (watch [] [] 1 1) 3
+    ∷ told 1 64 (watch broken [] 1 0) 4
+    ∷ told 2 32 (watch cleared at-8 1 0) 5
+    ∷ told 2 32 (watch broken at-0 1 0) 5
+    ∷ told 2 32 (watch cleared at-0 1 0) 11
+    ∷ told 2 32 (watch cleared at-0 1 1) 6
     ∷ []
 
 -- a list, then these refused calls

@@ -4,7 +4,7 @@ use mathlib.Core.List.{List}
 use Prim.Native.Nat.{ℕ}
 use native.Mathlib.Omega.{arith}
 use borrow.Author.Tests.{not-true, not-false}
-use Rattle.group_bytes.specs.Bytes.{bytes}
+use Rattle.little_endian.specs.Bytes.{bytes}
 use Rattle.group_layout.specs.Layout.{valid}
 use Rattle.group.specs.Group.{decode, changed}
 use borrow.Author.Needs.{needs}

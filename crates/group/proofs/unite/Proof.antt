@@ -2,7 +2,7 @@ use mathlib.Core.Path.{_≡_, sym, ap, _∙_}
 use mathlib.Core.Bool.{true}
 use Prim.Native.Nat.{ℕ, _+_, _^_, _<_}
 use native.Mathlib.Omega.{arith}
-use Rattle.group_bytes.specs.Bytes.{number}
+use Rattle.little_endian.specs.Bytes.{number}
 use Rattle.group_layout.specs.Layout.{valid}
 use Rattle.group_block.specs.Block.{cap, total}
 use Rattle.group.specs.Group.{decode, unchanged}

@@ -1,0 +1,3 @@
+pub mod Told
+pub mod Computed
+pub mod Cases

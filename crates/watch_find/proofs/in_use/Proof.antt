@@ -1,0 +1,38 @@
+use mathlib.Core.Path.{_≡_, sym, _∙_}
+use mathlib.Core.Bool.{and-eq-true-iff}
+use lib.Dec.{leb}
+use lib.ListN.{take, getD}
+use Rattle.watch_list.specs.Layout.{soundLengths, sound}
+use Rattle.watch_find.proofs.Scanning.{sound-uses}
+use borrow.Author.Needs.{needs}
+use Rattle.watch_find.proofs.in_use.Statement.{statement}
+use Rattle.watch_find.proofs.in_use.Tie as tie
+
+sub-uses : tie.Need-sub-uses
+sub-uses c = search needs
+
+part-uses-start : tie.Need-part-uses-start
+part-uses-start c = search needs
+
+part-uses-end : tie.Need-part-uses-end
+part-uses-end c = search needs
+
+uses-requires : tie.Need-uses-requires
+uses-requires c κs = search needs
+
+cast-result : tie.Need-cast-result
+cast-result c = search needs
+
+returns : tie.Need-returns
+unfolding sound
+returns c = let s = c .before .before .before in
+    let xs = s .args .list .now in
+    record {
+      long = s .pre .0;
+      is-sound = s .pre .1;
+      entries = c .uses .ensures ∙ sound-uses 1 (take 64 xs) (and-eq-true-iff (soundLengths (take 64 xs)) (leb (getD xs 64 0) 1) .0 (s .pre .1) .0);
+    }
+
+pub in-use-spec : {M : Type 1} → statement M
+in-use-spec =
+    tie.close (tie.spec sub-uses part-uses-start part-uses-end uses-requires cast-result returns)

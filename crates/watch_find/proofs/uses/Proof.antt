@@ -1,0 +1,63 @@
+use mathlib.Core.Path.{_≡_}
+use Prim.Native.Nat.{_+_, _-_, _≤_}
+use native.Mathlib.Omega.{arith}
+use lib.ListN.{length, getD, drop}
+use Rattle.watch_find.specs.Scan.{sumOf, usedAt}
+use Rattle.watch_find.proofs.Scanning.{sum-turn, sum-end, use-any}
+use borrow.Author.Needs.{needs}
+use Rattle.watch_find.proofs.uses.Statement.{statement}
+use Rattle.watch_find.proofs.uses.Tie as tie
+
+abbrev Inv-loop : tie.InvT-loop
+Inv-loop lengths n₀ k₀ n k = (k ≤ 64) × (length lengths ≡ 64) × (n ≤ k) × (n + sumOf usedAt 1 (drop k lengths) ≡ sumOf usedAt 1 lengths)
+
+abbrev μ-loop : tie.MeasureT-loop
+μ-loop lengths n₀ k₀ n k = 64 - k
+
+loop-holds : tie.Need-loop-holds Inv-loop μ-loop
+loop-holds c = (omega arith, c .before .pre, omega arith, omega arith)
+
+shared-slice-read-used : tie.Need-shared-slice-read-used Inv-loop μ-loop
+shared-slice-read-used c = search needs
+
+used-requires : tie.Need-used-requires Inv-loop μ-loop
+used-requires c κs = search needs
+
+add-n : tie.Need-add-n Inv-loop μ-loop
+add-n c = record { fits = omega (arith, c .used .ensures .1) }
+
+add-k : tie.Need-add-k Inv-loop μ-loop
+add-k c = search needs
+
+loop-less : tie.Need-loop-less Inv-loop μ-loop
+loop-less c = search needs
+
+loop-again : tie.Need-loop-again Inv-loop μ-loop
+loop-again c = let ls = c .before .before .before .before .before .args .lengths .now in
+    let l = c .before .before .before .loop in
+    let n = getD ls (l .k) 0 in (
+      omega arith,
+      l .inv .1,
+      omega (arith, c .used .ensures .1),
+      omega (arith, l .inv .3, c .used .ensures .0 1, sum-turn usedAt 1 ls (l .k) (omega arith), use-any 1 n (drop (l .k + 1) ls)),
+    )
+
+returns : tie.Need-returns Inv-loop μ-loop
+returns c = let ls = c .before .before .before .args .lengths .now in
+    let l = c .before .loop in
+    omega (arith, l .inv .3, sum-end usedAt 1 ls (l .k) (omega arith))
+
+pub uses-spec : {M : Type 1} → statement M
+uses-spec =
+    tie.close
+    (tie.spec
+    Inv-loop
+    μ-loop
+    loop-holds
+    shared-slice-read-used
+    used-requires
+    add-n
+    add-k
+    loop-less
+    loop-again
+    returns)

@@ -1,0 +1,138 @@
+// What a watch list holds: whether its bytes are sound, how many places are in use, and where a key is.
+use little_endian::number_of;
+use meter_memory::eight;
+ghost use mathlib.Core.Path.{_≡_};
+ghost use mathlib.Core.Bool.{true};
+ghost use Prim.Native.Nat.{ℕ, _+_, _<_, _≤_};
+ghost use lib.ListN.{length, getD, take, drop};
+ghost use Rattle.little_endian.specs.Bytes.{number};
+ghost use Rattle.meter_keys.specs.Keys.{sameKey};
+ghost use Rattle.watch_list.specs.Layout.{listSize, sound, placeAt, placesFrom};
+ghost use Rattle.watch_list.specs.Parts.{indexOf, Holds, KeyLong};
+ghost use Rattle.watch_find.specs.Scan.{sumOf, flawAt, usedAt};
+
+// What is wrong with a key length, by the one before it: 1 or 0.
+fn flaw(before: u8, n: u8) -> u8
+    ensures { λ r. ⌜ (r ≡ flawAt before n) × (r ≤ 1) ⌝ }
+{
+    if 64 < n {
+        return 1;
+    }
+    if before != 0 {
+        return 0;
+    }
+    if n == 0 { 0 } else { 1 }
+}
+
+// How many of 64 key lengths are wrong. It goes through all of them, so that the compiler takes many at once.
+fn flaws(lengths: &[u8]) -> u8
+    requires { ⌜ length (now lengths) ≡ 64 ⌝ }
+    ensures { λ r. ⌜ r ≡ sumOf flawAt 1 (now (lengths .entry)) ⌝ }
+{
+    let mut n = flaw(1, lengths[0]);
+    for k in 1..64 {
+        n = n + flaw(lengths[k - 1], lengths[k]);
+    }
+    n
+}
+
+// Whether nothing breaks a list's layout.
+pub fn is_sound(list: &[u8]) -> bool
+    requires { ⌜ length (now list) ≡ listSize ⌝ }
+    ensures { λ r. ⌜ r ≡ sound (now (list .entry)) ⌝ }
+{
+    if flaws(&list[0..64]) != 0 {
+        return false;
+    }
+    list[64] <= 1
+}
+
+// Whether a place is in use, by its key length: 1 or 0.
+fn used(n: u8) -> u8
+    ensures { λ r. ⌜ ((before : ℕ) → r ≡ usedAt before n) × (r ≤ 1) ⌝ }
+{
+    if n == 0 { 0 } else { 1 }
+}
+
+// How many of 64 places are in use.
+fn uses(lengths: &[u8]) -> u8
+    requires { ⌜ length (now lengths) ≡ 64 ⌝ }
+    ensures { λ r. ⌜ r ≡ sumOf usedAt 1 (now (lengths .entry)) ⌝ }
+{
+    let mut n = 0u8;
+    for k in 0..64 {
+        n = n + used(lengths[k]);
+    }
+    n
+}
+
+// How many places of a sound list are in use.
+pub fn in_use(list: &[u8]) -> usize
+    requires { ⌜ length (now list) ≡ listSize ⌝ ∗ ⌜ sound (now list) ≡ true ⌝ }
+    ensures { λ r. ⌜ Holds (now (list .entry)) r ⌝ }
+{
+    uses(&list[0..64]) as usize
+}
+
+fn word_at(bytes: &[u8], at: usize) -> u64
+    requires { ⌜ at + 8 ≤ length (now bytes) ⌝ }
+    ensures { λ r. ⌜ r ≡ number (take 8 (drop at (now (bytes .entry)))) ⌝ }
+{
+    number_of(eight(bytes, at))
+}
+
+// Whether two keys of one length are the same: by words of eight bytes, then by the bytes that are left.
+fn same_bytes(a: &[u8], b: &[u8]) -> bool
+    requires { ⌜ length (now a) ≡ length (now b) ⌝ }
+    ensures { λ r. ⌜ r ≡ sameKey (now (a .entry)) (now (b .entry)) ⌝ }
+{
+    let words = a.len() / 8;
+    for i in 0..words {
+        if word_at(a, i * 8) != word_at(b, i * 8) {
+            return false;
+        }
+    }
+    for i in words * 8..a.len() {
+        if a[i] != b[i] {
+            return false;
+        }
+    }
+    true
+}
+
+// Whether a place in use has a key. Keys of one length mostly differ in their last byte, so it is looked at first.
+fn has_key(list: &[u8], k: usize, key: &[u8]) -> bool
+    requires { ⌜ length (now list) ≡ listSize ⌝ ∗ ⌜ (k < 64) × (getD (now list) k 0 ≤ 64) ⌝ ∗ ⌜ KeyLong (now key) ⌝ }
+    ensures { λ r. ⌜ r ≡ sameKey (placeAt (now (list .entry)) k .key) (now (key .entry)) ⌝ }
+{
+    let n = key.len();
+    if wide(list[k]) != n {
+        return false;
+    }
+    let start = 65 + k * 64;
+    let end = start + n;
+    if list[end - 1] != key[n - 1] {
+        return false;
+    }
+    same_bytes(&list[start..end], key)
+}
+
+// The first place in use that has a key, else how many are.
+pub fn find(list: &[u8], n: usize, key: &[u8]) -> usize
+    requires { ⌜ Holds (now list) n ⌝ ∗ ⌜ KeyLong (now key) ⌝ }
+    ensures { λ r. ⌜ r ≡ indexOf (now (key .entry)) (placesFrom (now (list .entry)) n 0) ⌝ }
+    ensures { λ r. ⌜ r ≤ n ⌝ }
+{
+    for k in 0..n {
+        if has_key(list, k, key) {
+            return k;
+        }
+    }
+    n
+}
+
+fn wide(n: u8) -> usize
+    ensures { λ r. ⌜ r ≡ n ⌝ }
+{
+    n as usize
+}

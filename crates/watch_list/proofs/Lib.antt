@@ -1,0 +1,4 @@
+pub mod Lists
+pub mod Columns
+pub mod Places
+pub mod Changes

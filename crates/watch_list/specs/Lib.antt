@@ -1,0 +1,3 @@
+pub mod List
+pub mod Layout
+pub mod Parts
