@@ -232,15 +232,7 @@ pub fn watch_clear(list: &mut [u8]) -> Answer {
 /// An update of a meter that a watch list takes note of, or no change of either: a listed key's estimate is renewed, and one that is
 /// not listed joins if its estimate is now at or above the threshold, or sets the mark where no place is free.
 #[must_use = "the call may be refused"]
-pub fn watch_update(
-    d: usize,
-    w: usize,
-    memory: &mut [u8],
-    list: &mut [u8],
-    key: &[u8],
-    amount: u32,
-    threshold: u64,
-) -> Answer {
+pub fn watch_update(d: usize, w: usize, memory: &mut [u8], list: &mut [u8], key: &[u8], amount: u32, threshold: u64) -> Answer {
     call(|place, figure| unsafe {
         ffi::meter_watch_update(
             d,

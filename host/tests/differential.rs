@@ -374,7 +374,9 @@ impl List {
             8 => u64::MAX - self.rng.below(2) as u64,
             9 => self.rng.next() >> self.rng.below(64),
             10 => estimate,
-            _ => (estimate.saturating_add(u64::from(amount))).saturating_sub(self.rng.below(3) as u64).saturating_add(1),
+            _ => estimate
+                .saturating_add(u64::from(amount) + 1)
+                .saturating_sub(self.rng.below(3) as u64),
         }
     }
 
@@ -407,7 +409,11 @@ impl List {
                 0 if self.rng.once_in(3) => self.watch_clear(&mut watch),
                 1 => self.clear(told.0, told.1, &mut target),
                 2 => self.update(told.0, told.1, &mut target, &some_key, amount),
-                3..=7 => self.watch_remove(&mut watch, &some_key),
+                3..=6 => self.watch_remove(&mut watch, &some_key),
+                7 => {
+                    let last = Watch::parse(&watch.model).and_then(|w| w.places.into_iter().rfind(|place| !place.key.is_empty()));
+                    self.watch_remove(&mut watch, &last.map_or(some_key, |place| place.key))
+                }
                 8 => target = Pair::new(&memory(&mut self.rng, d, w)),
                 9 => watch = Lists::new(&list(&mut self.rng, &keys)),
                 _ => {
@@ -607,7 +613,10 @@ fn nothing_lent() {
     assert_eq!(meter::feed_record(1, 32, &mut [0; 36], 0, &[]).number, 8);
     assert_eq!(meter::watch_clear(&mut []).number, 3);
     assert_eq!(meter::watch_update(1, 32, &mut [0; 36], &mut [], &[], 1, 1).number, 3);
-    assert_eq!(meter::watch_update(1, 32, &mut [0; 36], &mut [0; WATCH_SIZE], &[], 1, 1).number, 4);
+    assert_eq!(
+        meter::watch_update(1, 32, &mut [0; 36], &mut [0; WATCH_SIZE], &[], 1, 1).number,
+        4
+    );
     assert_eq!(meter::watch_remove(&mut [], &[]).number, 3);
     assert_eq!(meter::watch_remove(&mut [0; WATCH_SIZE], &[]).number, 4);
 }

@@ -56,7 +56,11 @@ fn check(book: &Book, list: &[u8], threshold: u64, seen: &mut Seen) {
     }
     seen.full += u64::from(book.entries.len() == WATCH_PLACES && !book.marked);
     // Equal lists are equal bytes: these follow from the entries and the mark.
-    let mut places: Vec<Place> = book.entries.iter().map(|(key, estimate)| Place::new(key, *estimate)).collect();
+    let mut places: Vec<Place> = book
+        .entries
+        .iter()
+        .map(|(key, estimate)| Place::new(key, *estimate))
+        .collect();
     places.resize(WATCH_PLACES, Place::new(b"", 0));
     let expected = Watch {
         marked: book.marked,
@@ -117,7 +121,10 @@ fn heavy_keys_are_listed() {
                         book.entries.remove(at);
                     }
                     assert!(memory == before.0, "no call of a list alone writes a memory");
-                    assert!(read(&list) == (book.entries.clone(), book.marked), "the others in their order");
+                    assert!(
+                        read(&list) == (book.entries.clone(), book.marked),
+                        "the others in their order"
+                    );
                 }
                 _ => {
                     let amount = amount(&mut rng);
@@ -139,7 +146,10 @@ fn heavy_keys_are_listed() {
                         }
                     }
                     book.off.remove(key);
-                    assert!(read(&list) == (book.entries.clone(), book.marked), "the key, after all others");
+                    assert!(
+                        read(&list) == (book.entries.clone(), book.marked),
+                        "the key, after all others"
+                    );
                 }
             }
             check(&book, &list, threshold, &mut seen);

@@ -118,15 +118,7 @@ pub fn watch_clear(list: &mut [u8]) -> Answer {
     }))
 }
 
-pub fn watch_update(
-    d: usize,
-    w: usize,
-    memory: &mut Memory,
-    list: &mut [u8],
-    key: &[u8],
-    amount: u32,
-    threshold: u64,
-) -> Answer {
+pub fn watch_update(d: usize, w: usize, memory: &mut Memory, list: &mut [u8], key: &[u8], amount: u32, threshold: u64) -> Answer {
     answer((|| {
         good_shape(d, w, memory.len())?;
         good_list(list)?;
