@@ -8,14 +8,14 @@
  * *place and *figure always. METER_ACCEPTED, 0, is acceptance. Any other number says why the call was refused; then the figure is
  * 0 and every lent byte and word is as before. So test every number: only of an accepted call the figure says anything.
  *
- * The first number that applies is returned, in this order: 1 to 4 for the call's own d, w, memories and key; then the words, of
- * which the first faulty one decides, by 8, 9 and 10, then in a feed's head by 1 and 2 and for a record's key length by 4; then 5, 6
- * and 7. The place is an index, from 0, into the lent words where a word is at fault, else 0; a missing word's index is the number
- * of words lent.
+ * The first number that applies is returned, in this order: 1 to 4 for the call's own d, w, lengths and key; then the words, of
+ * which the first faulty one decides, by 8, 9 and 10, then in a feed's head by 1 and 2 and for a record's key length by 4; then 5,
+ * 11, 6 and 7. The place is an index, from 0, into the lent words where a word is at fault, else 0; a missing word's index is the
+ * number of words lent.
  *
  * What the caller owes: a pointer points to as many bytes or words as the length beside it says, place and figure to one number
  * each and merges to four bytes. No pointer is null, also where the length is 0. Words are aligned for uint32_t, place and figure
- * for uint64_t. What a call may write overlaps nothing else that it is given. A memory is used by one call at a time.
+ * for uint64_t. What a call may write overlaps nothing else that it is given. A memory or a list is used by one call at a time.
  */
 #ifndef METER_H
 #define METER_H
@@ -31,6 +31,15 @@
 #define METER_HEAD_D(figure) ((size_t)((figure) & 15))
 #define METER_HEAD_W(figure) ((size_t)1 << (((figure) >> 4) & 31))
 
+/* A watch list is METER_WATCH_SIZE lent bytes, of any alignment. It has places for METER_WATCH_PLACES keys. Byte i is the length of
+ * the key at place i, 0 from the first free place on; byte METER_WATCH_MARK is the mark, 0 or 1. The key at place i starts at byte
+ * METER_WATCH_KEY(i), its estimate, eight bytes, lowest first, at METER_WATCH_ESTIMATE(i). */
+#define METER_WATCH_PLACES 64
+#define METER_WATCH_MARK 64
+#define METER_WATCH_KEY(i) (65 + 64 * (size_t)(i))
+#define METER_WATCH_ESTIMATE(i) (4161 + 8 * (size_t)(i))
+#define METER_WATCH_SIZE 4673
+
 #ifdef __cplusplus
 extern "C" {
 #endif
@@ -43,12 +52,13 @@ enum meter_number {
     METER_DEPTH = 1,
     /* w is not a power of two from 32 to 65,536. */
     METER_WIDTH = 2,
-    /* A lent memory, the target's or the source's, has another length than d * w * 9 / 8. */
+    /* A lent memory, the target's or the source's, has another length than d * w * 9 / 8, or a watch list another than 4,673. */
     METER_LENGTH = 3,
     /* The key length is not 1 to 64. */
     METER_KEY_LENGTH = 4,
-    /* A merge byte of a group that the call reads is not one of the 26 valid ones. */
-    METER_MERGE_BYTE = 5,
+    /* A merge byte of a group that the call reads is not one of the 26 valid ones; or a watch list breaks its layout: a key length
+     * above 64, a length other than 0 after a 0, or a mark above 1. */
+    METER_CONTENT = 5,
     /* An update or a union would make a counter of 64 bits overflow. */
     METER_COUNTER_FULL = 6,
     /* The lent words are fewer than the image has. */
@@ -58,7 +68,9 @@ enum meter_number {
     /* A payload breaks a rule of its kind; or a layout code to unpack is 456,976 or more. */
     METER_PAYLOAD = 9,
     /* An image's head is sound but has another d or w than the call. */
-    METER_OTHER_GEOMETRY = 10
+    METER_OTHER_GEOMETRY = 10,
+    /* The threshold is 0. Tested after 5 and before 6. */
+    METER_ZERO_THRESHOLD = 11
 };
 
 /* A number in words. */
@@ -71,11 +83,11 @@ static inline const char *meter_text(uint32_t number) {
     case METER_WIDTH:
         return "the width is not a power of two from 32 to 65,536";
     case METER_LENGTH:
-        return "a memory's length is not d * w * 9 / 8";
+        return "a memory's length is not d * w * 9 / 8, or a watch list's not 4,673";
     case METER_KEY_LENGTH:
         return "the key length is not 1 to 64";
-    case METER_MERGE_BYTE:
-        return "a merge byte is not valid";
+    case METER_CONTENT:
+        return "a merge byte or a watch list is not valid";
     case METER_COUNTER_FULL:
         return "a counter of 64 bits would overflow";
     case METER_TOO_FEW_WORDS:
@@ -86,6 +98,8 @@ static inline const char *meter_text(uint32_t number) {
         return "a payload breaks a rule of its kind";
     case METER_OTHER_GEOMETRY:
         return "an image or a source is of another depth or width";
+    case METER_ZERO_THRESHOLD:
+        return "the threshold is 0";
     default:
         return "no number of this library";
     }
@@ -139,6 +153,20 @@ uint32_t meter_feed_record(size_t d, size_t w, uint8_t *memory, size_t memory_le
 /* How many words the record or the end takes that starts at the first of the lent words: where the next record starts. It gives no
  * number and writes nothing; of a record with a faulty word it says nothing. */
 size_t meter_feed_taken(const uint32_t *words, size_t words_len);
+
+/* Sets every byte of a watch list to 0, whatever it was: no key, no mark. Gives 0 and 3. */
+uint32_t meter_watch_clear(uint8_t *list, size_t list_len, uint64_t *place, uint64_t *figure);
+
+/* An update of the meter that the list takes note of, or no change of either. If the key is listed, its estimate becomes what the
+ * update left in the memory, whatever the threshold. If it is not and that estimate is at or above the threshold, it joins the list
+ * after all others; where no place is free it sets the mark instead, which stays until the list is cleared. Gives 0 to 6 and 11. */
+uint32_t meter_watch_update(size_t d, size_t w, uint8_t *memory, size_t memory_len, uint8_t *list, size_t list_len,
+                            const uint8_t *key, size_t key_len, uint32_t amount, uint64_t threshold, uint64_t *place,
+                            uint64_t *figure);
+
+/* Takes a key off a watch list; those after it move up by one place. Changes nothing where the key is not listed. Gives 0 and 3
+ * to 5. */
+uint32_t meter_watch_remove(uint8_t *list, size_t list_len, const uint8_t *key, size_t key_len, uint64_t *place, uint64_t *figure);
 
 #ifdef __cplusplus
 }

@@ -57,6 +57,24 @@ static void keyed(size_t d, size_t key_len) {
     for (size_t i = 0; i < CALLS; i++)
         accepted(call(feed_record)(d, w, memory, len, 1, records[i], ROOM, &place, &figure));
     told("feed record, asking", d, key_len);
+#ifndef PLAIN /* which has no lists */
+    /* 64 other keys of the same length: none of the keys counted here joins a full list. */
+    static uint8_t list[METER_WATCH_SIZE];
+    memset(list, 0, sizeof list);
+    accepted(call(clear)(d, w, memory, len, &place, &figure));
+    for (uint8_t i = 0; i < METER_WATCH_PLACES; i++) {
+        uint8_t other[LONGEST];
+        memset(other, 200 + i % 50, sizeof other);
+        other[0] = i;
+        accepted(call(watch_update)(d, w, memory, len, list, sizeof list, other, key_len, 1, 1, &place, &figure));
+    }
+    accepted(call(clear)(d, w, memory, len, &place, &figure));
+    CALLGRIND_ZERO_STATS;
+    for (size_t i = 0; i < CALLS; i++)
+        accepted(call(watch_update)(d, w, memory, len, list, sizeof list, keys + i % KEYS * key_len, key_len, amounts[i], 1, &place,
+                                    &figure));
+    told("update through a list of 64 others", d, key_len);
+#endif
 }
 
 /* A union of two meters and of one with its copy, an image written and an image read; numbers are for each group. */

@@ -9,14 +9,15 @@
 
 #include "either.h"
 
-enum { STACK = 1 << 20, DEEP = 1 << 13, CALLS = 40000, WIDEST = 4096 };
+enum { STACK = 1 << 20, DEEP = 1 << 13, CALLS = 40000, WIDEST = 4096, LIST = 4673 };
 
-enum { UPDATE, ESTIMATE, RECORD, UNITE, WRITE, READ, COUNT };
-static const char *const names[COUNT] = {"update", "estimate", "feed record", "union", "image written", "image read"};
+enum { UPDATE, ESTIMATE, RECORD, UNITE, WRITE, READ, WATCH, REMOVE, COUNT };
+static const char *const names[COUNT] = {"update",        "estimate",   "feed record",           "union",
+                                         "image written", "image read", "update through a list", "taken off a list"};
 static size_t most[COUNT];
 
 static size_t d, w, len, key_len, image_len;
-static uint8_t memory[8 * WIDEST / 8 * 9], source[sizeof memory], key[64];
+static uint8_t memory[8 * WIDEST / 8 * 9], source[sizeof memory], key[64], list[LIST];
 static uint32_t words[8 * WIDEST + 8 * WIDEST / 32 + 2], record[3 + 22], amount;
 
 /* Makes the call with the stack below filled with a byte; how much of it was written. Nothing of this function's own frame is below. */
@@ -46,6 +47,14 @@ __attribute__((noinline)) static size_t written(int which, int fill) {
     case READ:
         call(image_read)(d, w, memory, len, words, image_len, &place, &figure);
         break;
+#ifndef PLAIN
+    case WATCH:
+        call(watch_update)(d, w, memory, len, list, LIST, key, key_len, amount, 1, &place, &figure);
+        break;
+    case REMOVE:
+        call(watch_remove)(list, LIST, key, key_len, &place, &figure);
+        break;
+#endif
     }
     for (at = top - DEEP; at < top && *at == (uint8_t)fill; at++) {
     }
@@ -58,10 +67,12 @@ __attribute__((noinline)) static size_t written(int which, int fill) {
 
 /* Twice, with two bytes: what a call writes may be the byte that was there. */
 static void measure(int which) {
-    static uint8_t before[sizeof memory];
+    static uint8_t before[sizeof memory], before_list[LIST];
     memcpy(before, memory, len);
+    memcpy(before_list, list, LIST);
     size_t a = written(which, 0xa5);
     memcpy(memory, before, len);
+    memcpy(list, before_list, LIST);
     size_t b = written(which, 0x5a);
     size_t deeper = a > b ? a : b;
     if (deeper > most[which])
@@ -80,6 +91,7 @@ static void *run(void *unused) {
             call(clear)(d, w, memory, len, &place, &figure);
             if (i / 500 % 3 != 0)
                 fill(d, w, memory, i / 500 % 3 == 1);
+            memset(list, 0, LIST);
         }
         key_len = 1 + draw() % 64;
         for (size_t k = 0; k < key_len; k++)
@@ -90,6 +102,17 @@ static void *run(void *unused) {
         measure(UPDATE);
         measure(ESTIMATE);
         measure(RECORD);
+#ifndef PLAIN /* which has no lists */
+        measure(WATCH);
+        if (i % 5 == 4) {
+            size_t at = draw() % 64;
+            if (list[at] > 0) {
+                key_len = list[at];
+                memcpy(key, list + METER_WATCH_KEY(at), key_len);
+            }
+            measure(REMOVE);
+        }
+#endif
         if (i % 50 == 49) {
             fill(d, w, source, (int)(draw() % 2));
             measure(UNITE);
@@ -110,6 +133,9 @@ int main(void) {
         return 1;
     }
     for (int i = 0; i < COUNT; i++)
-        printf("%s;%zu\n", names[i], most[i]);
+        if (most[i] > 0)
+            printf("%s;%zu\n", names[i], most[i]);
+        else
+            printf("%s;–\n", names[i]);
     return 0;
 }

@@ -40,19 +40,19 @@ impl Answer {
     }
 }
 
-/// Why a call was refused, in checking order.
+/// Why a call was refused, by number.
 #[derive(Clone, Copy, Debug, PartialEq, Eq, Hash)]
 pub enum Reason {
     /// 1: the depth is not 1 to 8.
     Depth,
     /// 2: the width is not a power of two from 32 to 65,536.
     Width,
-    /// 3: a lent memory has another length than d * w * 9 / 8.
+    /// 3: a lent memory has another length than d * w * 9 / 8, or a watch list another than 4,673.
     Length,
     /// 4: the key length is not 1 to 64.
     KeyLength,
-    /// 5: a merge byte that the call reads is not valid.
-    MergeByte,
+    /// 5: a merge byte that the call reads is not valid, or a watch list breaks its layout.
+    Content,
     /// 6: a counter of 64 bits would overflow.
     CounterFull,
     /// 7: the lent words are fewer than the image's.
@@ -63,6 +63,8 @@ pub enum Reason {
     Payload,
     /// 10: an image or a source meter is of another depth or width.
     OtherGeometry,
+    /// 11: the threshold is 0. It is tested after 5 and before 6.
+    ZeroThreshold,
     /// A number that no call of this library gives: what was linked is another version.
     Unknown(u32),
 }
@@ -77,17 +79,18 @@ impl Reason {
             2 => Reason::Width,
             3 => Reason::Length,
             4 => Reason::KeyLength,
-            5 => Reason::MergeByte,
+            5 => Reason::Content,
             6 => Reason::CounterFull,
             7 => Reason::TooFewWords,
             8 => Reason::Word,
             9 => Reason::Payload,
             10 => Reason::OtherGeometry,
+            11 => Reason::ZeroThreshold,
             _ => Reason::Unknown(number),
         })
     }
 
-    /// The number of a reason: 1 to 10, and an unknown one as it was given.
+    /// The number of a reason: 1 to 11, and an unknown one as it was given.
     #[must_use]
     pub fn number(self) -> u32 {
         match self {
@@ -95,12 +98,13 @@ impl Reason {
             Reason::Width => 2,
             Reason::Length => 3,
             Reason::KeyLength => 4,
-            Reason::MergeByte => 5,
+            Reason::Content => 5,
             Reason::CounterFull => 6,
             Reason::TooFewWords => 7,
             Reason::Word => 8,
             Reason::Payload => 9,
             Reason::OtherGeometry => 10,
+            Reason::ZeroThreshold => 11,
             Reason::Unknown(number) => number,
         }
     }
@@ -111,14 +115,15 @@ impl fmt::Display for Reason {
         f.write_str(match self {
             Reason::Depth => "the depth is not 1 to 8",
             Reason::Width => "the width is not a power of two from 32 to 65,536",
-            Reason::Length => "a memory's length is not d * w * 9 / 8",
+            Reason::Length => "a memory's length is not d * w * 9 / 8, or a watch list's not 4,673",
             Reason::KeyLength => "the key length is not 1 to 64",
-            Reason::MergeByte => "a merge byte is not valid",
+            Reason::Content => "a merge byte or a watch list is not valid",
             Reason::CounterFull => "a counter of 64 bits would overflow",
             Reason::TooFewWords => "the lent words are too few for the image",
             Reason::Word => "a word is missing, not due there, or follows the end",
             Reason::Payload => "a payload breaks a rule of its kind",
             Reason::OtherGeometry => "an image or a source is of another depth or width",
+            Reason::ZeroThreshold => "the threshold is 0",
             Reason::Unknown(_) => "no number of this library",
         })
     }

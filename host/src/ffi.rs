@@ -69,4 +69,27 @@ extern "C" {
         figure: *mut u64,
     ) -> u32;
     pub fn meter_feed_taken(words: *const u32, words_len: usize) -> usize;
+    pub fn meter_watch_clear(list: *mut u8, list_len: usize, place: *mut u64, figure: *mut u64) -> u32;
+    pub fn meter_watch_update(
+        d: usize,
+        w: usize,
+        memory: *mut u8,
+        memory_len: usize,
+        list: *mut u8,
+        list_len: usize,
+        key: *const u8,
+        key_len: usize,
+        amount: u32,
+        threshold: u64,
+        place: *mut u64,
+        figure: *mut u64,
+    ) -> u32;
+    pub fn meter_watch_remove(
+        list: *mut u8,
+        list_len: usize,
+        key: *const u8,
+        key_len: usize,
+        place: *mut u64,
+        figure: *mut u64,
+    ) -> u32;
 }

@@ -18,7 +18,9 @@
 //! # Ok::<(), meter::Refused>(())
 //! ```
 //!
-//! The plain calls beside it are those of the proved library, one for one: they lend it a memory of exactly [`size`] bytes, and the
+//! A [`WatchList`] beside a meter keeps the keys that got heavy.
+//!
+//! The plain calls beside these are those of the proved library, one for one: they lend it a memory of exactly [`size`] bytes, and the
 //! caller tells the depth and width that it was cleared with. They take any depth, any width and any content of what is lent. The
 //! functions behind them are proved to do their work or to refuse it with a reason; the wrapper only passes slices on.
 //!
@@ -44,9 +46,11 @@
 mod answer;
 mod ffi;
 mod meter;
+mod watch;
 
 pub use answer::{Answer, Reason, Refused};
 pub use meter::Meter;
+pub use watch::{Entries, Entry, WatchList, WATCH_PLACES, WATCH_SIZE};
 
 /// The length of a meter's memory, if there is such a meter.
 #[must_use]
@@ -217,4 +221,40 @@ pub fn feed_record(d: usize, w: usize, memory: &mut [u8], before: u64, words: &[
 #[must_use = "it does nothing else"]
 pub fn feed_taken(words: &[u32]) -> usize {
     unsafe { ffi::meter_feed_taken(words.as_ptr(), words.len()) }
+}
+
+/// Sets every byte of a watch list to 0: no key, no mark.
+#[must_use = "the call may be refused"]
+pub fn watch_clear(list: &mut [u8]) -> Answer {
+    call(|place, figure| unsafe { ffi::meter_watch_clear(list.as_mut_ptr(), list.len(), place, figure) })
+}
+
+/// An update of a meter that a watch list takes note of, or no change of either: a listed key's estimate is renewed, and one that is
+/// not listed joins if its estimate is now at or above the threshold, or sets the mark where no place is free.
+#[must_use = "the call may be refused"]
+pub fn watch_update(d: usize, w: usize, memory: &mut [u8], list: &mut [u8], key: &[u8], amount: u32, threshold: u64) -> Answer {
+    call(|place, figure| unsafe {
+        ffi::meter_watch_update(
+            d,
+            w,
+            memory.as_mut_ptr(),
+            memory.len(),
+            list.as_mut_ptr(),
+            list.len(),
+            key.as_ptr(),
+            key.len(),
+            amount,
+            threshold,
+            place,
+            figure,
+        )
+    })
+}
+
+/// Takes a key off a watch list; one that is not listed changes nothing.
+#[must_use = "the call may be refused"]
+pub fn watch_remove(list: &mut [u8], key: &[u8]) -> Answer {
+    call(|place, figure| unsafe {
+        ffi::meter_watch_remove(list.as_mut_ptr(), list.len(), key.as_ptr(), key.len(), place, figure)
+    })
 }

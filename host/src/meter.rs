@@ -58,7 +58,7 @@ impl Meter {
 
     /// The meter whose memory the bytes are. Nothing in them says `d` and `w`: they have to be those of the meter they come from.
     ///
-    /// Refused with [`Reason::Depth`], [`Reason::Width`], [`Reason::Length`] and [`Reason::MergeByte`], of any group.
+    /// Refused with [`Reason::Depth`], [`Reason::Width`], [`Reason::Length`] and [`Reason::Content`], of any group.
     ///
     /// ```
     /// # use meter::{Meter, Reason};
@@ -66,7 +66,7 @@ impl Meter {
     /// bytes[7] = 200;
     /// assert!(Meter::from_bytes(1, 32, bytes.clone()).is_ok());
     /// bytes[35] = 0x80;
-    /// assert_eq!(Meter::from_bytes(1, 32, bytes).unwrap_err().reason, Reason::MergeByte);
+    /// assert_eq!(Meter::from_bytes(1, 32, bytes).unwrap_err().reason, Reason::Content);
     /// ```
     pub fn from_bytes(d: usize, w: usize, bytes: Vec<u8>) -> Result<Meter, Refused> {
         // Of the calls that only read, this one reads every group.
@@ -126,6 +126,11 @@ impl Meter {
     #[must_use]
     pub fn into_bytes(self) -> Vec<u8> {
         self.bytes
+    }
+
+    /// What a call is lent that has more than a meter to write.
+    pub(crate) fn lent(&mut self) -> (usize, usize, &mut [u8]) {
+        (self.d, self.w, &mut self.bytes)
     }
 
     /// Sets every byte to 0.

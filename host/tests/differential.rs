@@ -1,10 +1,12 @@
-//! The proved calls beside an independent implementation of document 01, on random lists of calls. After every call number, place
-//! and figure are compared, and the whole content of everything that was lent.
+//! The proved calls beside an independent implementation of documents 01 and 02, on random lists of calls. After every call number,
+//! place and figure are compared, and the whole content of everything that was lent.
 
 mod common;
 
-use common::{amount, damage, key, lend_bytes, lend_words, memory, record, seed, some_image, Lent, Rng};
-use reference::{Memory, Record};
+use common::{
+    amount, break_list, damage, key, lend_bytes, lend_words, list, memory, record, seed, some_image, valid_keys, Lent, Rng,
+};
+use reference::{Memory, Record, Watch, WATCH_SIZE};
 use std::collections::BTreeMap;
 use std::time::Instant;
 
@@ -23,6 +25,33 @@ const POSSIBLE: &[(&str, &[u32])] = &[
     ("feed_record", &[0, 1, 2, 3, 4, 5, 6, 8, 9]),
 ];
 
+/// Which numbers each call of a watch list can give.
+const OF_LISTS: &[(&str, &[u32])] = &[
+    ("watch_clear", &[0, 3]),
+    ("watch_update", &[0, 1, 2, 3, 4, 5, 6, 11]),
+    ("watch_remove", &[0, 3, 4, 5]),
+];
+
+/// What calls of a watch list come to, and the ways in which one was broken.
+const EVENTS: &[&str] = &[
+    "joined",
+    "joined at its threshold",
+    "joined by 0",
+    "renewed",
+    "renewed below the threshold",
+    "renewed at the first of two places",
+    "below the threshold",
+    "marked",
+    "taken off the first place",
+    "taken off the last of 64 places",
+    "taken off the first of two places",
+    "not there to be taken off",
+    "a length above 64",
+    "a 0 before a length",
+    "a length after a 0",
+    "a mark above 1",
+];
+
 /// How often each call gave each number.
 #[derive(Default)]
 struct Tally {
@@ -32,6 +61,7 @@ struct Tally {
     later: BTreeMap<(&'static str, u32), u64>,
     /// Of feed records, by what they are, where their words pass.
     records: BTreeMap<(&'static str, u32), u64>,
+    events: BTreeMap<&'static str, u64>,
 }
 
 impl Tally {
@@ -48,19 +78,27 @@ impl Tally {
         }
     }
 
+    fn event(&mut self, event: &'static str) {
+        *self.events.entry(event).or_default() += 1;
+    }
+
     /// Prints the counts; fails where a possible number was never given, or one that is not possible was.
-    fn finish(&self) {
+    fn numbers(&self, possible: &[(&'static str, &[u32])]) {
         println!("{} calls; how often each gave each number:", self.calls);
-        for (call, numbers) in POSSIBLE {
-            let line: Vec<String> = (0..=10)
+        for (call, numbers) in possible {
+            let line: Vec<String> = (0..=11)
                 .filter_map(|n| self.given.get(&(*call, n)).map(|c| format!("{n}: {c}")))
                 .collect();
             println!("  {call:<12} {}", line.join(", "));
-            for n in 0..=10 {
+            for n in 0..=11 {
                 let given = self.given.contains_key(&(*call, n));
                 assert_eq!(given, numbers.contains(&n), "{call} and number {n}");
             }
         }
+    }
+
+    fn finish(&self) {
+        self.numbers(POSSIBLE);
         println!("  at a word after the first: {:?}", self.later);
         for known in [("image_read", 8), ("image_read", 9), ("feed_record", 8), ("feed_record", 9)] {
             assert!(self.later.contains_key(&known), "{known:?} at a later word");
@@ -100,6 +138,27 @@ impl Pair {
     }
 }
 
+/// A watch list lent to the proved calls, and the same lent to the reference.
+#[derive(Clone)]
+struct Lists {
+    proved: Lent<u8>,
+    model: Vec<u8>,
+}
+
+impl Lists {
+    fn new(bytes: &[u8]) -> Lists {
+        Lists {
+            proved: lend_bytes(bytes),
+            model: bytes.to_vec(),
+        }
+    }
+
+    fn compare(&self, call: &str) {
+        assert!(self.proved.guards_stand(), "{call}: bytes beside the list");
+        assert!(self.proved.get() == self.model, "{call}: the list");
+    }
+}
+
 /// A depth and a width as told: mostly the meter's own.
 fn told(rng: &mut Rng, d: usize, w: usize) -> (usize, usize) {
     match rng.below(40) {
@@ -118,15 +177,15 @@ fn told(rng: &mut Rng, d: usize, w: usize) -> (usize, usize) {
     }
 }
 
-/// A memory of another length: one byte more or less, or none.
-fn other_length(rng: &mut Rng, pair: &Pair) -> Pair {
-    let mut bytes = pair.proved.get().to_vec();
+/// Bytes of another length: one more or less, or none.
+fn other_length(rng: &mut Rng, bytes: &[u8]) -> Vec<u8> {
+    let mut bytes = bytes.to_vec();
     match rng.below(3) {
         0 => bytes.clear(),
         1 => drop(bytes.pop()),
         _ => bytes.push(0),
     }
-    Pair::new(&bytes)
+    bytes
 }
 
 struct List {
@@ -235,6 +294,142 @@ impl List {
         p.compare("feed_record");
     }
 
+    fn watch_clear(&mut self, l: &mut Lists) {
+        let a = meter::watch_clear(l.proved.get_mut());
+        self.tally.compare("watch_clear", a, reference::watch_clear(&mut l.model));
+        l.compare("watch_clear");
+    }
+
+    fn watch_update(&mut self, (d, w): (usize, usize), p: &mut Pair, l: &mut Lists, key: &[u8], amount: u32, threshold: u64) {
+        let lent = lend_bytes(key);
+        let before = l.model.clone();
+        let a = meter::watch_update(d, w, p.proved.get_mut(), l.proved.get_mut(), lent.get(), amount, threshold);
+        let model = reference::watch_update(d, w, &mut p.model, &mut l.model, key, amount, threshold);
+        self.tally.compare("watch_update", a, model);
+        assert!(lent.guards_stand() && lent.get() == key, "watch_update: the key");
+        p.compare("watch_update");
+        l.compare("watch_update");
+        if a.number != 0 {
+            assert!(l.model == before, "watch_update: a refused call changes nothing");
+            return;
+        }
+        let [before, after] = [&before, &l.model].map(|bytes| Watch::parse(bytes).expect("a list"));
+        let estimate = after.find(key).map(|at| after.places[at].estimate);
+        match (before.find(key), estimate) {
+            (Some(at), _) => {
+                self.tally.event("renewed");
+                if estimate < Some(threshold) {
+                    self.tally.event("renewed below the threshold");
+                }
+                if before.places[at + 1..].iter().any(|place| place.key == key) {
+                    self.tally.event("renewed at the first of two places");
+                }
+            }
+            (None, Some(estimate)) => {
+                self.tally.event("joined");
+                if estimate == threshold {
+                    self.tally.event("joined at its threshold");
+                }
+                if amount == 0 {
+                    self.tally.event("joined by 0");
+                }
+            }
+            (None, None) if after.marked && !before.marked => self.tally.event("marked"),
+            (None, None) if !after.marked => self.tally.event("below the threshold"),
+            (None, None) => {}
+        }
+    }
+
+    fn watch_remove(&mut self, l: &mut Lists, key: &[u8]) {
+        let lent = lend_bytes(key);
+        let before = l.model.clone();
+        let a = meter::watch_remove(l.proved.get_mut(), lent.get());
+        self.tally
+            .compare("watch_remove", a, reference::watch_remove(&mut l.model, key));
+        assert!(lent.guards_stand() && lent.get() == key, "watch_remove: the key");
+        l.compare("watch_remove");
+        if a.number != 0 {
+            assert!(l.model == before, "watch_remove: a refused call changes nothing");
+            return;
+        }
+        let before = Watch::parse(&before).expect("a list");
+        match before.find(key) {
+            None => self.tally.event("not there to be taken off"),
+            Some(0) => self.tally.event("taken off the first place"),
+            Some(63) => self.tally.event("taken off the last of 64 places"),
+            Some(_) => {}
+        }
+        if before.places.iter().filter(|place| place.key == key).count() > 1 {
+            self.tally.event("taken off the first of two places");
+        }
+    }
+
+    /// A threshold: 0, 1, small, large, or close to what the key comes to.
+    fn threshold(&mut self, (d, w): (usize, usize), p: &mut Pair, key: &[u8], amount: u32) -> u64 {
+        let estimate = reference::estimate(d, w, &mut p.model, key).figure;
+        match self.rng.below(16) {
+            0 => 0,
+            1..=5 => 1,
+            6 | 7 => self.rng.within(2..2_000) as u64,
+            8 => u64::MAX - self.rng.below(2) as u64,
+            9 => self.rng.next() >> self.rng.below(64),
+            10 => estimate,
+            _ => estimate
+                .saturating_add(u64::from(amount) + 1)
+                .saturating_sub(self.rng.below(3) as u64),
+        }
+    }
+
+    /// A list of calls on two meters of one geometry and two watch lists, by as many keys as a list has room for, fewer and more.
+    fn run_watched(&mut self, d: usize, w: usize, calls: usize) {
+        let count = self.rng.pick(&[4, 30, 90, 150]);
+        let keys = valid_keys(&mut self.rng, count);
+        let mut meters: Vec<Pair> = (0..2).map(|_| Pair::new(&memory(&mut self.rng, d, w))).collect();
+        let mut lists: Vec<Lists> = (0..2).map(|_| Lists::new(&list(&mut self.rng, &keys))).collect();
+        for _ in 0..calls {
+            let (at, on) = (self.rng.below(2), self.rng.below(2));
+            let (mut target, mut watch) = (meters[at].clone(), lists[on].clone());
+            if self.rng.once_in(25) {
+                target = Pair::new(&other_length(&mut self.rng, target.proved.get()));
+            } else if self.rng.once_in(25) {
+                watch = Lists::new(&other_length(&mut self.rng, &watch.model));
+            } else if self.rng.once_in(12) {
+                let event = break_list(&mut self.rng, &mut watch.model);
+                self.tally.event(event);
+                watch = Lists::new(&watch.model);
+            }
+            let told = told(&mut self.rng, d, w);
+            let some_key = if self.rng.once_in(12) {
+                key(&mut self.rng)
+            } else {
+                keys[self.rng.below(count)].clone()
+            };
+            let amount = amount(&mut self.rng);
+            match self.rng.below(32) {
+                0 if self.rng.once_in(3) => self.watch_clear(&mut watch),
+                1 => self.clear(told.0, told.1, &mut target),
+                2 => self.update(told.0, told.1, &mut target, &some_key, amount),
+                3..=6 => self.watch_remove(&mut watch, &some_key),
+                7 => {
+                    let last = Watch::parse(&watch.model).and_then(|w| w.places.into_iter().rfind(|place| !place.key.is_empty()));
+                    self.watch_remove(&mut watch, &last.map_or(some_key, |place| place.key))
+                }
+                8 => target = Pair::new(&memory(&mut self.rng, d, w)),
+                9 => watch = Lists::new(&list(&mut self.rng, &keys)),
+                _ => {
+                    let threshold = self.threshold((d, w), &mut target, &some_key, amount);
+                    self.watch_update(told, &mut target, &mut watch, &some_key, amount, threshold)
+                }
+            }
+            if target.proved.get().len() == d * w / 8 * 9 {
+                meters[at] = target;
+            }
+            if Watch::parse(&watch.model).is_some() {
+                lists[on] = watch;
+            }
+        }
+    }
+
     /// A list of calls on three meters of one geometry.
     fn run(&mut self, d: usize, w: usize, calls: usize) {
         let mut meters: Vec<Pair> = (0..3).map(|_| Pair::new(&memory(&mut self.rng, d, w))).collect();
@@ -245,9 +440,9 @@ impl List {
             let mut target = meters[at].clone();
             let mut source = meters[(at + self.rng.below(3)) % 3].clone();
             if self.rng.once_in(25) {
-                target = other_length(&mut self.rng, &target);
+                target = Pair::new(&other_length(&mut self.rng, target.proved.get()));
             } else if self.rng.once_in(25) {
-                source = other_length(&mut self.rng, &source);
+                source = Pair::new(&other_length(&mut self.rng, source.proved.get()));
             }
             let (td, tw) = told(&mut self.rng, d, w);
             let some_key = self.rng.below(keys.len());
@@ -321,6 +516,63 @@ fn random_lists_of_calls() {
     println!("{:.1} s", start.elapsed().as_secs_f64());
 }
 
+/// As above, with updates through watch lists and takings off: sound lists, lists made by hand, full ones and broken ones.
+#[test]
+fn random_lists_of_watch_calls() {
+    let seed = seed("random_lists_of_watch_calls");
+    let start = Instant::now();
+    let mut list = List {
+        rng: Rng::new(seed),
+        tally: Tally::default(),
+    };
+    while list.tally.calls < 300_000 {
+        let d = list.rng.within(1..9);
+        let w = list.rng.pick(&[32, 32, 64]);
+        list.run_watched(d, w, 200);
+    }
+    for w in (7..17).map(|n| 1 << n) {
+        for d in [1, 4, 8] {
+            list.run_watched(d, w, (2_000_000 / (d * w)).clamp(30, 1_000));
+        }
+    }
+    list.tally.numbers(OF_LISTS);
+    println!("  {:?}; {:.1} s", list.tally.events, start.elapsed().as_secs_f64());
+    for event in EVENTS {
+        assert!(list.tally.events.get(event) > Some(&20), "{event}");
+    }
+}
+
+/// Every key length at every place and every mark, in lists with few and with many places in use: a call takes them, or refuses.
+#[test]
+fn all_lengths_and_marks() {
+    let mut list = List {
+        rng: Rng::new(0),
+        tally: Tally::default(),
+    };
+    let clear = Pair::new(&[0; 36]);
+    for used in [0, 1, 2, 62, 63, 64] {
+        let mut bytes = vec![0; WATCH_SIZE];
+        for place in 0..used {
+            bytes[place] = 1 + place as u8;
+            bytes[65 + 64 * place..][..64].fill(b'k');
+        }
+        for at in 0..65 {
+            for byte in 0..=255 {
+                let mut lists = Lists::new(&bytes);
+                lists.model[at] = byte;
+                lists.proved.get_mut()[at] = byte;
+                let key = vec![b'k'; 1 + (at + usize::from(byte)) % 64];
+                list.watch_remove(&mut lists.clone(), &key);
+                list.watch_update((1, 32), &mut clear.clone(), &mut lists, &key, 1, 1);
+            }
+        }
+    }
+    println!("{:?}", list.tally.given);
+    for call in ["watch_remove", "watch_update"] {
+        assert!([0, 5].iter().all(|n| list.tally.given.contains_key(&(call, *n))), "{call}");
+    }
+}
+
 /// Every layout code, those just past the last, and every merge byte at each place.
 #[test]
 fn all_layout_codes() {
@@ -359,4 +611,12 @@ fn nothing_lent() {
     assert_eq!(meter::image_read(1, 32, &mut [0; 36], &[]).number, 8);
     assert_eq!(meter::feed_head(&[]).number, 8);
     assert_eq!(meter::feed_record(1, 32, &mut [0; 36], 0, &[]).number, 8);
+    assert_eq!(meter::watch_clear(&mut []).number, 3);
+    assert_eq!(meter::watch_update(1, 32, &mut [0; 36], &mut [], &[], 1, 1).number, 3);
+    assert_eq!(
+        meter::watch_update(1, 32, &mut [0; 36], &mut [0; WATCH_SIZE], &[], 1, 1).number,
+        4
+    );
+    assert_eq!(meter::watch_remove(&mut [], &[]).number, 3);
+    assert_eq!(meter::watch_remove(&mut [0; WATCH_SIZE], &[]).number, 4);
 }

@@ -64,6 +64,16 @@ fn short_in_rust() {
     rust_example("short");
 }
 
+#[test]
+fn watched_in_c() {
+    c_example("watch");
+}
+
+#[test]
+fn watched_in_rust() {
+    rust_example("watch");
+}
+
 /// README shows the short examples as they are built and run here.
 #[test]
 fn in_readme() {

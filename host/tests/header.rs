@@ -1,13 +1,13 @@
 //! include/meter.h by itself: it compiles as C and as C++ without a warning, and its macros and texts are those of the Rust crate.
 
-use meter::{head_geometry, most_image_words, size, Reason};
+use meter::{head_geometry, most_image_words, size, Reason, WATCH_PLACES, WATCH_SIZE};
 use std::env;
 use std::ffi::OsString;
 use std::fs;
 use std::path::Path;
 use std::process::Command;
 
-/// Every number by its name with its text, every meter's size and words, every head's d and w.
+/// Every number by its name with its text, every meter's size and words, every head's d and w, every place of a watch list.
 const PROGRAM: &str = r#"
 #include "meter.h"
 #include "meter.h"
@@ -16,17 +16,18 @@ const PROGRAM: &str = r#"
 /* The macros are constants, of the largest meter too. */
 static uint8_t memory[METER_SIZE(8, 65536)];
 static uint32_t words[METER_IMAGE_WORDS(8, 65536)];
+static uint8_t list[METER_WATCH_SIZE];
 
 int main(void) {
-    const uint32_t names[] = {METER_ACCEPTED,     METER_DEPTH,         METER_WIDTH, METER_LENGTH,  METER_KEY_LENGTH,    METER_MERGE_BYTE,
-                              METER_COUNTER_FULL, METER_TOO_FEW_WORDS, METER_WORD,  METER_PAYLOAD, METER_OTHER_GEOMETRY};
+    const uint32_t names[] = {METER_ACCEPTED,     METER_DEPTH,         METER_WIDTH, METER_LENGTH,  METER_KEY_LENGTH,     METER_CONTENT,
+                              METER_COUNTER_FULL, METER_TOO_FEW_WORDS, METER_WORD,  METER_PAYLOAD, METER_OTHER_GEOMETRY, METER_ZERO_THRESHOLD};
     uint32_t number, payload;
-    size_t d, w;
-    if (names[10] != METER_OTHER_GEOMETRY || sizeof names / sizeof names[0] != 11)
+    size_t d, w, i;
+    if (names[11] != METER_ZERO_THRESHOLD || sizeof names / sizeof names[0] != 12)
         return 1;
-    for (number = 0; number < 11; number++)
+    for (number = 0; number < 12; number++)
         printf("%lu %s\n", (unsigned long)names[number], meter_text(number));
-    printf("%s\n%s\n", meter_text(11), meter_text(0xffffffff));
+    printf("%s\n%s\n", meter_text(12), meter_text(0xffffffff));
     for (d = 1; d <= 8; d++)
         for (w = 32; w <= 65536; w *= 2)
             printf("%lu %lu\n", (unsigned long)METER_SIZE(d, w), (unsigned long)METER_IMAGE_WORDS(d, w));
@@ -40,17 +41,22 @@ int main(void) {
         printf("%lu %lu\n", (unsigned long)METER_HEAD_D(figure), (unsigned long)METER_HEAD_W(figure));
     }
     printf("%lu %lu\n", (unsigned long)METER_HEAD_D(0x10 | 1), (unsigned long)METER_HEAD_W(0x50 | 1));
+    for (i = 0; i < METER_WATCH_PLACES; i++)
+        printf("%lu %lu\n", (unsigned long)METER_WATCH_KEY(i), (unsigned long)METER_WATCH_ESTIMATE(i));
+    printf("%lu %lu\n", (unsigned long)METER_WATCH_KEY(1 + 1), (unsigned long)METER_WATCH_ESTIMATE(1 + 1));
+    list[METER_WATCH_SIZE - 1] = list[METER_WATCH_MARK];
+    printf("%lu %d\n", (unsigned long)sizeof list, METER_WATCH_MARK);
     return 0;
 }
 "#;
 
 fn expected() -> String {
     let mut lines = vec!["0 accepted".to_string()];
-    for number in 1..11 {
+    for number in 1..12 {
         let reason = Reason::from_number(number).expect("a reason");
         lines.push(format!("{number} {reason}"));
     }
-    lines.extend([11, u32::MAX].map(|number| Reason::from_number(number).expect("a reason").to_string()));
+    lines.extend([12, u32::MAX].map(|number| Reason::from_number(number).expect("a reason").to_string()));
     let both = |d, w| {
         format!(
             "{} {}",
@@ -69,6 +75,10 @@ fn expected() -> String {
         lines.push(format!("{d} {w}"));
     }
     lines.push("1 32".into());
+    // A list: the lengths, the mark, the keys, the estimates.
+    let place = |i: usize| format!("{} {}", WATCH_PLACES + 1 + 64 * i, WATCH_SIZE - 8 * (WATCH_PLACES - i));
+    lines.extend((0..WATCH_PLACES).map(place));
+    lines.extend([place(2), format!("{WATCH_SIZE} {WATCH_PLACES}")]);
     lines.join("\n") + "\n"
 }
 

@@ -1,11 +1,11 @@
-//! `Meter` beside the independent implementation of document 01. It is told a depth and a width once, so what the plain calls are tried
-//! with at random (tests/differential.rs) is tried here with every way to make a meter and every way to be refused.
+//! `Meter` and `WatchList` beside the independent implementation. A meter is told a depth and a width once, so what the plain calls are
+//! tried with at random (tests/differential.rs) is tried here with every way to make a meter or a list and every way to be refused.
 
 mod common;
 
-use common::{amount, damage, key, memory, record, seed, some_image, Rng};
-use meter::{most_image_words, Meter, Reason, Refused};
-use reference::Memory;
+use common::{amount, break_list, damage, key, list, memory, record, seed, some_image, valid_keys, Rng};
+use meter::{most_image_words, Entry, Meter, Reason, Refused, WatchList, WATCH_SIZE};
+use reference::{Memory, Watch};
 use std::collections::BTreeMap;
 
 /// How often each method gave each number.
@@ -34,7 +34,7 @@ impl Tally {
     fn finish(&self, possible: &[(&'static str, &[u32])]) {
         println!("how often each method gave each number: {:?}", self.0);
         for (method, numbers) in possible {
-            for number in 0..=10 {
+            for number in 0..=11 {
                 let given = self.0.contains_key(&(*method, number));
                 assert_eq!(given, numbers.contains(&number), "{method} and number {number}");
             }
@@ -298,6 +298,89 @@ fn damaged_images() {
     assert!(accepted > 100 && refused > 1_000);
 }
 
+/// What a list says of itself is what its bytes hold.
+fn told_right(watch: &WatchList, bytes: &[u8], some_key: &[u8]) {
+    assert!(watch.bytes() == bytes, "the list after a call");
+    let expected = Watch::parse(bytes).expect("no call leaves what is no list");
+    let used = expected.used();
+    let entries: Vec<Entry> = expected.places[..used]
+        .iter()
+        .map(|place| Entry {
+            key: &place.key,
+            estimate: place.estimate,
+        })
+        .collect();
+    assert_eq!((watch.len(), watch.is_empty()), (used, used == 0));
+    assert_eq!(watch.is_marked(), expected.marked);
+    assert_eq!(watch.iter().collect::<Vec<_>>(), entries);
+    assert_eq!(watch.into_iter().len(), used);
+    assert!(watch.iter().rev().eq(entries.into_iter().rev()), "from the last on");
+    let estimate = expected.find(some_key).map(|at| expected.places[at].estimate);
+    // An empty key is at no place, though free places are as short.
+    assert_eq!(watch.get(some_key), estimate.filter(|_| !some_key.is_empty()));
+}
+
+#[test]
+fn watch_lists() {
+    let mut rng = Rng::new(seed("watch_lists"));
+    let mut tally = Tally::default();
+    let clear = WatchList::new();
+    assert!(clear.bytes() == [0; WATCH_SIZE] && clear == WatchList::default());
+    for _ in 0..3_000 {
+        let (d, w) = (rng.within(1..9), 32 << rng.below(2));
+        let mut meter = some_meter(&mut rng, d, w);
+        let mut memory = model(&meter);
+        let some_keys = valid_keys(&mut rng, 80);
+        let mut bytes = list(&mut rng, &some_keys);
+
+        let mut tried = bytes.clone();
+        match rng.below(4) {
+            0 => drop(tried.pop()),
+            1 => tried.push(0),
+            2 => drop(break_list(&mut rng, &mut tried)),
+            _ => {}
+        }
+        let made = WatchList::from_bytes(tried.clone());
+        if let Ok(watch) = &made {
+            told_right(watch, &tried, &some_keys[0]);
+            assert!(watch.clone().into_bytes() == tried);
+        }
+        let answer = reference::watch_remove(&mut tried, b"k");
+        tally.compare("from_bytes", made, answer, |_| 0);
+
+        let mut watch = WatchList::from_bytes(bytes.clone()).expect("a list");
+        for _ in 0..30 {
+            let some_key = if rng.once_in(8) {
+                key(&mut rng)
+            } else {
+                some_keys[rng.below(some_keys.len())].clone()
+            };
+            match rng.below(12) {
+                0 if rng.once_in(10) => {
+                    watch.clear();
+                    assert_eq!(reference::watch_clear(&mut bytes).number, 0);
+                }
+                0..=7 => {
+                    let (n, threshold) = (amount(&mut rng), rng.pick(&[0, 1, 1, 1, 1_000, u64::MAX]));
+                    let answer = reference::watch_update(d, w, &mut memory, &mut bytes, &some_key, n, threshold);
+                    tally.compare("update", watch.update(&mut meter, &some_key, n, threshold), answer, |()| 0);
+                }
+                _ => {
+                    let listed = watch.get(&some_key).is_some();
+                    let answer = reference::watch_remove(&mut bytes, &some_key);
+                    tally.compare("remove", watch.remove(&some_key), answer, |was| {
+                        assert_eq!(was, listed, "whether it was listed");
+                        0
+                    });
+                }
+            }
+            told_right(&watch, &bytes, &some_key);
+            assert!(meter.bytes() == memory.to_bytes(), "the memory after a call");
+        }
+    }
+    tally.finish(&[("from_bytes", &[0, 3, 5]), ("update", &[0, 4, 6, 11]), ("remove", &[0, 4])]);
+}
+
 /// Every number is a result, whatever was linked; each reason says its number and has words of its own.
 #[test]
 fn every_number() {
@@ -315,7 +398,7 @@ fn every_number() {
                     (refused.number(), refused.reason.number(), refused.place),
                     (number, number, 5)
                 );
-                assert_eq!(matches!(refused.reason, Reason::Unknown(_)), number > 10);
+                assert_eq!(matches!(refused.reason, Reason::Unknown(_)), number > 11);
                 assert_eq!(refused.to_string(), format!("{} (number {number}, place 5)", refused.reason));
                 texts.insert(refused.reason.to_string());
                 let error: Box<dyn std::error::Error> = refused.into();
@@ -323,11 +406,17 @@ fn every_number() {
             }
         }
     }
-    assert_eq!(texts.len(), 11);
+    assert_eq!(texts.len(), 12);
 }
 
 #[test]
 fn debug_is_short() {
     let largest = Meter::new(8, 65_536).expect("a meter");
     assert_eq!(format!("{largest:?}"), "Meter { d: 8, w: 65536, .. }");
+    let mut watch = WatchList::new();
+    watch.update(&mut largest.clone(), b"A", 300, 300).expect("accepted");
+    assert_eq!(
+        format!("{watch:?}"),
+        "WatchList { entries: [Entry { key: [65], estimate: 300 }], marked: false }"
+    );
 }

@@ -4,7 +4,7 @@
 
 mod common;
 
-use common::{amount, memory, record_words, seed, Rng};
+use common::{amount, break_list, list, memory, record_words, seed, Rng};
 use std::collections::BTreeMap;
 
 /// The traffic of a list of calls: pairs of key and amount, those of one key added up.
@@ -51,6 +51,7 @@ struct Seen {
     full: u64,
     unions: u64,
     images: u64,
+    watched: u64,
     levels: [u64; 4],
 }
 
@@ -133,6 +134,27 @@ fn call(rng: &mut Rng, d: usize, w: usize, meters: &mut [Meter], keys: &[Vec<u8>
             meter::unite(d, w, &mut m.memory, &raw).number == 0
         }
         11 => meter::image_read(d, w, &mut m.memory, &[0x1000_0051, 0x2000_0000]).number == 0,
+        // An update through a watch list of any content is an update.
+        14..=16 => {
+            let (mut watch, amount) = (list(rng, keys), amount(rng));
+            if rng.once_in(4) {
+                break_list(rng, &mut watch);
+            }
+            let threshold = rng.pick(&[0, 1, 1_000, u64::MAX]);
+            match meter::watch_update(d, w, &mut m.memory, &mut watch, key, amount, threshold).number {
+                0 => {
+                    *m.traffic.entry(key.clone()).or_default() += amount as u128;
+                    seen.watched += 1;
+                    true
+                }
+                5 | 11 => false,
+                6 => {
+                    seen.full += 1;
+                    false
+                }
+                n => panic!("an update through a list gave {n}"),
+            }
+        }
         _ => {
             let amount = if rng.once_in(3) { amount(rng) } else { rng.below(100) as u32 };
             let answer = if rng.once_in(3) {
@@ -188,9 +210,10 @@ fn estimates_lie_between_the_two_figures() {
         }
     }
     println!(
-        "{} calls, {} of them refused ({} for a full counter), {} unions, {} images; {} estimates, {} exact; levels {:?}",
-        seen.calls, seen.refused, seen.full, seen.unions, seen.images, seen.estimates, seen.exact, seen.levels
+        "{} calls, {} of them refused ({} for a full counter), {} unions, {} images, {} updates through lists; {} estimates, {} exact; levels {:?}",
+        seen.calls, seen.refused, seen.full, seen.unions, seen.images, seen.watched, seen.estimates, seen.exact, seen.levels
     );
+    assert!(seen.watched > 1_000, "updates through lists were accepted");
     assert!(seen.levels.iter().all(|&n| n > 100), "every L was reached");
     assert!(seen.full > 10, "a full counter was reached");
     assert!(seen.exact > 0 && seen.exact < seen.estimates);

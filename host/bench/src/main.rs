@@ -1,4 +1,5 @@
-//! The proved meter beside the same rule in plain C and a Count-Min with counters of 64 bits, in one run: `bench/run`.
+//! The proved meter beside the same rule in plain C and a Count-Min with counters of 64 bits, in one run: `bench/run`. With the argument
+//! `watch` only what a watch list costs.
 //!
 //! Each case is measured five times for each, turn by turn, by processor time, and the median is printed. Outputs are compared as
 //! it goes. Memories are cleared, or copied from the same start, before each measured run, and that is not measured.
@@ -22,8 +23,14 @@ struct Calls {
 
 impl Calls {
     fn new(length: usize, zipf: bool) -> Calls {
+        Calls::by(length, zipf, |_| {})
+    }
+
+    /// Calls by keys that something is done to.
+    fn by(length: usize, zipf: bool, change: impl Fn(&mut [u8])) -> Calls {
         let mut rng = Rng(7);
-        let names: Vec<Vec<u8>> = (0..KEYS).map(|_| (0..length).map(|_| rng.draw() as u8).collect()).collect();
+        let mut names: Vec<Vec<u8>> = (0..KEYS).map(|_| (0..length).map(|_| rng.draw() as u8).collect()).collect();
+        names.iter_mut().for_each(|name| change(name));
         let ranks = Zipf::new(KEYS);
         let mut keys = Vec::with_capacity(CALLS * length);
         let mut amounts = Vec::with_capacity(CALLS);
@@ -304,6 +311,104 @@ fn hash_alone() {
     }
 }
 
+/// A full list, of keys of one length that something is done to.
+fn full_list(length: usize, change: impl Fn(&mut [u8])) -> Vec<u8> {
+    let mut rng = Rng(8);
+    let (mut memory, mut list) = (vec![0; size(1, 32)], vec![0; meter::WATCH_SIZE]);
+    for _ in 0..meter::WATCH_PLACES {
+        let mut key: Vec<u8> = (0..length).map(|_| rng.draw() as u8).collect();
+        change(&mut key);
+        let answer = meter::watch_update(1, 32, &mut memory, &mut list, &key, 1, 1);
+        assert_eq!(answer.number, 0, "an update through the list");
+    }
+    assert!(list[63] > 0 && list[64] == 0, "64 keys");
+    list
+}
+
+/// A line of what two lists add to an update, beside an estimate and an update on four rows.
+fn line_of_lists(name: &str, d: usize, calls: &Calls, lists: [Vec<u8>; 2]) {
+    let w = 1_024;
+    // No key joins, so that what is measured is the same in every round.
+    let threshold = u64::MAX;
+    let memory = |d| RefCell::new(vec![0; size(d, w)]);
+    let (plain, four) = (memory(d), memory(4));
+    let noted = [0, 1].map(|at| (memory(d), RefCell::new(lists[at].clone())));
+    let mut read = vec![0; size(d, w)];
+    for (key, amount) in calls.each() {
+        assert_eq!(meter::update(d, w, &mut read, key, amount).number, 0, "an update");
+    }
+    let update = |d, memory: &RefCell<Vec<u8>>| {
+        let mut m = memory.borrow_mut();
+        for (key, amount) in calls.each() {
+            black_box(meter::update(d, w, &mut m, key, amount));
+        }
+    };
+    let through = |(memory, list): &(RefCell<Vec<u8>>, RefCell<Vec<u8>>)| {
+        let (mut m, mut list) = (memory.borrow_mut(), list.borrow_mut());
+        for (key, amount) in calls.each() {
+            black_box(meter::watch_update(d, w, &mut m, &mut list, key, amount, threshold));
+        }
+    };
+    let times = time(vec![
+        (&mut || plain.borrow_mut().fill(0), &mut || update(d, &plain)),
+        (&mut || noted[0].0.borrow_mut().fill(0), &mut || through(&noted[0])),
+        (&mut || noted[1].0.borrow_mut().fill(0), &mut || through(&noted[1])),
+        (&mut || {}, &mut || {
+            for (key, _) in calls.each() {
+                black_box(meter::estimate(d, w, &read, key));
+            }
+        }),
+        (&mut || four.borrow_mut().fill(0), &mut || update(4, &four)),
+    ]);
+    for ((memory, noted), list) in noted.into_iter().zip(&lists) {
+        assert!(memory.into_inner() == read, "an update through a list is an update");
+        assert!(noted.into_inner()[..4_161] == list[..4_161], "no key joined, and none left");
+    }
+    let [update, first, second, estimate, four] = [0, 1, 2, 3, 4].map(|at| times[at] * 1e9 / CALLS as f64);
+    println!(
+        "| {name} | {update:.1} | {first:.1} | {:.1} | {second:.1} | {:.1} | {estimate:.1} | {four:.1} |",
+        first - update,
+        second - update
+    );
+}
+
+/// What a watch list adds to an update: of a key that is not among its 64, and of one at its first and at its last place.
+fn watched() {
+    println!("\n| w 1024, Zipf, nanoseconds a call | update | through a list of 64 other keys | it adds | of 64 of another length | it adds | estimate | update on 4 rows |");
+    println!("|---|---|---|---|---|---|---|---|");
+    // Keys of one length that differ in their last four bytes alone take the most work to tell apart.
+    let alike: fn(&mut [u8]) = |key| {
+        let same = key.len() - 4;
+        key[..same].fill(b'k')
+    };
+    for (suffix, lengths, change) in [
+        ("", &[4, 13, 37][..], (|_| {}) as fn(&mut [u8])),
+        (", alike but for 4 bytes", &[13, 37], alike),
+    ] {
+        for &length in lengths {
+            let calls = Calls::by(length, true, change);
+            for d in [1, 4, 8] {
+                let lists = [length, length + 1].map(|length| full_list(length, change));
+                line_of_lists(&format!("d {d}, {length} bytes{suffix}"), d, &calls, lists);
+            }
+        }
+    }
+    println!("\n| w 1024, one key, nanoseconds a call | update | listed at the first of 64 places | it adds | at the last | it adds | estimate | update on 4 rows |");
+    println!("|---|---|---|---|---|---|---|---|");
+    for length in [4, 13, 37] {
+        let key = vec![b'k'; length];
+        let calls = Calls::by(length, true, |name| name.copy_from_slice(&key));
+        for d in [1, 4, 8] {
+            let lists = [0, 63].map(|place| {
+                let mut list = full_list(length, |_| {});
+                list[65 + 64 * place..][..length].copy_from_slice(&key);
+                list
+            });
+            line_of_lists(&format!("d {d}, {length} bytes"), d, &calls, lists);
+        }
+    }
+}
+
 /// What a whole meter holds.
 #[derive(Clone, Copy)]
 enum Kind {
@@ -555,9 +660,13 @@ fn main() {
         env!("RUSTC_VERSION")
     );
     println!("Median of {ROUNDS} rounds; {CALLS} calls a round on {KEYS} keys.");
+    if std::env::args().nth(1).is_some_and(|only| only == "watch") {
+        return watched();
+    }
     keyed();
     by_rows();
     hash_alone();
+    watched();
     feeds();
     whole_meters();
     growth();

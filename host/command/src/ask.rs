@@ -60,7 +60,8 @@ fn parse_address(part: &[u8]) -> Option<Asked> {
     Some(Asked { key, name })
 }
 
-fn address_of(bytes: &[u8]) -> Option<IpAddr> {
+/// The address that a key of 4 or 16 bytes is.
+pub fn address_of(bytes: &[u8]) -> Option<IpAddr> {
     let four = <[u8; 4]>::try_from(bytes).map(IpAddr::from);
     four.or_else(|_| <[u8; 16]>::try_from(bytes).map(IpAddr::from)).ok()
 }

@@ -12,6 +12,7 @@ mod packet;
 mod pcap;
 mod run;
 mod text;
+mod watch;
 mod words;
 
 use cli::{usage, Failure, Outcome};
@@ -32,6 +33,7 @@ usage: meter SUBCOMMAND ...
            counters
   unite    add images up into one
   ask      what a meter's image has counted for keys
+  watch    run a feed and list the keys that got heavy
   new      write the image of a clear meter
   size     what d rows of w slots take, and what they tell apart
   chart    draw an image
@@ -55,6 +57,7 @@ fn subcommand(name: &str) -> Option<Subcommand> {
         "image" => (image::HELP, image::run),
         "unite" => (make::UNITE_HELP, make::unite),
         "ask" => (ask::HELP, ask::run),
+        "watch" => (watch::HELP, watch::run),
         "new" => (make::NEW_HELP, make::new),
         "size" => (make::SIZE_HELP, make::size),
         "chart" => (chart::HELP, chart::run),

@@ -9,8 +9,8 @@
 
 use crate::cli::{decimal, geometry, shown};
 use crate::files::Progress;
-use crate::words::{self, Feed, Key, AMOUNT, ASK, LONGEST_RECORD, UPDATE};
-use meter::{feed_taken, Meter, Reason, Refused};
+use crate::words::{Feed, Key, Record, Records};
+use meter::Refused;
 use std::fmt::Write;
 
 pub const DEFAULT: (usize, usize) = (4, 4096);
@@ -157,50 +157,27 @@ fn take_line(line: &[u8], feed: &mut Option<Feed>, ended: &mut bool) -> Result<(
     Ok(())
 }
 
-/// The text of a feed. Its words are judged by the proved calls alone.
+/// The text of a feed.
 pub fn from_feed(bytes: &[u8], progress: &mut Progress) -> Result<String, Refused> {
-    let words = words::from_bytes(bytes);
-    let mut meter = Meter::from_feed_head(&words)?;
+    let (meter, mut records) = Records::open(bytes)?;
     let mut text = format!("meter {} {}\n", meter.d(), meter.w());
-    let mut at = 1;
-    loop {
-        progress.at(at as u64, Some(words.len() as u64), "words");
-        let ahead = &words[at..words.len().min(at + LONGEST_RECORD)];
-        match meter.record(at as u64, ahead) {
-            Ok(_) => {}
-            // the words are sound; how full a meter gets is no matter of theirs
-            Err(refused) if refused.reason == Reason::CounterFull => {}
-            Err(refused) => {
-                return Err(Refused {
-                    place: refused.place + at as u64,
-                    ..refused
-                })
+    while let Some((at, record)) = records.next()? {
+        progress.at(at, Some(records.words()), "words");
+        match record {
+            Record::Update(key, amount) => {
+                text.push_str("update ");
+                show_key(key.bytes(), &mut text);
+                // a text has no way to refuse
+                let _ = write!(text, " {amount}");
             }
-        }
-        let record = &ahead[..feed_taken(ahead)];
-        at += record.len();
-        let kind = record[0] >> 28;
-        if kind != UPDATE && kind != ASK {
-            text.push_str("end\n");
-            break;
-        }
-        text.push_str(if kind == UPDATE { "update " } else { "ask " });
-        if let Some(key) = Key::of_record(record) {
-            show_key(key.bytes(), &mut text);
-        }
-        if let (UPDATE, [.., high, low]) = (kind, record) {
-            debug_assert!(high >> 28 == AMOUNT && low >> 28 == AMOUNT);
-            // a text has no way to refuse
-            let _ = write!(text, " {}", (high & 0xffff) << 16 | (low & 0xffff));
+            Record::Ask(key) => {
+                text.push_str("ask ");
+                show_key(key.bytes(), &mut text);
+            }
         }
         text.push('\n');
     }
-    if bytes.len() > 4 * at {
-        return Err(Refused {
-            reason: Reason::Word,
-            place: at as u64,
-        });
-    }
+    text.push_str("end\n");
     Ok(text)
 }
 

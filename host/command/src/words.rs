@@ -1,5 +1,7 @@
 //! Words of feeds: 32 bits, high byte first in files; the top four bits are the kind, the low 28 the payload.
 
+use meter::{feed_taken, Meter, Reason, Refused};
+
 pub const HEAD: u32 = 1;
 pub const END: u32 = 4;
 pub const UPDATE: u32 = 5;
@@ -49,7 +51,7 @@ impl Key {
     }
 
     /// The key of a record whose words were accepted.
-    pub fn of_record(words: &[u32]) -> Option<Key> {
+    fn of_record(words: &[u32]) -> Option<Key> {
         let (first, rest) = words.split_first()?;
         let length = (first & 0x0fff_ffff) as usize;
         let bytes: Vec<u8> = rest
@@ -105,5 +107,72 @@ impl Feed {
         let before = self.bytes.len() / 4;
         self.word(END, (before % (1 << 28)) as u32);
         self.bytes
+    }
+}
+
+/// A record of a feed.
+pub enum Record {
+    Update(Key, u32),
+    Ask(Key),
+}
+
+/// A feed's records, one by one. Its words are judged by the proved calls alone.
+pub struct Records {
+    words: Vec<u32>,
+    at: usize,
+    /// Whether bytes short of a word follow the words.
+    leftover: bool,
+    /// Any meter will do: words are judged before it is looked at.
+    judge: Meter,
+}
+
+impl Records {
+    /// The clear meter of the feed's head, and the records behind that.
+    pub fn open(bytes: &[u8]) -> Result<(Meter, Records), Refused> {
+        let words = from_bytes(bytes);
+        let meter = Meter::from_feed_head(&words)?;
+        let records = Records {
+            words,
+            at: 1,
+            leftover: !bytes.len().is_multiple_of(4),
+            judge: Meter::new(1, 32)?,
+        };
+        Ok((meter, records))
+    }
+
+    /// How many words there are.
+    pub fn words(&self) -> u64 {
+        self.words.len() as u64
+    }
+
+    /// The next record and the word that it starts at; none at the end, which nothing follows.
+    pub fn next(&mut self) -> Result<Option<(u64, Record)>, Refused> {
+        let at = self.at;
+        let ahead = &self.words[at..self.words.len().min(at + LONGEST_RECORD)];
+        match self.judge.record(at as u64, ahead) {
+            Ok(_) => {}
+            // the words are sound; how full a meter gets is no matter of theirs
+            Err(refused) if refused.reason == Reason::CounterFull => {}
+            Err(refused) => {
+                return Err(Refused {
+                    place: refused.place + at as u64,
+                    ..refused
+                })
+            }
+        }
+        let record = &ahead[..feed_taken(ahead)];
+        self.at += record.len();
+        let read = match (record[0] >> 28, Key::of_record(record), record) {
+            (UPDATE, Some(key), [.., high, low]) => Record::Update(key, (high & 0xffff) << 16 | (low & 0xffff)),
+            (ASK, Some(key), _) => Record::Ask(key),
+            _ if self.at < self.words.len() || self.leftover => {
+                return Err(Refused {
+                    reason: Reason::Word,
+                    place: self.at as u64,
+                })
+            }
+            _ => return Ok(None),
+        };
+        Ok(Some((at as u64, read)))
     }
 }

@@ -10,7 +10,7 @@ use std::process::{Command, Stdio};
 use std::thread;
 use std::time::Duration;
 
-const SUBCOMMANDS: [&str; 8] = ["feed", "run", "image", "unite", "ask", "new", "size", "chart"];
+const SUBCOMMANDS: [&str; 9] = ["feed", "run", "image", "unite", "ask", "watch", "new", "size", "chart"];
 
 #[test]
 fn help_and_version() {
@@ -62,6 +62,7 @@ fn what_cannot_be_read_or_written_is_1() {
         &["image", "info", &missing],
         &["unite", &missing, "-o", "-"],
         &["ask", &missing, "A"],
+        &["watch", &missing, "--threshold", "1"],
         &["chart", &missing, "-o", "-"],
     ] {
         assert!(bad(wrong, b"", 1).contains("missing: No such file"), "{wrong:?}");
@@ -107,6 +108,7 @@ fn closed_pipes() {
         (&["image", "dump", &image][..], &b""[..]),
         (&["run"], &feed),
         (&["feed", "--text"], &feed),
+        (&["watch", "--threshold", "1"], &feed),
         (&["chart", &image, "-o", "-"], b""),
         (&["--help"], b""),
     ] {

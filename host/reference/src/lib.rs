@@ -1,11 +1,15 @@
-//! Document 01 once more, in Rust, to hold the proved calls against.
+//! Documents 01 and 02 once more, in Rust, to hold the proved calls against.
 //!
 //! It is written from the paper and by another route than the proved code. A group is a binary tree whose counters are whole
 //! numbers; an update climbs from the slot; the valid layouts are listed, and a layout's code is its place in that list; a union
 //! tries all of them. Bytes are made from a tree where a memory has to be compared, and read only where one comes from outside.
 #![forbid(unsafe_code)]
 
+mod watch;
+
 use std::sync::OnceLock;
+
+pub use watch::{watch_clear, watch_remove, watch_update, Place, Watch, WATCH_SIZE};
 
 /// The answer of a call: the paper's number, place and figure.
 #[derive(Clone, Copy, Debug, PartialEq, Eq)]

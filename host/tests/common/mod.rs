@@ -1,7 +1,7 @@
-//! What the tests share: seeds, lent buffers with guards, and memories, keys, amounts and words to try.
+//! What the tests share: seeds, lent buffers with guards, and memories, watch lists, keys, amounts and words to try.
 #![allow(dead_code)]
 
-use reference::Memory;
+use reference::{Memory, Place, Watch, WATCH_SIZE};
 use std::ops::Range;
 
 /// SplitMix64.
@@ -121,6 +121,64 @@ pub fn key(rng: &mut Rng) -> Vec<u8> {
         _ => rng.within(1..65),
     };
     rng.bytes(n)
+}
+
+/// Keys that a meter takes, of all lengths; many are the start of others.
+pub fn valid_keys(rng: &mut Rng, n: usize) -> Vec<Vec<u8>> {
+    let long = rng.bytes(64);
+    (0..n)
+        .map(|_| {
+            let length = rng.within(1..65);
+            if rng.once_in(2) {
+                long[..length].to_vec()
+            } else {
+                rng.bytes(length)
+            }
+        })
+        .collect()
+}
+
+/// A watch list: clear; or made by hand of some of the keys, any of them more than once, often with anything in unused bytes.
+pub fn list(rng: &mut Rng, keys: &[Vec<u8>]) -> Vec<u8> {
+    let mut watch = Watch::parse(&[0; WATCH_SIZE]).expect("a clear list");
+    if rng.once_in(4) {
+        return watch.bytes();
+    }
+    watch.marked = rng.once_in(4);
+    let used = rng.pick(&[0, 1, 2, 10, 62, 63, 64]);
+    for place in watch.places.iter_mut().take(used) {
+        *place = Place::new(&keys[rng.below(keys.len())], rng.next() >> rng.below(64));
+    }
+    if rng.once_in(2) {
+        for place in &mut watch.places {
+            place.behind = rng.bytes(place.behind.len());
+            place.estimate = rng.next();
+        }
+    }
+    watch.bytes()
+}
+
+/// Breaks a sound list, and says how.
+pub fn break_list(rng: &mut Rng, list: &mut [u8]) -> &'static str {
+    let used = list[..64].iter().take_while(|&&n| n != 0).count();
+    match rng.below(3) {
+        0 => {
+            list[rng.below(64.min(used + 1))] = rng.within(65..256) as u8;
+            "a length above 64"
+        }
+        1 if used >= 63 || used >= 2 && rng.once_in(2) => {
+            list[rng.below(used - 1)] = 0;
+            "a 0 before a length"
+        }
+        1 => {
+            list[rng.within(used + 1..64)] = rng.within(1..65) as u8;
+            "a length after a 0"
+        }
+        _ => {
+            list[64] = rng.within(2..256) as u8;
+            "a mark above 1"
+        }
+    }
 }
 
 /// Count bytes that are random, full, nearly full or nearly clear.
