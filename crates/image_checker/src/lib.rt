@@ -107,7 +107,7 @@ fn check_end(words: &[u32], p: usize) -> Step
         words,
         p,
         word::END,
-        payload(words, p) == (p % 268435456) as u32,
+        payload(words, p) == (p % word::PAYLOADS) as u32,
         answer::BAD_PAYLOAD,
     );
     if s.status != 0 {

@@ -152,5 +152,5 @@ pub fn put_image(words: &mut [u32], memory: &[u8], d: usize, w: usize, codes: &[
 {
     words[0] = word(word::HEAD, log_width(w) * 16 + d as u32);
     let end = put_rows(words, 1, memory, d, w, codes, fields);
-    words[end] = word(word::END, (end % 268435456) as u32);
+    words[end] = word(word::END, (end % word::PAYLOADS) as u32);
 }
