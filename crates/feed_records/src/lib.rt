@@ -18,6 +18,8 @@ ghost use Rattle.feed_records.specs.Words.{opensKey, opened, checkAmount
 // The kind of an amount's words.
 const AMOUNT: u32 = 8;
 
+const PAYLOADS: u64 = word::PAYLOADS as u64;
+
 // What a first word opens.
 pub enum Opening {
     Update { length: usize },
@@ -59,7 +61,7 @@ pub fn first_word(before: u64, words: &[u32]) -> Opening
             status: answer::BAD_WORD,
         };
     }
-    if n as u64 != before % 268435456 {
+    if n as u64 != before % PAYLOADS {
         return Opening::Refused {
             status: answer::BAD_PAYLOAD,
         };

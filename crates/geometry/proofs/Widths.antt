@@ -14,7 +14,7 @@ use lib.Dec.{eqb, leb}
 use lib.Pow.{pow-add, pow-mono, pow-lt}
 use Rattle.laws.proofs.Tests.{or-cases}
 use Rattle.laws.proofs.Tests.{both-ways}
-use Rattle.geometry.specs.Geometry.{oneOfPowers, validDepth, validWidth, stride, size, RowIn, RowsIn}
+use Rattle.geometry.specs.Geometry.{oneOfPowers, validDepth, largestLog, largestWidth, validWidth, stride, size, RowIn, RowsIn}
 use Rattle.answer.specs.Order.{firstOf, unless}
 use Rattle.geometry.specs.Checks.{badShape}
 
@@ -39,22 +39,22 @@ are-powers (suc n) p zero h = rw (eq-eqb (p * 2 ^ 0) p (mul-one p))
 are-powers (suc n) p (suc i) h = rw (← shift p i, are-powers n (p * 2) i (omega arith)) (or-true (eqb (p * 2 * 2 ^ i) p))
 
 -- a valid width is a power of two from 32 to the largest
-pub width-is : (w : ℕ) → validWidth w ≡ true → (k : ℕ) × (5 ≤ k) × (k ≤ 16) × (w ≡ 2 ^ k)
+pub width-is : (w : ℕ) → validWidth w ≡ true → (k : ℕ) × (5 ≤ k) × (k ≤ largestLog) × (w ≡ 2 ^ k)
 unfolding validWidth
 width-is w e =
-    let r = powers-are 12 32 w e in
+    let r = powers-are (largestLog - 4) 32 w e in
     (5 + r .0, omega arith, omega (arith, r .1), r .2 ∙ sym (pow-add 2 5 (r .0)))
 
-pub is-width : (k : ℕ) → 5 ≤ k → k ≤ 16 → validWidth (2 ^ k) ≡ true
+pub is-width : (k : ℕ) → 5 ≤ k → k ≤ largestLog → validWidth (2 ^ k) ≡ true
 unfolding validWidth
 is-width k h l =
     let e : 2 ^ k ≡ 32 * 2 ^ (k - 5) = ap (λ (n : ℕ). 2 ^ n) (omega arith) ∙ pow-add 2 5 (k - 5) in
-    rw e (are-powers 12 32 (k - 5) (omega arith))
+    rw e (are-powers (largestLog - 4) 32 (k - 5) (omega arith))
 
 -- what a valid width has: the one place for it, which the crates above cite
 pub record Wide (w : ℕ) : Type 0 where
   pub low : 32 ≤ w
-  pub high : w ≤ 65536
+  pub high : w ≤ largestWidth
   pub whole : w % 32 ≡ 0
   pub eights : w % 8 ≡ 0
   pub shares : 2 ^ 32 % w ≡ 0
@@ -70,7 +70,7 @@ wide w e =
     rw (r .3)
     (record {
       low = pow-mono {i = 5} {j = k} (r .1);
-      high = pow-mono {i = k} {j = 16} (r .2);
+      high = pow-mono {i = k} {j = largestLog} (r .2);
       whole = omega (arith, by-32);
       eights = omega (arith, by-32);
       shares = rw shared (mul-mod-left (2 ^ (32 - k)) (2 ^ k));
@@ -99,15 +99,15 @@ log-le : (j k : ℕ) → 2 ^ j ≤ 2 ^ k → j ≤ k
 log-le j k h = elim (decLt k j) [ yes l ↦ absurd (omega (arith, pow-lt {i = k} {j = j} l)) | no n ↦ omega arith ]
 
 -- the code's test of a width
-pub width-out : (w : ℕ) → (32 ≤ w → w ≤ 65536 → ⊥) → false ≡ validWidth w
+pub width-out : (w : ℕ) → (32 ≤ w → w ≤ largestWidth → ⊥) → false ≡ validWidth w
 width-out w h = both-ways false (validWidth w) (λ e. absurd (true≢false (sym e))) (λ v. absurd (h (wide w v .low) (wide w v .high)))
 
-pub width-test : (w : ℕ) → 32 ≤ w → w ≤ 65536 → eqb (bitAnd w (w - 1)) 0 ≡ validWidth w
+pub width-test : (w : ℕ) → 32 ≤ w → w ≤ largestWidth → eqb (bitAnd w (w - 1)) 0 ≡ validWidth w
 width-test w l h =
     both-ways (eqb (bitAnd w (w - 1)) 0) (validWidth w)
     (λ e.
     let r = one-bit w (omega arith) (eqb-true (bitAnd w (w - 1)) 0 e) in
-    rw (r .1) (is-width (r .0) (log-le 5 (r .0) (rw (r .1) at l)) (log-le (r .0) 16 (rw (r .1) at h))))
+    rw (r .1) (is-width (r .0) (log-le 5 (r .0) (rw (r .1) at l)) (log-le (r .0) largestLog (rw (r .1) at h))))
     (λ v.
     let r = width-is w v in
     eq-eqb (bitAnd w (w - 1)) 0 (rw (r .3, and-mask (2 ^ r .0) (r .0)) (mod-self (2 ^ r .0))))
@@ -135,10 +135,10 @@ shape-good d w bytes = go (validDepth d) (validWidth w) (eqb bytes (size d w)) r
     go false b c p q s e = absurd (omega arith)
 
 -- the shape of a memory
-pub size-in : (d w : ℕ) → validDepth d ≡ true → validWidth w ≡ true → d * stride w ≤ 589824
+pub size-in : (d w : ℕ) → validDepth d ≡ true → validWidth w ≡ true → d * stride w ≤ 8 * (largestWidth + largestWidth / 8)
 size-in d w v e =
     let f = wide w e in
-    mul-le-mul {n₁ = d} {m₁ = stride w} {n₂ = 8} {m₂ = 73728} (depth-in d v .1) (omega (arith, stride-is w))
+    mul-le-mul {n₁ = d} {m₁ = stride w} {n₂ = 8} {m₂ = largestWidth + largestWidth / 8} (depth-in d v .1) (omega (arith, stride-is w))
 
 -- row r of d rows lies in the memory
 pub row-in : (r d stride : ℕ) {n : ℕ} → r < d → d * stride ≤ n → r * stride + stride ≤ n

@@ -1,5 +1,5 @@
 -- A meter's depth d and width w, and the length of its memory. Document 01, 'Rows, groups and blocks'. Cited by contracts.
-use Prim.Native.Nat.{ℕ, zero, suc, _+_, _-_, _*_, _/_, _≤_, _<_}
+use Prim.Native.Nat.{ℕ, zero, suc, _+_, _-_, _*_, _/_, _^_, _≤_, _<_}
 use mathlib.Core.Path.{_≡_}
 use mathlib.Core.Bool.{Bool, true, false, _&&_, _||_}
 use lib.Dec.{leb, eqb}
@@ -16,6 +16,9 @@ oneOfPowers (suc n) p w = eqb w p || oneOfPowers n (p * 2) w
 -- The logarithm of the largest width, 65,536. The smallest width is 32, 2 ^ 5.
 abbrev pub largestLog : ℕ
 largestLog = 16
+
+abbrev pub largestWidth : ℕ
+largestWidth = 2 ^ largestLog
 
 -- slots of a row: a power of two from 32 to the largest width
 unfoldable pub validWidth : ℕ → Bool

@@ -5,8 +5,10 @@ ghost use Rattle.geometry.specs.Geometry.{validDepth, validWidth};
 ghost use Rattle.geometry.specs.Geometry as geometry;
 ghost use Rattle.geometry.specs.Checks.{badKey, badShape};
 
-// The largest width of a row.
-pub const MAX_WIDTH: usize = 65536;
+// The logarithm of the largest width of a row, 65,536.
+pub const LARGEST_LOG: u32 = 16;
+
+pub const MAX_WIDTH: usize = 1 << LARGEST_LOG;
 
 pub fn valid_depth(d: usize) -> bool
     ensures { λ r. ⌜ r ≡ validDepth d ⌝ }

@@ -37,25 +37,26 @@ clear = eight 0 0 0 0 0 0 0 0 0x00
 abbrev full : Group
 full = eight 255 255 255 255 255 255 255 255 0x7f
 
-abbrev leaves : Group → Outcome
-leaves g = record { status = 0; group = g }
+-- an accepted call's group
+abbrev becomes : Group → Outcome
+becomes g = record { status = 0; group = g }
 
 abbrev pub cases : List Case
 cases =
     -- P1 and P2
-    adds (eight 0 255 3 0 253 255 95 11 0x10) 1 3 (leaves (eight 2 1 3 0 253 255 95 11 0x11))
-    ∷ adds (eight 2 1 3 0 253 255 95 11 0x11) 5 5 (leaves (eight 2 1 3 0 108 0 1 0 0x71))
+    adds (eight 0 255 3 0 253 255 95 11 0x10) 1 3 (becomes (eight 2 1 3 0 253 255 95 11 0x11))
+    ∷ adds (eight 2 1 3 0 253 255 95 11 0x11) 5 5 (becomes (eight 2 1 3 0 108 0 1 0 0x71))
     -- P3 and P4
-    ∷ adds (eight 0 0 255 0 0 0 0 0 0x00) 2 0 (leaves (eight 0 0 255 0 0 0 0 0 0x00))
-    ∷ adds (eight 0 0 255 0 0 0 0 0 0x00) 2 1 (leaves (eight 0 0 0 1 0 0 0 0 0x04))
+    ∷ adds (eight 0 0 255 0 0 0 0 0 0x00) 2 0 (becomes (eight 0 0 255 0 0 0 0 0 0x00))
+    ∷ adds (eight 0 0 255 0 0 0 0 0 0x00) 2 1 (becomes (eight 0 0 0 1 0 0 0 0 0x04))
     -- P5 and P6
-    ∷ adds clear 3 65535 (leaves (eight 0 0 255 255 0 0 0 0 0x04))
-    ∷ adds clear 3 65536 (leaves (eight 0 0 1 0 0 0 0 0 0x07))
+    ∷ adds clear 3 65535 (becomes (eight 0 0 255 255 0 0 0 0 0x04))
+    ∷ adds clear 3 65536 (becomes (eight 0 0 1 0 0 0 0 0 0x07))
     -- P7
-    ∷ adds clear 0 4294967295 (leaves (eight 255 255 255 255 0 0 0 0 0x07))
-    ∷ adds (eight 255 255 255 255 0 0 0 0 0x07) 0 1 (leaves (eight 0 0 0 0 1 0 0 0 0x7f))
+    ∷ adds clear 0 4294967295 (becomes (eight 255 255 255 255 0 0 0 0 0x07))
+    ∷ adds (eight 255 255 255 255 0 0 0 0 0x07) 0 1 (becomes (eight 0 0 0 0 1 0 0 0 0x7f))
     -- P8
-    ∷ adds full 4 0 (leaves full)
+    ∷ adds full 4 0 (becomes full)
     ∷ adds full 4 1 (unchanged counterFull full)
     -- P9
     ∷ codes 0x00 (accepted 0)
@@ -71,6 +72,6 @@ cases =
     ∷ packs 0x70 0x44 0x00 0x00 (accepted 74360)
     ∷ packs 0x7f 0x7f 0x7f 0x7f (accepted 456975)
     -- P11 and P12
-    ∷ unites (eight 200 0 0 0 0 0 0 0 0x00) (eight 100 0 0 0 0 0 0 0 0x00) (leaves (eight 44 1 0 0 0 0 0 0 0x01))
-    ∷ unites (eight 44 1 0 0 0 0 0 0 0x01) (eight 0 7 0 0 0 0 0 0 0x00) (leaves (eight 51 1 0 0 0 0 0 0 0x01))
+    ∷ unites (eight 200 0 0 0 0 0 0 0 0x00) (eight 100 0 0 0 0 0 0 0 0x00) (becomes (eight 44 1 0 0 0 0 0 0 0x01))
+    ∷ unites (eight 44 1 0 0 0 0 0 0 0x01) (eight 0 7 0 0 0 0 0 0 0x00) (becomes (eight 51 1 0 0 0 0 0 0 0x01))
     ∷ []

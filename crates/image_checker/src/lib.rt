@@ -15,6 +15,7 @@ ghost use mathlib.Core.Path.{_≡_};
 ghost use mathlib.Core.Bool.{true};
 ghost use Prim.Native.Nat.{_≤_};
 ghost use Rattle.group_codes.specs.Codes.{AllCodes, mergesOf};
+ghost use Rattle.geometry.specs.Geometry.{largestWidth};
 ghost use Rattle.image_format.specs.Read.{checkHead, checkGroups, checkFour, checkFours, checkEnd, checked};
 ghost use Rattle.image_format.specs.Tables.{Reads};
 ghost use Rattle.image_checker.specs.Checker.{Clear};
@@ -106,7 +107,7 @@ fn check_end(words: &[u32], p: usize) -> Step
         words,
         p,
         word::END,
-        payload(words, p) == (p % 268435456) as u32,
+        payload(words, p) == (p % word::PAYLOADS) as u32,
         answer::BAD_PAYLOAD,
     );
     if s.status != 0 {
@@ -120,7 +121,7 @@ fn check_end(words: &[u32], p: usize) -> Step
 
 // All words, for a meter of d rows of w slots.
 pub fn check(words: &[u32], d: usize, w: usize, layouts: &[u8], fields: &[u8]) -> Step
-    requires { ⌜ d ≤ 8 ⌝ ∗ ⌜ w ≤ 65536 ⌝ ∗ ⌜ Reads (now layouts) (now fields) ⌝ }
+    requires { ⌜ d ≤ 8 ⌝ ∗ ⌜ w ≤ largestWidth ⌝ ∗ ⌜ Reads (now layouts) (now fields) ⌝ }
     ensures { λ r. ⌜ r ≡ checked d w (now (words .entry)) ⌝ }
 {
     let h = check_head(words, d, w);

@@ -15,7 +15,7 @@ use lib.Pow.{pow-mono, pow-lt}
 use Rattle.group.specs.declared.Group.{Group}
 use Rattle.group.specs.declared.Reading.{Reading}
 use Rattle.group.specs.Group.{read}
-use Rattle.geometry.specs.Geometry.{validWidth}
+use Rattle.geometry.specs.Geometry.{largestLog, validWidth}
 use Rattle.geometry.proofs.Widths.{width-is}
 use Rattle.image_format.specs.Image.{parts, wordCount, levelAt, isFirst, slotWords, logFrom, logWidth}
 use Rattle.image_format.specs.Write.{slotSize, slotsSize}
@@ -55,11 +55,11 @@ log-none n w e = rw e
 -- the logarithm of a width is one
 pub log-width-is : (w : ℕ) → validWidth w ≡ true → 2 ^ logWidth w ≡ w
 unfolding logWidth
-log-width-is w e = let r = width-is w e in rw (r .3) (ap (λ (k : ℕ). 2 ^ k) (log-found 17 (r .0) (omega (arith, r .2))))
+log-width-is w e = let r = width-is w e in rw (r .3) (ap (λ (k : ℕ). 2 ^ k) (log-found (largestLog + 1) (r .0) (omega (arith, r .2))))
 
-pub log-width-most : (w : ℕ) → logWidth w ≤ 16
+pub log-width-most : (w : ℕ) → logWidth w ≤ largestLog
 unfolding logWidth
-log-width-most w = omega (arith, log-most 17 w (omega arith))
+log-width-most w = omega (arith, log-most (largestLog + 1) w (omega arith))
 
 -- sizes
 pub size-first : (m k level n : ℕ) → level ≡ levelAt m k → isFirst m k ≡ true → n ≡ wordCount level → n ≡ slotSize m k

@@ -1,11 +1,10 @@
 -- Walks over the rows of a memory, one law for all of them: those that test, that count words, that write and that read.
-use mathlib.Core.Path.{_≡_, ap, sym, _∙_}
+use mathlib.Core.Path.{_≡_, ap, _∙_}
 use mathlib.Core.List.{List}
 use Prim.Native.Nat.{ℕ, suc, _+_, _-_, _*_, _<_}
-use native.Mathlib.Nat.{one-mul, add-mul}
 use native.Mathlib.Omega.{arith}
 use lib.ListN.{take, drop}
-use lib.Seq.{drop-drop}
+use Rattle.meter_memory.proofs.Lists.{drop-row}
 
 -- `walk n memory` goes over n rows of s bytes: by `step` over the first, and then over those behind it. From row r on, it goes over row r.
 pub rows-turn : {X : Type 0} (walk : ℕ → List ℕ → X) (step : List ℕ → X → X) (s : ℕ)
@@ -14,6 +13,5 @@ pub rows-turn : {X : Type 0} (walk : ℕ → List ℕ → X) (step : List ℕ �
     → walk (d - r) (drop (r * s) memory) ≡ step (take s (drop (r * s) memory)) (walk (d - (r + 1)) (drop ((r + 1) * s) memory))
 rows-turn walk step s first memory d r h =
     let e : d - r ≡ suc (d - (r + 1)) = omega arith in
-    let next : r * s + s ≡ (r + 1) * s = sym (add-mul r 1 s ∙ ap (λ (n : ℕ). r * s + n) (one-mul s)) in
     ap (λ (n : ℕ). walk n (drop (r * s) memory)) e ∙ first (d - (r + 1)) (drop (r * s) memory)
-    ∙ ap (λ (l : List ℕ). step (take s (drop (r * s) memory)) (walk (d - (r + 1)) l)) (drop-drop s (r * s) memory ∙ ap (λ (n : ℕ). drop n memory) next)
+    ∙ ap (λ (l : List ℕ). step (take s (drop (r * s) memory)) (walk (d - (r + 1)) l)) (drop-row memory r s)

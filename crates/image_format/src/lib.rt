@@ -3,6 +3,7 @@ use group::Group;
 ghost use mathlib.Core.Path.{_≡_};
 ghost use Prim.Native.Nat.{_+_, _^_, _<_, _≤_};
 ghost use lib.ListN.{length, take};
+ghost use Rattle.geometry.specs.Geometry.{largestLog};
 ghost use Rattle.group_codes.specs.Pack.{layoutsOf};
 ghost use Rattle.group_codes.specs.Codes.{codeOf};
 ghost use Rattle.image_format.specs.Image as spec;
@@ -83,12 +84,15 @@ fn group_size(merge: u8) -> usize
     n
 }
 
+// Logarithms of widths are below this.
+const LOGS: u32 = geometry::LARGEST_LOG + 1;
+
 // The logarithm of a width.
 pub fn log_width(w: usize) -> u32
     ensures { λ r. ⌜ r ≡ logWidth w ⌝ }
-    ensures { λ r. ⌜ r ≤ 16 ⌝ }
+    ensures { λ r. ⌜ r ≤ largestLog ⌝ }
 {
-    let mut k = 17;
+    let mut k = LOGS;
     while k > 0 {
         k -= 1;
         if 1 << k == w {

@@ -4,13 +4,14 @@ ghost use mathlib.Core.Path.{_≡_};
 ghost use Prim.Native.Nat.{ℕ, _≤_, _<_};
 ghost use Rattle.group_codes.specs.Pack.{layoutsOf, codeMerge};
 ghost use Rattle.group_codes.specs.Codes.{AllCodes, mergesOf};
+ghost use Rattle.geometry.specs.Geometry.{largestWidth};
 ghost use Rattle.image_format.specs.Read.{mergesAt};
 ghost use Rattle.image_format.specs.Tables.{Filled, Layouts};
 
 // How many layout codes are unpacked ahead for an image of n words: all or, when nothing or almost nothing is merged, none. 32 slots
 // take 33 words, and fewer when some are merged.
 pub fn table_size(n: usize, d: usize, w: usize) -> usize
-    requires { ⌜ d ≤ 8 ⌝ ∗ ⌜ w ≤ 65536 ⌝ }
+    requires { ⌜ d ≤ 8 ⌝ ∗ ⌜ w ≤ largestWidth ⌝ }
     ensures { λ r. ⌜ r ≤ layoutsOf 1 ⌝ }
 {
     if n / 33 < d * (w / 32) {

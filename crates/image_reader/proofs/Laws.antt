@@ -3,17 +3,18 @@ use mathlib.Core.Path.{_≡_, refl, sym, ap, _∙_}
 use mathlib.Core.Bool.{Bool, true, false, cond}
 use mathlib.Core.List.{List, _++_, append-assoc}
 use Prim.Native.Nat.{ℕ, zero, suc, _+_, _-_, _*_, _/_, _%_, _^_, _≤_, _<_}
-use native.Mathlib.Nat.{one-mul, add-mul, add-assoc}
+use native.Mathlib.Nat.{add-assoc}
 use native.Mathlib.Numerals.{add-one, sub-one}
 use native.Mathlib.Omega.{arith}
-use borrow.Rule.Slice.PartMut.{putMid, post-is}
-use lib.ListN.{length, getD, take, drop, length-append, drop-of-length-le, take-append-drop}
-use lib.Seq.{drop-cons, length-take-le, take-at, drop-at}
+use borrow.Rule.Slice.PartMut.{putMid}
+use lib.ListN.{length, getD, take, drop, drop-of-length-le, take-append-drop}
+use lib.Seq.{drop-cons}
 use Rattle.group.specs.declared.Group.{Group}
 use Rattle.group.specs.Group.{changed}
 use Rattle.group_fields.proofs.Readings.{changed-merge}
 use Rattle.geometry.specs.Geometry.{stride}
 use Rattle.meter_memory.specs.Rows.{withGroup}
+use Rattle.meter_memory.proofs.Lists.{back-front, back-behind}
 use Rattle.word.specs.Word.{payload}
 use Rattle.image_format.specs.Image.{wordCount, levelAt, isFirst}
 use Rattle.image_format.specs.Write.{slotSize, groupSize}
@@ -133,13 +134,8 @@ module _ (d r w : ℕ) (memory ys words : List ℕ) (p size : ℕ) (e : size ≡
       let s = stride w in
       let a = r * s in
       let y : ys ≡ readFours (w / 32) 0 w (take s (drop a memory)) words p = f ∙ ap (λ (z : List ℕ). readFours (w / 32) 0 w z words p) (row-part memory r w size e) in
-      let b : (r + 1) * s ≡ a + s = add-mul r 1 s ∙ ap (λ (m : ℕ). a + m) (one-mul s) in
-      let front : length (take a memory ++ ys) ≡ a + s = simp (length-append, length-take-le a memory (omega arith), l) in
-      let whole : putMid a (a + s - a) memory ys ≡ (take a memory ++ ys) ++ drop (a + s) memory
-      = ap (λ (z : List ℕ). take a memory ++ (ys ++ z)) (post-is a (a + s) memory (omega arith)) ∙ sym (append-assoc (take a memory) ys (drop (a + s) memory)) in
-      let t : take (a + s) ((take a memory ++ ys) ++ drop (a + s) memory) ≡ take a memory ++ ys = take-at (take a memory ++ ys) (drop (a + s) memory) (a + s) front in
-      let u : drop (a + s) ((take a memory ++ ys) ++ drop (a + s) memory) ≡ drop (a + s) memory = drop-at (take a memory ++ ys) (drop (a + s) memory) (a + s) front in
-      let rest = readRows (d - (r + 1)) w (drop (a + s) memory) words (afterFours (w / 32) words p) in
-      let done : rowsFrom d (r + 1) w (putMid a (a + s - a) memory ys) words (afterFours (w / 32) words p) ≡ take a memory ++ (ys ++ rest) = rw (b, whole, t, u) (append-assoc (take a memory) ys rest) in
-      let left : readRows (d - r) w (drop a memory) words p ≡ ys ++ rest = read-rows-step memory d r w words p h ∙ rw (b, ← y) in
+      let rest = readRows (d - (r + 1)) w (drop ((r + 1) * s) memory) words (afterFours (w / 32) words p) in
+      let done : rowsFrom d (r + 1) w (putMid a (a + s - a) memory ys) words (afterFours (w / 32) words p) ≡ take a memory ++ (ys ++ rest)
+      = rw (back-front r s memory ys k l, back-behind r s memory ys k l) (append-assoc (take a memory) ys rest) in
+      let left : readRows (d - r) w (drop a memory) words p ≡ ys ++ rest = read-rows-step memory d r w words p h ∙ rw (← y) in
       ap (λ (z : ℕ). rowsFrom d (r + 1) w (putMid (r * z) (r * z + z - r * z) memory ys) words (afterFours (w / 32) words p)) e ∙ done ∙ ap (λ (z : List ℕ). take a memory ++ z) (sym left)

@@ -13,7 +13,7 @@ ghost use lib.Seq.{sets};
 ghost use Rattle.group_codes.specs.Pack.{layoutsOf, codeMerge};
 ghost use Rattle.group_codes.specs.Codes.{AllCodes, mergesOf};
 ghost use Rattle.group_fields.specs.Fields.{groupOf};
-ghost use Rattle.geometry.specs.Geometry.{stride};
+ghost use Rattle.geometry.specs.Geometry.{largestWidth, stride};
 ghost use Rattle.meter_memory.specs.Rows.{withGroup};
 ghost use Rattle.image_format.specs.Write.{groupSize};
 ghost use Rattle.image_format.specs.Tables as tables;
@@ -187,9 +187,9 @@ fn read_row(
     layouts: &[u8],
     fields: &[u8],
 ) -> usize
-    requires { ⌜ w + w / 8 ≤ length (now row) ⌝ ∗ ⌜ w ≤ 65536 ⌝ ∗ ⌜ p < 2 ^ 29 ⌝ ∗ ⌜ Reads (now layouts) (now fields) ⌝ }
+    requires { ⌜ w + w / 8 ≤ length (now row) ⌝ ∗ ⌜ w ≤ largestWidth ⌝ ∗ ⌜ p < 2 ^ 29 ⌝ ∗ ⌜ Reads (now layouts) (now fields) ⌝ }
     ensures { λ r. ⌜ r ≡ afterFours (w / 32) (now (words .entry)) p ⌝ }
-    ensures { λ r. ⌜ r ≤ p + 97 * 2048 ⌝ }
+    ensures { λ r. ⌜ r ≤ p + 97 * (largestWidth / 32) ⌝ }
     ensures { λ _. ⌜ now (row .exit) ≡ readFours (w / 32) 0 w (now (row .entry)) (now (words .entry)) p ⌝ }
 {
     let mut at = p;
@@ -217,7 +217,7 @@ pub fn read_rows(
     layouts: &[u8],
     fields: &[u8],
 )
-    requires { ⌜ d * stride w ≤ length (now memory) ⌝ ∗ ⌜ w ≤ 65536 ⌝ ∗ ⌜ d ≤ 8 ⌝ ∗ ⌜ Reads (now layouts) (now fields) ⌝ }
+    requires { ⌜ d * stride w ≤ length (now memory) ⌝ ∗ ⌜ w ≤ largestWidth ⌝ ∗ ⌜ d ≤ 8 ⌝ ∗ ⌜ Reads (now layouts) (now fields) ⌝ }
     ensures { λ _. ⌜ now (memory .exit) ≡ readRows d w (now (memory .entry)) (now (words .entry)) 1 ⌝ }
 {
     let size = w * 9 / 8;

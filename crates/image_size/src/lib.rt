@@ -5,7 +5,7 @@ ghost use mathlib.Core.Path.{_≡_};
 ghost use mathlib.Core.Bool.{true, false};
 ghost use Prim.Native.Nat.{_+_, _*_, _/_, _<_, _≤_};
 ghost use lib.ListN.{length, drop};
-ghost use Rattle.geometry.specs.Geometry.{RowsIn};
+ghost use Rattle.geometry.specs.Geometry.{largestWidth, RowsIn};
 ghost use Rattle.image_format.specs.Image.{groupsWords, rowWords, rowsWords};
 ghost use Rattle.image_format.specs.Write.{allValid, validRows};
 ghost use Rattle.image_format.specs.Tables.{Sizes};
@@ -101,9 +101,9 @@ fn groups_size(row: &[u8], w: usize, g: usize, sizes: &[u8]) -> usize
 
 // The number of words of a row.
 fn row_size(row: &[u8], w: usize, sizes: &[u8]) -> usize
-    requires { ⌜ w + w / 8 ≤ length (now row) ⌝ ∗ ⌜ w ≤ 65536 ⌝ ∗ ⌜ Sizes (now sizes) ⌝ }
+    requires { ⌜ w + w / 8 ≤ length (now row) ⌝ ∗ ⌜ w ≤ largestWidth ⌝ ∗ ⌜ Sizes (now sizes) ⌝ }
     ensures { λ r. ⌜ r ≡ length (rowWords (w / 32) 0 w (now (row .entry))) ⌝ }
-    ensures { λ r. ⌜ r ≤ 97 * 2048 ⌝ }
+    ensures { λ r. ⌜ r ≤ 97 * (largestWidth / 32) ⌝ }
 {
     let mut n = 0;
     for i in 0..w / 32 {
@@ -116,7 +116,7 @@ fn row_size(row: &[u8], w: usize, sizes: &[u8]) -> usize
 pub fn rows_size(memory: &[u8], d: usize, w: usize, sizes: &[u8]) -> usize
     requires { ⌜ RowsIn d w (length (now memory)) ⌝ ∗ ⌜ Sizes (now sizes) ⌝ }
     ensures { λ r. ⌜ r ≡ length (rowsWords d w (now (memory .entry))) ⌝ }
-    ensures { λ r. ⌜ r ≤ 97 * 16384 ⌝ }
+    ensures { λ r. ⌜ r ≤ 8 * (97 * (largestWidth / 32)) ⌝ }
 {
     let mut n = 0;
     for r in 0..d {

@@ -12,7 +12,7 @@ ghost use Prim.Native.Nat.{_+_, _*_, _/_, _<_, _≤_};
 ghost use lib.ListN.{length, drop};
 ghost use lib.Seq.{sets};
 ghost use Rattle.group_codes.specs.Pack.{layoutsOf};
-ghost use Rattle.geometry.specs.Geometry.{RowsIn};
+ghost use Rattle.geometry.specs.Geometry.{largestWidth, RowsIn};
 ghost use Rattle.image_format.specs.Image.{groupsWords, layoutAt, fourWords, rowWords, rowsWords, image};
 ghost use Rattle.image_format.specs.Tables.{Codes, Writes};
 ghost use Rattle.image_writer.specs.Writer.{Room, GroupsRoom, RowRoom, countWords, clearWords};
@@ -113,7 +113,7 @@ fn put_four(
 
 // The words of a row.
 fn put_row(words: &mut [u32], p: usize, row: &[u8], w: usize, codes: &[u8], fields: &[u8]) -> usize
-    requires { ⌜ w + w / 8 ≤ length (now row) ⌝ ∗ ⌜ w ≤ 65536 ⌝ ∗ ⌜ RowRoom w (now row) p (now words) ⌝ ∗ ⌜ Writes (now codes) (now fields) ⌝ }
+    requires { ⌜ w + w / 8 ≤ length (now row) ⌝ ∗ ⌜ w ≤ largestWidth ⌝ ∗ ⌜ RowRoom w (now row) p (now words) ⌝ ∗ ⌜ Writes (now codes) (now fields) ⌝ }
     ensures { λ r. ⌜ r ≡ p + length (rowWords (w / 32) 0 w (now (row .entry))) ⌝ }
     ensures { λ _. ⌜ now (words .exit) ≡ sets (now (words .entry)) p (rowWords (w / 32) 0 w (now (row .entry))) ⌝ }
 {
@@ -152,5 +152,5 @@ pub fn put_image(words: &mut [u32], memory: &[u8], d: usize, w: usize, codes: &[
 {
     words[0] = word(word::HEAD, log_width(w) * 16 + d as u32);
     let end = put_rows(words, 1, memory, d, w, codes, fields);
-    words[end] = word(word::END, (end % 268435456) as u32);
+    words[end] = word(word::END, (end % word::PAYLOADS) as u32);
 }

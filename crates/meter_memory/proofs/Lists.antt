@@ -39,6 +39,22 @@ lent a s memory =
     let e : a + s - a ≡ s = omega arith in
     rw e
 
+-- row r was lent, and is back as ys: the rows up to it, and those behind it
+module _ (r stride : ℕ) (memory ys : List ℕ) (k : r * stride + stride ≤ length memory) (l : length ys ≡ stride) where
+  front-length : length (take (r * stride) memory ++ ys) ≡ r * stride + stride
+  front-length = simp (length-append, length-take-le (r * stride) memory (omega arith), l)
+
+  back : putMid (r * stride) (r * stride + stride - r * stride) memory ys ≡ (take (r * stride) memory ++ ys) ++ drop (r * stride + stride) memory
+  back =
+      ap (λ (z : List ℕ). take (r * stride) memory ++ (ys ++ z)) (post-is (r * stride) (r * stride + stride) memory (omega arith))
+      ∙ sym (append-assoc (take (r * stride) memory) ys (drop (r * stride + stride) memory))
+
+  pub back-front : take ((r + 1) * stride) (putMid (r * stride) (r * stride + stride - r * stride) memory ys) ≡ take (r * stride) memory ++ ys
+  back-front = rw (back, next-row r stride) (take-at (take (r * stride) memory ++ ys) (drop (r * stride + stride) memory) (r * stride + stride) front-length)
+
+  pub back-behind : drop ((r + 1) * stride) (putMid (r * stride) (r * stride + stride - r * stride) memory ys) ≡ drop ((r + 1) * stride) memory
+  back-behind = rw (back, next-row r stride) (drop-at (take (r * stride) memory ++ ys) (drop (r * stride + stride) memory) (r * stride + stride) front-length)
+
 -- rows read one by one
 module _ (f : ℕ → List ℕ → ℕ) (stride : ℕ) where
   pub rows-read : (d r : ℕ) (memory : List ℕ) → r < d
@@ -77,22 +93,16 @@ module _ (f : ℕ → List ℕ → List ℕ) (stride : ℕ) where
       → ys ≡ f r (take stride (drop (r * stride) memory))
       → rowsFrom d (r + 1) (putMid (r * stride) (r * stride + stride - r * stride) memory ys) ≡ rowsFrom d r memory
   rows-turn d r memory ys h k l e =
-      let a = r * stride in
-      let front : length (take a memory ++ ys) ≡ a + stride = simp (length-append, length-take-le a memory (omega arith), l) in
-      let whole : putMid a (a + stride - a) memory ys ≡ (take a memory ++ ys) ++ drop (a + stride) memory =
-      ap (λ (z : List ℕ). take a memory ++ (ys ++ z)) (post-is a (a + stride) memory (omega arith)) ∙ sym (append-assoc (take a memory) ys (drop (a + stride) memory)) in
       let n : d - r - 1 ≡ d - (r + 1) = omega arith in
       rw (
-        whole,
-        next-row r stride,
-        take-at (take a memory ++ ys) (drop (a + stride) memory) (a + stride) front,
-        drop-at (take a memory ++ ys) (drop (a + stride) memory) (a + stride) front,
-        rows-more (d - r) r (drop a memory) (omega arith),
+        back-front r stride memory ys k l,
+        back-behind r stride memory ys k l,
+        rows-more (d - r) r (drop (r * stride) memory) (omega arith),
         n,
-        drop-drop stride a memory,
+        drop-row memory r stride,
         ← e,
       )
-      (append-assoc (take a memory) ys (mapRows f stride (d - (r + 1)) (r + 1) (drop (a + stride) memory)))
+      (append-assoc (take (r * stride) memory) ys (mapRows f stride (d - (r + 1)) (r + 1) (drop ((r + 1) * stride) memory)))
 
   pub rows-end : (d r : ℕ) (memory : List ℕ) → d ≤ r → rowsFrom d r memory ≡ memory
   unfolding mapRows

@@ -1,5 +1,5 @@
--- What follows of every list of calls: each answer within it, and its traffic in any order. Document 01, 'Traffic and its two figures'.
--- Cited by theorems.
+-- What follows of every list of calls: each answer within it, and its traffic in any order. Cited by theorems. Document 01, 'Traffic and
+-- its two figures'.
 use Prim.Native.Nat.{ℕ}
 use mathlib.Core.Path.{_≡_}
 use mathlib.Core.Bool.{true}

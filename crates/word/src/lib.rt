@@ -10,6 +10,9 @@ pub const HEAD: u32 = 1;
 
 pub const END: u32 = 4;
 
+// How many payloads there are. A number of words counts by its remainder by this.
+pub const PAYLOADS: usize = 1 << 28;
+
 // A fault and its position; or status 0 and the position to read on from.
 pub struct Step {
     pub status: u8,

@@ -1,15 +1,16 @@
 use mathlib.Core.Path.{_≡_, refl, sym, _∙_}
-use Prim.Native.Nat.{_-_, _^_, _≤_}
+use Prim.Native.Nat.{_+_, _-_, _^_, _≤_}
 use native.Mathlib.Omega.{arith}
 use borrow.Author.Needs.{needs}
 use Rattle.laws.proofs.Shifts.{one-shl}
+use Rattle.geometry.specs.Geometry.{largestLog}
 use Rattle.image_format.specs.Image.{logFrom, logWidth}
 use Rattle.image_format.proofs.Laws.{log-this, log-below, log-none}
 use Rattle.image_format.proofs.log_width.Statement.{statement}
 use Rattle.image_format.proofs.log_width.Tie as tie
 
 abbrev Inv-loop : tie.InvT-loop
-Inv-loop w k₀ k = (k ≤ 17) × (logFrom k w ≡ logWidth w)
+Inv-loop w k₀ k = (k ≤ largestLog + 1) × (logFrom k w ≡ logWidth w)
 
 abbrev μ-loop : tie.MeasureT-loop
 μ-loop w k₀ k = k

@@ -4,7 +4,7 @@ use Prim.Native.Nat.{ℕ, _+_, _-_, _*_, _/_, _≤_}
 use native.Mathlib.Omega.{arith}
 use borrow.Author.Needs.{needs}
 use lib.ListN.{length, take, drop}
-use Rattle.geometry.specs.Geometry.{stride}
+use Rattle.geometry.specs.Geometry.{largestWidth, stride}
 use native.Mathlib.Nat.{sub-zero, zero-mul}
 use Rattle.image_format.specs.Read.{readRows}
 use Rattle.geometry.proofs.Widths.{row-in}
@@ -13,7 +13,7 @@ use Rattle.image_reader.proofs.read_rows.Statement.{statement}
 use Rattle.image_reader.proofs.read_rows.Tie as tie
 
 abbrev Inv-loop : tie.InvT-loop
-Inv-loop memory₀ d w words layouts fields size at₀ r₀ memory at r = (r ≤ d) × (size ≡ stride w) × (at ≤ 1 + 198656 * r) × (length memory ≡ length memory₀) × (rowsFrom d r w memory words at ≡ readRows d w memory₀ words 1)
+Inv-loop memory₀ d w words layouts fields size at₀ r₀ memory at r = (r ≤ d) × (size ≡ stride w) × (at ≤ 1 + 97 * (largestWidth / 32) * r) × (length memory ≡ length memory₀) × (rowsFrom d r w memory words at ≡ readRows d w memory₀ words 1)
 
 abbrev μ-loop : tie.MeasureT-loop
 μ-loop memory₀ d w words layouts fields size at₀ r₀ memory at r = d - r

@@ -4,7 +4,7 @@ use Prim.Native.Nat.{ℕ, _+_, _-_, _*_, _/_, _≤_}
 use native.Mathlib.Omega.{arith}
 use borrow.Author.Needs.{needs}
 use lib.ListN.{length, take, drop}
-use Rattle.geometry.specs.Geometry.{stride}
+use Rattle.geometry.specs.Geometry.{largestWidth, stride}
 use native.Mathlib.Nat.{zero-add, sub-zero, zero-mul}
 use Rattle.image_format.specs.Image.{rowWords, rowsWords}
 use Rattle.geometry.proofs.Widths.{one-row}
@@ -15,7 +15,7 @@ use Rattle.image_size.proofs.rows_size.Statement.{statement}
 use Rattle.image_size.proofs.rows_size.Tie as tie
 
 abbrev Inv-loop : tie.InvT-loop
-Inv-loop memory d w sizes n₀ r₀ n r = (r ≤ d) × (n ≤ 198656 * r) × (n + length (rowsWords (d - r) w (drop (r * stride w) memory)) ≡ length (rowsWords d w memory))
+Inv-loop memory d w sizes n₀ r₀ n r = (r ≤ d) × (n ≤ 97 * (largestWidth / 32) * r) × (n + length (rowsWords (d - r) w (drop (r * stride w) memory)) ≡ length (rowsWords d w memory))
 
 abbrev μ-loop : tie.MeasureT-loop
 μ-loop memory d w sizes n₀ r₀ n r = d - r
