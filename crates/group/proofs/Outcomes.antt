@@ -10,7 +10,7 @@ use Rattle.group_block.specs.Block.{numberOf}
 use Rattle.group_block.specs.Sum.{Sum, fits, over, add, unite}
 use Rattle.group.specs.declared.Group.{Group}
 use Rattle.answer.specs.Numbers.{invalidContent}
-use Rattle.group.specs.Group.{decode, encode, settle, unchanged, added, unitedGroups}
+use Rattle.group.specs.Group.{read, reading, decode, encode, settle, unchanged, added, unitedGroups}
 use Rattle.group.proofs.Laws.{encode-valid}
 
 settle-eight : (g : Group) (x : Sum 3) → length (g .counts) ≡ 8 → length (settle g x .group .counts) ≡ 8
@@ -43,6 +43,11 @@ added-valid g slot amount e = either-valid (valid 3 (g .merge)) g (add (decode g
 pub united-eight : (target source : Group) → length (target .counts) ≡ 8 → length (unitedGroups target source .group .counts) ≡ 8
 unfolding unitedGroups
 united-eight target source h = either-eight (valid 3 (target .merge) && valid 3 (source .merge)) target (unite (decode target) (decode source)) h
+
+-- a counter is read of what an addition leaves
+pub read-added : (g : Group) (slot amount : ℕ) → added g slot amount .status ≡ 0 → read (added g slot amount .group) slot .status ≡ 0
+unfolding read reading
+read-added g slot amount e = rw (added-valid g slot amount e)
 
 pub united-valid : (target source : Group) → unitedGroups target source .status ≡ 0 → valid 3 (unitedGroups target source .group .merge) ≡ true
 unfolding unitedGroups

@@ -2,3 +2,4 @@ pub mod Tests
 pub mod Slots
 pub mod Calls
 pub mod Memory
+pub mod Reading

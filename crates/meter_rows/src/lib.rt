@@ -58,15 +58,6 @@ fn try_rows(d: usize, w: usize, memory: &[u8], slots: &[usize; 8], amount: u32) 
     t
 }
 
-// Whether every row takes an amount in the group of a slot. Stores nothing.
-pub fn update_status(d: usize, w: usize, memory: &[u8], slots: &[usize; 8], amount: u32) -> u8
-    requires { ⌜ RowsIn d w (length (now memory)) ⌝ ∗ ⌜ SlotsIn d w (now slots) ⌝ }
-    ensures { λ s. ⌜ s ≡ earliest (ofRows (addedStatus w (now (slots .entry)) amount) (geometry.stride w) d 0 (now (memory .entry))) ⌝ }
-{
-    let t = try_rows(d, w, memory, slots, amount);
-    t.status
-}
-
 // An update of each row in the group of a slot, once every row is known to take it; else the first status.
 pub fn update_rows(d: usize, w: usize, memory: &mut [u8], slots: &[usize; 8], amount: u32) -> u8
     requires { ⌜ RowsIn d w (length (now memory)) ⌝ ∗ ⌜ SlotsIn d w (now slots) ⌝ }
@@ -111,6 +102,20 @@ pub fn read_rows(d: usize, w: usize, memory: &[u8], slots: &[usize; 8]) -> Answe
         position: 0,
         value,
     }
+}
+
+// The least value of the counters of a slot in each row, where no status is asked for: after an update.
+pub fn least_rows(d: usize, w: usize, memory: &[u8], slots: &[usize; 8]) -> u64
+    requires { ⌜ 1 ≤ d ⌝ ∗ ⌜ RowsIn d w (length (now memory)) ⌝ ∗ ⌜ SlotsIn d w (now slots) ⌝ }
+    ensures { λ v. ⌜ v ≡ least (ofRows (slotValue w (now (slots .entry))) (geometry.stride w) d 0 (now (memory .entry))) ⌝ }
+{
+    let first = meter_row::read_row(row_at(w, memory, 0), w, slots[0]);
+    let mut value = first.value;
+    for r in 1..d {
+        let c = meter_row::read_row(row_at(w, memory, r), w, slots[r]);
+        value = smaller(value, c.value);
+    }
+    value
 }
 
 // The first status of a meter's groups, and their largest level.

@@ -98,7 +98,7 @@ pub fn update(
         let full = watch_estimate::status(d, w, memory, key, amount);
         return answer_of(earlier(full, line), 0);
     }
-    let left = watch_estimate::update(d, w, memory, key, amount);
+    let left = meter::update_reading(d, w, memory, key, amount, true);
     if left.status != 0 {
         return answer_of(left.status, 0);
     }
