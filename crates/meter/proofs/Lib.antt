@@ -1,4 +1,5 @@
 pub mod Tests
 pub mod Slots
 pub mod Calls
+pub mod Refusals
 pub mod Memory
