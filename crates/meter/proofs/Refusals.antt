@@ -1,15 +1,14 @@
 -- What an update and an estimate of the same key refuse: 5 of the meter's groups is what an estimate tests.
-use mathlib.Core.Path.{_≡_, refl, sym, ap, ap₂, _∙_}
+use mathlib.Core.Path.{_≡_, refl, sym, ap, _∙_}
 use mathlib.Core.Logic.{_⊎_, inl, inr}
-use mathlib.Core.List.{List, [], _∷_}
+use mathlib.Core.List.{List}
 use Prim.Native.Nat.{ℕ, zero, suc, _+_, _/_}
 use lib.ListN.{take, drop}
 use Rattle.hash.specs.Hash.{basis}
 use Rattle.geometry.specs.Geometry.{stride}
 use Rattle.group.proofs.Outcomes.{Statuses, neither, full, invalid, added-read}
 use Rattle.answer.specs.declared.Answer.{Answer}
-use Rattle.answer.specs.Answers.{answerOf}
-use Rattle.answer.specs.Order.{earlier, earliest}
+use Rattle.answer.specs.Order.{placeIn, earlier, earliest}
 use Rattle.answer.proofs.Answers.{status-is}
 use Rattle.meter_memory.specs.Rows.{ofRows, groupAt}
 use Rattle.meter_keys.specs.Keys.{keySlot}
@@ -19,7 +18,7 @@ use Rattle.meter.proofs.Calls.{updated-rows, estimated-good}
 
 -- of two groups
 with-next : {a b s t : ℕ} → Statuses a b → Statuses s t → Statuses (earlier a s) (earlier b t)
-unfolding earlier
+unfolding earlier placeIn
 with-next neither r = r
 with-next full neither = full
 with-next full full = full
@@ -37,7 +36,7 @@ of-rows f g h s (suc n) r memory = with-next (h r (take s memory)) (of-rows f g 
 
 -- 6 comes after 5 and 11
 same-line : {s t : ℕ} → Statuses s t → (line : ℕ) → (line ≡ 5) ⊎ (line ≡ 11) → earlier s line ≡ earlier t line
-unfolding earlier
+unfolding earlier placeIn
 same-line neither line l = refl
 same-line full line (inl e) = rw e
 same-line full line (inr e) = rw e

@@ -58,15 +58,6 @@ fn try_rows(d: usize, w: usize, memory: &[u8], slots: &[usize; 8], amount: u32) 
     t
 }
 
-// Whether every row takes an amount in the group of a slot. Stores nothing.
-pub fn update_status(d: usize, w: usize, memory: &[u8], slots: &[usize; 8], amount: u32) -> u8
-    requires { ⌜ RowsIn d w (length (now memory)) ⌝ ∗ ⌜ SlotsIn d w (now slots) ⌝ }
-    ensures { λ s. ⌜ s ≡ earliest (ofRows (addedStatus w (now (slots .entry)) amount) (geometry.stride w) d 0 (now (memory .entry))) ⌝ }
-{
-    let t = try_rows(d, w, memory, slots, amount);
-    t.status
-}
-
 // An update of each row in the group of a slot, once every row is known to take it; else the first status.
 pub fn update_rows(d: usize, w: usize, memory: &mut [u8], slots: &[usize; 8], amount: u32) -> u8
     requires { ⌜ RowsIn d w (length (now memory)) ⌝ ∗ ⌜ SlotsIn d w (now slots) ⌝ }

@@ -1,19 +1,10 @@
-// An update of a meter and the estimate that it leaves, the key hashed once; and what an update would answer.
+// An update of a meter and the estimate that it leaves, the key hashed once.
 use answer::Answer;
 use answer::answer_of;
 use hash::Hash;
 use meter_keys::key_slots;
 ghost use mathlib.Core.Path.{_≡_};
 ghost use Rattle.meter.specs.Meter.{badCall, updated, estimated};
-
-// What an update would answer. Stores nothing.
-pub fn status(d: usize, w: usize, memory: &[u8], key: &[u8], amount: u32) -> u8
-    requires { ⌜ badCall d w (now memory) (now key) ≡ 0 ⌝ }
-    ensures { λ r. ⌜ r ≡ updated d w (now (memory .entry)) (now (key .entry)) amount .answer .status ⌝ }
-{
-    let slots = key_slots(Hash::start(), w, key, d);
-    meter_rows::update_status(d, w, memory, &slots, amount)
-}
 
 // An update, and where it is accepted the estimate that it leaves.
 pub fn update(d: usize, w: usize, memory: &mut [u8], key: &[u8], amount: u32) -> Answer

@@ -4,6 +4,7 @@ use mathlib.Core.List.{List}
 use Prim.Native.Nat.{ℕ}
 use lib.ListN.{length}
 use Rattle.meter.specs.Meter.{estimated}
+use Rattle.answer.specs.declared.Answer.{Answer}
 use Rattle.answer.specs.Answers.{answerOf}
 use Rattle.answer.specs.Order.{earlier}
 use Rattle.answer.proofs.Order.{none-earlier}
@@ -56,8 +57,8 @@ bad-threshold-requires c κs = search needs
 earlier-requires : tie.Need-earlier-requires
 earlier-requires c κs = search needs
 
-status-requires : tie.Need-status-requires
-status-requires c κs = let e = c .before .before .before .before .before .before in
+estimate-checked-requires : tie.Need-estimate-checked-requires
+estimate-checked-requires c κs = let e = c .before .before .before .before .before .before in
     let a = e .before .before .before .before .before .before .before .args in
     lines-good (a .d) (a .w) (a .memory .now) (a .list .now) (a .key .now) (passed e) .0
 
@@ -79,7 +80,7 @@ returns-2 c = let u = c .before .before in
     let l = t .before in
     let e = l .before .before .before .before in
     let a = e .before .before .before .before .before .before .before .args in
-    let p = watched-line (a .d) (a .w) (a .memory .now) (a .list .now) (a .key .now) (a .amount) (a .threshold) (passed e) (l .earlier .result) (u .status .result) (own-line l) (t .if2 .taken) (u .status .ensures) in
+    let p = watched-line (a .d) (a .w) (a .memory .now) (a .list .now) (a .key .now) (a .amount) (a .threshold) (passed e) (l .earlier .result) (u .estimate-checked .result .status) (own-line l) (t .if2 .taken) (ap (λ (x : Answer). x .status) (u .estimate-checked .ensures)) in
     (c .answer-of2 .ensures ∙ ap (λ (s : ℕ). answerOf s 0) (c .before .earlier2 .ensures) ∙ p .0, p .1)
 
 update-requires : tie.Need-update-requires
@@ -163,7 +164,7 @@ update-spec =
     broken-list-requires
     bad-threshold-requires
     earlier-requires
-    status-requires
+    estimate-checked-requires
     earlier-requires-2
     answer-of-requires-2
     same-length-3
