@@ -1,5 +1,5 @@
 -- What each call answers and leaves, by the tests that led there.
-use mathlib.Core.Path.{_≡_, refl, sym, ap, ap₂, _∙_}
+use mathlib.Core.Path.{_≡_, refl, sym, ap, _∙_}
 use mathlib.Core.Bool.{Bool, true, false, _&&_, and-eq-true-iff}
 use mathlib.Core.List.{List, [], _∷_}
 use mathlib.Core.Logic.{_⊎_, inl, inr}
@@ -128,7 +128,7 @@ module _ (d w : ℕ) (memory list key : List ℕ) where
       watched-line line s e h u =
           refused-by (earlier s line)
           (ap (λ (x : ℕ). earlier x line) u
-          ∙ sym (refused-as-estimated d w memory key amount line (lines-good .0) (own-lines (sound list) (leb 1 threshold) line e h))
+          ∙ sym (refused-as-estimated d w memory key amount line (lines-good good .0) (own-lines (sound list) (leb 1 threshold) line e h))
           ∙ ap (earlier (updated d w memory key amount .answer .status)) e
           ∙ sym by-lines)
           (λ z. h (none-earlier s line z .1))
