@@ -1,16 +1,18 @@
--- What an addition or a union leaves: eight count bytes and, if accepted, a valid merge byte.
-use mathlib.Core.Path.{_≡_}
+-- What an addition or a union leaves: eight count bytes and, if accepted, a valid merge byte. And how an addition's status stands to a
+-- reading's.
+use mathlib.Core.Path.{_≡_, refl}
 use mathlib.Core.Bool.{Bool, true, false, cond, _&&_}
 use Prim.Native.Nat.{ℕ, _%_}
 use native.Mathlib.Omega.{arith}
 use lib.ListN.{length}
 use Rattle.little_endian.proofs.Bytes.{bytes-length}
 use Rattle.group_layout.specs.Layout.{valid}
-use Rattle.group_block.specs.Block.{numberOf}
+use Rattle.group_block.specs.Block.{numberOf, counterAt}
 use Rattle.group_block.specs.Sum.{Sum, fits, over, add, unite}
 use Rattle.group.specs.declared.Group.{Group}
 use Rattle.answer.specs.Numbers.{invalidContent}
-use Rattle.group.specs.Group.{read, reading, decode, encode, settle, unchanged, added, unitedGroups}
+use Rattle.group.specs.declared.Reading.{Reading}
+use Rattle.group.specs.Group.{decode, encode, settle, unchanged, read, reading, added, unitedGroups}
 use Rattle.group.proofs.Laws.{encode-valid}
 
 settle-eight : (g : Group) (x : Sum 3) → length (g .counts) ≡ 8 → length (settle g x .group .counts) ≡ 8
@@ -52,3 +54,24 @@ read-added g slot amount e = rw (added-valid g slot amount e)
 pub united-valid : (target source : Group) → unitedGroups target source .status ≡ 0 → valid 3 (unitedGroups target source .group .merge) ≡ true
 unfolding unitedGroups
 united-valid target source e = either-valid (valid 3 (target .merge) && valid 3 (source .merge)) target (unite (decode target) (decode source)) e
+
+-- the statuses of an addition and of a reading of the same slot: both refuse the merge byte, or only the addition may refuse, with 6
+pub data Statuses : ℕ → ℕ → Type 0 where
+  neither : Statuses 0 0
+  full : Statuses 6 0
+  invalid : Statuses 5 5
+
+settle-status : (g : Group) (x : Sum 3) → Statuses (settle g x .status) 0
+unfolding settle
+settle-status g (fits b) = neither
+settle-status g (over s) = full
+
+either-status : (b : Bool) (g : Group) (x : Sum 3) (r : Reading) → r .status ≡ 0
+    → Statuses (cond b (settle g x) (unchanged invalidContent g) .status) (cond b r (record { status = invalidContent; value = 0; level = 0 }) .status)
+either-status true g x r e = rw e (settle-status g x)
+either-status false g x r e = invalid
+
+pub added-read : (g : Group) (slot amount : ℕ) → Statuses (added g slot amount .status) (read g slot .status)
+unfolding added read reading
+added-read g slot amount =
+    either-status (valid 3 (g .merge)) g (add (decode g) (slot % 8) amount) (reading (counterAt (decode g) (slot % 8))) refl

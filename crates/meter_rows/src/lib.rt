@@ -110,12 +110,12 @@ pub fn least_rows(d: usize, w: usize, memory: &[u8], slots: &[usize; 8]) -> u64
     ensures { λ v. ⌜ v ≡ least (ofRows (slotValue w (now (slots .entry))) (geometry.stride w) d 0 (now (memory .entry))) ⌝ }
 {
     let first = meter_row::read_row(row_at(w, memory, 0), w, slots[0]);
-    let mut value = first.value;
+    let mut smallest = first.value;
     for r in 1..d {
         let c = meter_row::read_row(row_at(w, memory, r), w, slots[r]);
-        value = smaller(value, c.value);
+        smallest = smaller(smallest, c.value);
     }
-    value
+    smallest
 }
 
 // The first status of a meter's groups, and their largest level.

@@ -1,7 +1,8 @@
 -- What each call answers and leaves, by the tests that led there.
-use mathlib.Core.Path.{_≡_, refl, sym, ap, ap₂, _∙_}
+use mathlib.Core.Path.{_≡_, refl, sym, ap, _∙_}
 use mathlib.Core.Bool.{Bool, true, false, _&&_, and-eq-true-iff}
 use mathlib.Core.List.{List, [], _∷_}
+use mathlib.Core.Logic.{_⊎_, inl, inr}
 use Prim.Native.Nat.{ℕ, zero, suc, _≤_}
 use native.Mathlib.Decide.{ℕ-discrete}
 use native.Mathlib.Omega.{arith}
@@ -9,12 +10,13 @@ use borrow.Author.Tests.{eqb-true, leb-true, eq-eqb, ne-eqb}
 use lib.Dec.{eqb, leb}
 use lib.ListN.{length, replicate}
 use Rattle.answer.specs.Answers.{answerOf, leaves, finish}
-use Rattle.answer.specs.Order.{unless, firstOf, earlier, earliest}
+use Rattle.answer.specs.Order.{unless, firstOf, placeIn, earlier, earliest}
 use Rattle.answer.proofs.Order.{earlier-none, none-earlier, first-stop, first-skip, first-one, none-first}
 use Rattle.answer.proofs.Answers.{refusing, accepting, finish-kept}
 use Rattle.geometry.specs.Checks.{badDepth, badWidth, badLength, badShape, badKey}
 use Rattle.meter.specs.Meter.{badCall, updated, estimated}
 use Rattle.meter.proofs.Calls.{call-key}
+use Rattle.meter.proofs.Refusals.{refused-as-estimated}
 use Rattle.watch_list.specs.List.{takenOff}
 use Rattle.watch_list.specs.Layout.{listSize, sound, encode, decode}
 use Rattle.watch_list.specs.Parts.{KeyLong}
@@ -35,6 +37,14 @@ pub key-long : (key : List ℕ) → badKey (length key) ≡ 0 → KeyLong key
 key-long key e =
     let p = and-eq-true-iff (leb 1 (length key)) (leb (length key) 64) .0 (holds-by (leb 1 (length key) && leb (length key) 64) 4 (λ z. omega arith) e) in
     (leb-true 1 (length key) (p .0), leb-true (length key) 64 (p .1))
+
+-- a line of a list's own, and that of a threshold: 5 or 11
+own-lines : (a b : Bool) (line : ℕ) → line ≡ earlier (unless a 5) (unless b 11) → (line ≡ 0 → ⊥) → (line ≡ 5) ⊎ (line ≡ 11)
+unfolding earlier placeIn
+own-lines true true line e h = absurd (h e)
+own-lines true false line e h = inr e
+own-lines false true line e h = inl e
+own-lines false false line e h = inl e
 
 -- clearing
 module _ (list : List ℕ) where
@@ -110,12 +120,18 @@ module _ (d w : ℕ) (memory list key : List ℕ) where
           ∙ first-one (earliest (updated d w memory key amount .answer .status ∷ brokenList list ∷ badThreshold threshold ∷ []))
           ∙ later
 
-      -- a list that is broken, or a threshold of 0
-      pub watched-line : (line s : ℕ) → line ≡ earlier (brokenList list) (badThreshold threshold) → (line ≡ 0 → ⊥) → s ≡ updated d w memory key amount .answer .status
+      -- a list that is broken, or a threshold of 0: an estimate's status does for the update's
+      pub watched-line : (line s : ℕ) → line ≡ earlier (brokenList list) (badThreshold threshold) → (line ≡ 0 → ⊥) → s ≡ estimated d w memory key .status
           → (answerOf (earlier s line) 0 ≡ watched d w memory list key amount threshold .answer)
           × ((memory ≡ watched d w memory list key amount threshold .memory) × (list ≡ watched d w memory list key amount threshold .list))
       unfolding status lines Refused
-      watched-line line s e h u = refused-by (earlier s line) (ap₂ earlier u e ∙ sym by-lines) (λ z. h (none-earlier s line z .1))
+      watched-line line s e h u =
+          refused-by (earlier s line)
+          (ap (λ (x : ℕ). earlier x line) u
+          ∙ sym (refused-as-estimated d w memory key amount line (lines-good good .0) (own-lines (sound list) (leb 1 threshold) line e h))
+          ∙ ap (earlier (updated d w memory key amount .answer .status)) e
+          ∙ sym by-lines)
+          (λ z. h (none-earlier s line z .1))
 
       module _ (clean : earlier (brokenList list) (badThreshold threshold) ≡ 0) where
         by-update : watchStatus d w memory list key amount threshold ≡ updated d w memory key amount .answer .status

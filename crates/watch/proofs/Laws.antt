@@ -18,7 +18,7 @@ use Rattle.meter.specs.Meter.{badCall, updated}
 use Rattle.meter.proofs.Calls.{call-shape-bad, call-key, updated-bad}
 use Rattle.watch_list.specs.List.{takenOff}
 use Rattle.watch_list.specs.Layout.{listSize, sound, encode, decode}
-use Rattle.watch.specs.Watch.{badList, brokenList, badThreshold, listCleared, badLines, watchStatus, notedIn, watched, removed}
+use Rattle.watch.specs.Watch.{badList, brokenList, badThreshold, listCleared, badLines, watchStatus, notedIn, watched, badRemoval, removed}
 
 -- what a test asks for holds where its line does not apply
 pub none-unless : (b : Bool) (n : ℕ) → unless b (suc n) ≡ 0 → b ≡ true
@@ -116,7 +116,7 @@ module _ (list key : List ℕ) where
     pub list-is : removed list key .memory ≡ encode (takenOff key (decode list))
 
   pub removed-accepted : removed list key .answer .status ≡ 0 → Removed
-  unfolding removed finish
+  unfolding removed badRemoval finish
   removed-accepted e =
       let tests = firstOf (badList list ∷ badKey (length key) ∷ brokenList list ∷ []) in
       let s : tests ≡ 0 = sym (status-is tests 0) ∙ e in
@@ -134,7 +134,7 @@ module _ (list key : List ℕ) where
   removed-kept e = finish-kept _ _ _ _ e
 
   pub removed-status : length list ≡ listSize → sound list ≡ true → removed list key .answer .status ≡ badKey (length key)
-  unfolding removed finish firstOf
+  unfolding removed badRemoval finish firstOf
   removed-status long good =
       status-is (firstOf (badList list ∷ badKey (length key) ∷ brokenList list ∷ [])) 0
       ∙ rw (eq-eqb (length list) listSize long, good) (last (badKey (length key)))

@@ -75,7 +75,7 @@ fn bad_lines(d: usize, w: usize, memory: &[u8], list: &[u8], key: &[u8]) -> u8
 }
 
 // Updates a meter, and notes the estimate that the update leaves in the list. Both are tested before either is written. Where the list is
-// broken or the threshold 0, what the update would answer is asked for alone: 5 of the meter comes before 11.
+// broken or the threshold 0, an estimate says whether 5 of the meter's groups applies, which comes before 11; 6 comes after both.
 pub fn update(
     d: usize,
     w: usize,
@@ -95,8 +95,8 @@ pub fn update(
     }
     let line = earlier(broken_list(list), bad_threshold(threshold));
     if line != 0 {
-        let full = watch_estimate::status(d, w, memory, key, amount);
-        return answer_of(earlier(full, line), 0);
+        let asked = meter::estimate_checked(d, w, memory, key);
+        return answer_of(earlier(asked.status, line), 0);
     }
     let left = meter::update_reading(d, w, memory, key, amount, true);
     if left.status != 0 {

@@ -16,11 +16,11 @@ use Rattle.meter_rows.proofs.least_rows.Statement.{statement}
 use Rattle.meter_rows.proofs.least_rows.Tie as tie
 
 abbrev Inv-loop : tie.InvT-loop
-Inv-loop d w memory slots value₀ r₀ value r = (1 ≤ r) × (r ≤ d)
-    × (leastOr value (ofRows (slotValue w slots) (stride w) (d - r) r (drop (r * stride w) memory)) ≡ least (ofRows (slotValue w slots) (stride w) d 0 memory))
+Inv-loop d w memory slots smallest₀ r₀ smallest r = (1 ≤ r) × (r ≤ d)
+    × (leastOr smallest (ofRows (slotValue w slots) (stride w) (d - r) r (drop (r * stride w) memory)) ≡ least (ofRows (slotValue w slots) (stride w) d 0 memory))
 
 abbrev μ-loop : tie.MeasureT-loop
-μ-loop d w memory slots value₀ r₀ value r = d - r
+μ-loop d w memory slots smallest₀ r₀ smallest r = d - r
 
 -- the counter of row r
 abbrev counterOf : ℕ → List ℕ → List ℕ → ℕ → Reading
@@ -78,13 +78,13 @@ loop-again c = let a = c .before .before .before .before .before .before .before
       omega arith,
       omega arith,
       rw (c .smaller .ensures)
-          (least-turn (slotValue (a .w) (a .slots .now)) (a .w) (a .d) (a .memory .now) (l .r) (l .value) (x .result .value) (omega arith) (ap (λ (y : Reading). y .value) e) ∙ l .inv .2),
+          (least-turn (slotValue (a .w) (a .slots .now)) (a .w) (a .d) (a .memory .now) (l .r) (l .smallest) (x .result .value) (omega arith) (ap (λ (y : Reading). y .value) e) ∙ l .inv .2),
     )
 
 returns : tie.Need-returns Inv-loop μ-loop
 returns c = let a = c .before .before .before .before .before .before .args in
     let l = c .before .loop in
-    sym (least-end (slotValue (a .w) (a .slots .now)) (a .w) (a .d) (a .memory .now) (l .r) (l .value) (omega arith)) ∙ l .inv .2
+    sym (least-end (slotValue (a .w) (a .slots .now)) (a .w) (a .d) (a .memory .now) (l .r) (l .smallest) (omega arith)) ∙ l .inv .2
 
 pub least-rows-spec : {M : Type 1} → statement M
 least-rows-spec =

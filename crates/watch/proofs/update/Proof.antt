@@ -1,9 +1,10 @@
-use mathlib.Core.Path.{_≡_, sym, ap, ap₂, _∙_}
+use mathlib.Core.Path.{_≡_, refl, sym, ap, ap₂, _∙_}
 use mathlib.Core.Bool.{true}
 use mathlib.Core.List.{List}
 use Prim.Native.Nat.{ℕ}
 use lib.ListN.{length}
 use Rattle.meter.specs.Meter.{estimated}
+use Rattle.answer.specs.declared.Answer.{Answer}
 use Rattle.answer.specs.Answers.{answerOf}
 use Rattle.answer.specs.Order.{earlier}
 use Rattle.answer.proofs.Order.{none-earlier}
@@ -56,8 +57,8 @@ bad-threshold-requires c κs = search needs
 earlier-requires : tie.Need-earlier-requires
 earlier-requires c κs = search needs
 
-status-requires : tie.Need-status-requires
-status-requires c κs = let e = c .before .before .before .before .before .before in
+estimate-checked-requires : tie.Need-estimate-checked-requires
+estimate-checked-requires c κs = let e = c .before .before .before .before .before .before in
     let a = e .before .before .before .before .before .before .before .args in
     lines-good (a .d) (a .w) (a .memory .now) (a .list .now) (a .key .now) (passed e) .0
 
@@ -79,11 +80,11 @@ returns-2 c = let u = c .before .before in
     let l = t .before in
     let e = l .before .before .before .before in
     let a = e .before .before .before .before .before .before .before .args in
-    let p = watched-line (a .d) (a .w) (a .memory .now) (a .list .now) (a .key .now) (a .amount) (a .threshold) (passed e) (l .earlier .result) (u .status .result) (own-line l) (t .if2 .taken) (u .status .ensures) in
+    let p = watched-line (a .d) (a .w) (a .memory .now) (a .list .now) (a .key .now) (a .amount) (a .threshold) (passed e) (l .earlier .result) (u .estimate-checked .result .status) (own-line l) (t .if2 .taken) (ap (λ (x : Answer). x .status) (u .estimate-checked .ensures)) in
     (c .answer-of2 .ensures ∙ ap (λ (s : ℕ). answerOf s 0) (c .before .earlier2 .ensures) ∙ p .0, p .1)
 
-update-requires : tie.Need-update-requires
-update-requires c κs = let e = c .before .before .before .before .before .before in
+update-reading-requires : tie.Need-update-reading-requires
+update-reading-requires c κs = let e = c .before .before .before .before .before .before in
     let a = e .before .before .before .before .before .before .before .args in
     lines-good (a .d) (a .w) (a .memory .now) (a .list .now) (a .key .now) (passed e) .0
 
@@ -102,8 +103,8 @@ returns-3 c = let u = c .before .before .before .before .before in
     let l = o .before in
     let e = l .before .before .before .before in
     let a = e .before .before .before .before .before .before .before .args in
-    let p = watched-full (a .d) (a .w) (a .memory .now) (a .list .now) (a .key .now) (a .amount) (a .threshold) (passed e) (sym (own-line l) ∙ o .if2 .left) (u .update .result .status) (u .update .ensures .0) (c .before .if3 .taken) in
-    (c .answer-of3 .ensures ∙ p .0, (u .update .ensures .1 .0 ∙ p .1 .0, p .1 .1))
+    let p = watched-full (a .d) (a .w) (a .memory .now) (a .list .now) (a .key .now) (a .amount) (a .threshold) (passed e) (sym (own-line l) ∙ o .if2 .left) (u .update-reading .result .status) (u .update-reading .ensures .0) (c .before .if3 .taken) in
+    (c .answer-of3 .ensures ∙ p .0, (u .update-reading .ensures .1 .0 ∙ p .1 .0, p .1 .1))
 
 -- and so have those of the list
 sound-list : (c : tie.Else2)
@@ -143,10 +144,10 @@ returns-4 c = let n = c .before .before .before in
     let l = o .before in
     let e = l .before .before .before .before in
     let a = e .before .before .before .before .before .before .before .args in
-    let left = u .update in
+    let left = u .update-reading in
     let p = watched-done (a .d) (a .w) (a .memory .now) (a .list .now) (a .key .now) (a .amount) (a .threshold) (passed e) (sym (own-line l) ∙ o .if2 .left) (sym (left .ensures .0) ∙ t .if3 .left) in
     let is = left .ensures .1 .0 in
-    let estimate = left .ensures .1 .1 (t .if3 .left) ∙ ap (λ (m : List ℕ). estimated (a .d) (a .w) m (a .key .now) .value) is in (
+    let estimate = left .ensures .1 .1 refl (t .if3 .left) ∙ ap (λ (m : List ℕ). estimated (a .d) (a .w) m (a .key .now) .value) is in (
       c .answer-of4 .ensures ∙ p .0,
       (is ∙ p .1 .0, n .note .ensures ∙ ap (λ (v : ℕ). encode (noted (a .key .now) v (a .threshold) (decode (a .list .now)))) estimate ∙ p .1 .1),
     )
@@ -163,13 +164,13 @@ update-spec =
     broken-list-requires
     bad-threshold-requires
     earlier-requires
-    status-requires
+    estimate-checked-requires
     earlier-requires-2
     answer-of-requires-2
     same-length-3
     same-length-4
     returns-2
-    update-requires
+    update-reading-requires
     answer-of-requires-3
     same-length-5
     same-length-6
