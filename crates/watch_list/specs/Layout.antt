@@ -1,5 +1,5 @@
--- How a watch list lies in lent bytes: 64 bytes with the key length of each place, the mark, 64 keys of 64 bytes, 64 estimates of 8 bytes,
--- lowest first. Document 02, request 1. Cited by contracts and theorems.
+-- How a watch list lies in lent bytes. Document 02, request 1. Cited by contracts and theorems. 64 bytes with the key length of each place,
+-- the mark, 64 keys of 64 bytes, 64 estimates of 8 bytes, lowest first.
 use Prim.Native.Nat.{ℕ, zero, suc, _+_, _-_, _*_}
 use mathlib.Core.Bool.{Bool, true, false, _&&_}
 use mathlib.Core.List.{List, [], _∷_, _++_}
