@@ -86,7 +86,14 @@ fn least_value(read: bool, d: usize, w: usize, memory: &[u8], slots: &[usize; 8]
 
 // An update whose geometry and key length have passed; and the estimate that it leaves, if that is to be read. One function for both, so that
 // what it calls has one caller and is compiled into it.
-pub fn update_reading(d: usize, w: usize, memory: &mut [u8], key: &[u8], amount: u32, read: bool) -> Answer
+pub fn update_reading(
+    d: usize,
+    w: usize,
+    memory: &mut [u8],
+    key: &[u8],
+    amount: u32,
+    read: bool,
+) -> Answer
     requires { ⌜ badCall d w (now memory) (now key) ≡ 0 ⌝ }
     ensures { λ r. ⌜ r .status ≡ updated d w (now (memory .entry)) (now (key .entry)) amount .answer .status ⌝ }
     ensures { λ r. ⌜ now (memory .exit) ≡ updated d w (now (memory .entry)) (now (key .entry)) amount .memory ⌝ }

@@ -1,6 +1,6 @@
 -- Laws of what is counted of key lengths, and of keys compared.
 use mathlib.Core.Path.{_≡_, refl, sym, ap, _∙_}
-use mathlib.Core.Bool.{Bool, true, false, cond, true≢false, and-eq-true-iff, and-false, or-true}
+use mathlib.Core.Bool.{true, false, cond, true≢false, and-eq-true-iff}
 use mathlib.Core.List.{List, [], _∷_, _++_}
 use Prim.Native.Nat.{ℕ, zero, suc, _+_, _-_, _*_, _≤_, _<_}
 use native.Mathlib.Nat.{zero-add}
@@ -19,7 +19,7 @@ use Rattle.meter_keys.proofs.Same.{key-same, key-differs}
 use Rattle.watch_list.specs.List.{Entry}
 use Rattle.watch_list.specs.Layout.{keysAt, listSize, keyBytes, placeAt, placesFrom, inUse, allZero, soundLengths}
 use Rattle.watch_list.specs.Parts.{indexOf}
-use Rattle.watch_find.specs.Scan.{sumOf, flawAt, usedAt}
+use Rattle.watch_find.specs.Scan.{sumOf, usedAt, longAt, gapAt, flawAt}
 
 -- one length more, and none left
 module _ (f : ℕ → ℕ → ℕ) (before : ℕ) (ns : List ℕ) (k : ℕ) where
@@ -36,40 +36,6 @@ unfolding sumOf usedAt
 use-any a b [] = refl
 use-any a b (n ∷ ns) = refl
 
--- which lengths are wrong
-pub flaw-zero : (b : ℕ) → flawAt b 0 ≡ 0
-unfolding flawAt
-flaw-zero b = rw (and-false (eqb b 0))
-
-pub flaw-used : (n : ℕ) → (n ≡ 0 → ⊥) → flawAt 0 n ≡ 1
-unfolding flawAt
-flaw-used n h = rw (ne-eqb n 0 h, or-true (ltb 64 n))
-
-pub flaw-short : (b n : ℕ) → (b ≡ 0 → ⊥) → n ≤ 64 → flawAt b n ≡ 0
-unfolding flawAt
-flaw-short b n h k = rw (ne-eqb b 0 h, le-ltb 64 n k)
-
-pub flaw-long : (b n : ℕ) → 64 < n → flawAt b n ≡ 1
-unfolding flawAt
-flaw-long b n h = rw (lt-ltb 64 n h)
-
--- lengths are sound where none is wrong: all 0 after a 0, and from the first on
-zero-flaws : (ns : List ℕ) → allZero ns ≡ eqb (sumOf flawAt 0 ns) 0
-unfolding allZero sumOf
-zero-flaws [] = refl
-zero-flaws (zero ∷ ns) = rw (flaw-zero 0, zero-add (sumOf flawAt 0 ns)) (zero-flaws ns)
-zero-flaws (suc n ∷ ns) = rw (flaw-used (suc n) (λ e. omega arith)) (sym (ne-eqb (1 + sumOf flawAt (suc n) ns) 0 (λ e. omega arith)))
-
-pub sound-flaws : (b : ℕ) (ns : List ℕ) → (b ≡ 0 → ⊥) → soundLengths ns ≡ eqb (sumOf flawAt b ns) 0
-unfolding soundLengths sumOf
-sound-flaws b [] h = refl
-sound-flaws b (zero ∷ ns) h = rw (flaw-zero b, zero-add (sumOf flawAt 0 ns)) (zero-flaws ns)
-sound-flaws b (suc n ∷ ns) h =
-    elim (decLe (suc n) 64) [
-      | yes l ↦ rw (le-leb (suc n) 64 l, flaw-short b (suc n) h l, zero-add (sumOf flawAt (suc n) ns)) (sound-flaws (suc n) ns (λ e. omega arith))
-      | no l ↦ rw (lt-leb (suc n) 64 (omega arith), flaw-long b (suc n) (omega arith)) (sym (ne-eqb (1 + sumOf flawAt (suc n) ns) 0 (λ e. omega arith)))
-    ]
-
 -- the places in use
 pub use-zero : (b : ℕ) → usedAt b 0 ≡ 0
 unfolding usedAt
@@ -78,6 +44,61 @@ use-zero b = refl
 pub use-some : (b n : ℕ) → (n ≡ 0 → ⊥) → usedAt b n ≡ 1
 unfolding usedAt
 use-some b n h = rw (ne-eqb n 0 h)
+
+-- which lengths are wrong
+pub long-no : (n : ℕ) → n ≤ 64 → longAt n ≡ 0
+unfolding longAt
+long-no n h = rw (le-ltb 64 n h)
+
+pub long-yes : (n : ℕ) → 64 < n → longAt n ≡ 1
+unfolding longAt
+long-yes n h = rw (lt-ltb 64 n h)
+
+pub gap-after-0 : (n : ℕ) → gapAt 0 n ≡ usedAt 0 n
+unfolding gapAt
+gap-after-0 n = refl
+
+pub gap-no : (b n : ℕ) → (b ≡ 0 → ⊥) → gapAt b n ≡ 0
+unfolding gapAt
+gap-no b n h = rw (ne-eqb b 0 h)
+
+pub gap-of : (b n u : ℕ) → b ≡ 0 → u ≡ usedAt b n → u ≡ gapAt b n
+unfolding gapAt
+gap-of b n u z e = rw (eq-eqb b 0 z) e
+
+flaw-zero : (b : ℕ) → flawAt b 0 ≡ 0
+unfolding flawAt
+flaw-zero zero = omega (arith, long-no 0 (omega arith), gap-after-0 0, use-zero 0)
+flaw-zero (suc b) = omega (arith, long-no 0 (omega arith), gap-no (suc b) 0 (λ z. omega arith))
+
+flaw-used : (n : ℕ) → (n ≡ 0 → ⊥) → 1 ≤ flawAt 0 n
+unfolding flawAt
+flaw-used n h = omega (arith, gap-after-0 n, use-some 0 n h)
+
+flaw-short : (b n : ℕ) → (b ≡ 0 → ⊥) → n ≤ 64 → flawAt b n ≡ 0
+unfolding flawAt
+flaw-short b n h k = omega (arith, long-no n k, gap-no b n h)
+
+flaw-long : (b n : ℕ) → 64 < n → 1 ≤ flawAt b n
+unfolding flawAt
+flaw-long b n h = omega (arith, long-yes n h)
+
+-- lengths are sound where none is wrong: all 0 after a 0, and from the first on
+zero-flaws : (ns : List ℕ) → allZero ns ≡ eqb (sumOf flawAt 0 ns) 0
+unfolding allZero sumOf
+zero-flaws [] = refl
+zero-flaws (zero ∷ ns) = rw (flaw-zero 0, zero-add (sumOf flawAt 0 ns)) (zero-flaws ns)
+zero-flaws (suc n ∷ ns) = sym (ne-eqb (flawAt 0 (suc n) + sumOf flawAt (suc n) ns) 0 (λ e. omega (arith, flaw-used (suc n) (λ z. omega arith))))
+
+pub sound-flaws : (b : ℕ) (ns : List ℕ) → (b ≡ 0 → ⊥) → soundLengths ns ≡ eqb (sumOf flawAt b ns) 0
+unfolding soundLengths sumOf
+sound-flaws b [] h = refl
+sound-flaws b (zero ∷ ns) h = rw (flaw-zero b, zero-add (sumOf flawAt 0 ns)) (zero-flaws ns)
+sound-flaws b (suc n ∷ ns) h =
+    elim (decLe (suc n) 64) [
+      | yes l ↦ rw (le-leb (suc n) 64 l, flaw-short b (suc n) h l, zero-add (sumOf flawAt (suc n) ns)) (sound-flaws (suc n) ns (λ e. omega arith))
+      | no l ↦ rw (lt-leb (suc n) 64 (omega arith)) (sym (ne-eqb (flawAt b (suc n) + sumOf flawAt (suc n) ns) 0 (λ e. omega (arith, flaw-long b (suc n) (omega arith)))))
+    ]
 
 -- in sound lengths those are in use that are not 0
 zero-uses : (b : ℕ) (ns : List ℕ) → allZero ns ≡ true → sumOf usedAt b ns ≡ 0

@@ -9,22 +9,37 @@ ghost use Rattle.little_endian.specs.Bytes.{number};
 ghost use Rattle.meter_keys.specs.Keys.{sameKey};
 ghost use Rattle.watch_list.specs.Layout.{listSize, sound, placeAt, placesFrom};
 ghost use Rattle.watch_list.specs.Parts.{indexOf, Holds, KeyLong};
-ghost use Rattle.watch_find.specs.Scan.{sumOf, flawAt, usedAt};
+ghost use Rattle.watch_find.specs.Scan.{sumOf, usedAt, longAt, gapAt, flawAt};
 
-// What is wrong with a key length, by the one before it: 1 or 0.
-fn flaw(before: u8, n: u8) -> u8
-    ensures { λ r. ⌜ (r ≡ flawAt before n) × (r ≤ 1) ⌝ }
+// Whether a place is in use, by its key length: 1 or 0.
+fn used(n: u8) -> u8
+    ensures { λ r. ⌜ ((before : ℕ) → r ≡ usedAt before n) × (r ≤ 1) ⌝ }
 {
-    if 64 < n {
-        return 1;
-    }
-    if before != 0 {
-        return 0;
-    }
     if n == 0 { 0 } else { 1 }
 }
 
-// How many of 64 key lengths are wrong. It goes through all of them, so that the compiler takes many at once.
+// Whether a key length is above 64.
+fn long(n: u8) -> u8
+    ensures { λ r. ⌜ (r ≡ longAt n) × (r ≤ 1) ⌝ }
+{
+    if 64 < n { 1 } else { 0 }
+}
+
+// Whether a key length other than 0 comes after a 0.
+fn gap(before: u8, n: u8) -> u8
+    ensures { λ r. ⌜ (r ≡ gapAt before n) × (r ≤ 1) ⌝ }
+{
+    if before == 0 { used(n) } else { 0 }
+}
+
+// What is wrong with a key length, by the one before it. No branch stays of it, so that the compiler takes many lengths at once.
+fn flaw(before: u8, n: u8) -> u8
+    ensures { λ r. ⌜ (r ≡ flawAt before n) × (r ≤ 2) ⌝ }
+{
+    long(n) + gap(before, n)
+}
+
+// How much is wrong with 64 key lengths. It goes through all of them.
 fn flaws(lengths: &[u8]) -> u8
     requires { ⌜ length (now lengths) ≡ 64 ⌝ }
     ensures { λ r. ⌜ r ≡ sumOf flawAt 1 (now (lengths .entry)) ⌝ }
@@ -45,13 +60,6 @@ pub fn is_sound(list: &[u8]) -> bool
         return false;
     }
     list[64] <= 1
-}
-
-// Whether a place is in use, by its key length: 1 or 0.
-fn used(n: u8) -> u8
-    ensures { λ r. ⌜ ((before : ℕ) → r ≡ usedAt before n) × (r ≤ 1) ⌝ }
-{
-    if n == 0 { 0 } else { 1 }
 }
 
 // How many of 64 places are in use.

@@ -46,10 +46,11 @@ one-done c =
     let at = k .row-slot .ensures .0 ∙ ap (λ (b : List ℕ). keySlot (k .before .start .result .state) (a .w) b 0) (one .before .whole .ensures) in
     let start = k .before .start .ensures in
     let status = u .ensures .0 ∙ one-status (a .d) (a .w) (a .memory .now) (a .key .now) (one .if1 .taken) long start at (a .amount) in
-    let after = one-added (a .d) (a .w) (a .memory .now) (a .key .now) (one .if1 .taken) long start at (a .amount) in
-    (rows-status (a .d) (a .w) (a .memory .now) (a .key .now) (a .amount) (u .result) (s .pre) status,
-    updated-rows (a .d) (a .w) (a .memory .now) (a .key .now) (a .amount) (s .pre) (u .result) (u .last .0) status
-    (u .ensures .1 ∙ ap (λ (m : List ℕ). cond (eqb (u .result) 0) m (a .memory .now)) after) .1)
+    let after = one-added (a .d) (a .w) (a .memory .now) (a .key .now) (one .if1 .taken) long start at (a .amount) in (
+      rows-status (a .d) (a .w) (a .memory .now) (a .key .now) (a .amount) (u .result) (s .pre) status,
+      updated-rows (a .d) (a .w) (a .memory .now) (a .key .now) (a .amount) (s .pre) (u .result) (u .last .0) status
+          (u .ensures .1 ∙ ap (λ (m : List ℕ). cond (eqb (u .result) 0) m (a .memory .now)) after) .1,
+    )
 
 one-value-requires : tie.Need-one-value-requires
 one-value-requires c κs = let k = c .before .before .before .before .before in
@@ -75,11 +76,16 @@ returns c = let u = c .before .before .before .before .before in
     let v = c .before .one-value in
     let at = k .row-slot .ensures .0 ∙ ap (λ (b : List ℕ). keySlot (k .before .start .result .state) (a .w) b 0) (one .before .whole .ensures) in
     let long = one-long (a .d) (a .w) _ (one .if1 .taken) (call-rows _ _ _ _ (s .pre) .1 .2) in
-    let status : c .answer-of .result .status ≡ u .update-one .result = ap (λ (x : Answer). x .status) (c .answer-of .ensures) ∙ status-is (u .update-one .result) (v .result) in
-    (status ∙ d .0, (d .1, λ z e.
-    ap (λ (x : Answer). x .value) (c .answer-of .ensures ∙ ap (λ (t : ℕ). answerOf t (v .result)) (sym status ∙ e)) ∙ value-is (v .result)
-    ∙ value-after (a .d) (a .w) (a .memory .now) (a .key .now) (a .amount) (sym (d .0) ∙ sym status ∙ e) m (v .result) (s .pre) (d .1)
-    (v .ensures z ∙ one-read-value (a .d) (a .w) m (a .key .now) (one .if1 .taken) (omega (arith, long)) (k .before .start .ensures) at)))
+    let status : c .answer-of .result .status ≡ u .update-one .result = ap (λ (x : Answer). x .status) (c .answer-of .ensures) ∙ status-is (u .update-one .result) (v .result) in (
+      status ∙ d .0,
+      (
+        d .1,
+        λ z e.
+            ap (λ (x : Answer). x .value) (c .answer-of .ensures ∙ ap (λ (t : ℕ). answerOf t (v .result)) (sym status ∙ e)) ∙ value-is (v .result)
+            ∙ value-after (a .d) (a .w) (a .memory .now) (a .key .now) (a .amount) (sym (d .0) ∙ sym status ∙ e) m (v .result) (s .pre) (d .1)
+            (v .ensures z ∙ one-read-value (a .d) (a .w) m (a .key .now) (one .if1 .taken) (omega (arith, long)) (k .before .start .ensures) at),
+      ),
+    )
 
 start-requires-2 : tie.Need-start-requires-2
 start-requires-2 c κs = search needs
@@ -109,10 +115,11 @@ rows-done c =
     let a = s .args in
     let start = k .before .start2 .ensures in
     let status = u .ensures .0 ∙ status-by-key (a .d) (a .w) (a .memory .now) (a .key .now) (k .key-slots .result) start (key-slots-at k) (a .amount) in
-    let after = added-by-key (a .d) (a .w) (a .memory .now) (a .key .now) (k .key-slots .result) start (key-slots-at k) (a .amount) in
-    (rows-status (a .d) (a .w) (a .memory .now) (a .key .now) (a .amount) (u .result) (s .pre) status,
-    updated-rows (a .d) (a .w) (a .memory .now) (a .key .now) (a .amount) (s .pre) (u .result) (u .last .1 .1 .0) status
-    (u .ensures .1 ∙ ap (λ (m : List ℕ). cond (eqb (u .result) 0) m (a .memory .now)) after) .1)
+    let after = added-by-key (a .d) (a .w) (a .memory .now) (a .key .now) (k .key-slots .result) start (key-slots-at k) (a .amount) in (
+      rows-status (a .d) (a .w) (a .memory .now) (a .key .now) (a .amount) (u .result) (s .pre) status,
+      updated-rows (a .d) (a .w) (a .memory .now) (a .key .now) (a .amount) (s .pre) (u .result) (u .last .1 .1 .0) status
+          (u .ensures .1 ∙ ap (λ (m : List ℕ). cond (eqb (u .result) 0) m (a .memory .now)) after) .1,
+    )
 
 least-value-requires : tie.Need-least-value-requires
 least-value-requires c κs = let k = c .before .before .before .before .before .before .before in
@@ -133,11 +140,16 @@ returns-2 c = let u = c .before .before .before .before .before .before in
     let d = rows-done u in
     let m = u .update-rows .last .1 .1 .0 in
     let v = c .before .least-value in
-    let status : c .answer-of2 .result .status ≡ u .update-rows .result = ap (λ (x : Answer). x .status) (c .answer-of2 .ensures) ∙ status-is (u .update-rows .result) (v .result) in
-    (status ∙ d .0, (d .1, λ z e.
-    ap (λ (x : Answer). x .value) (c .answer-of2 .ensures ∙ ap (λ (t : ℕ). answerOf t (v .result)) (sym status ∙ e)) ∙ value-is (v .result)
-    ∙ value-after (a .d) (a .w) (a .memory .now) (a .key .now) (a .amount) (sym (d .0) ∙ sym status ∙ e) m (v .result) (s .pre) (d .1)
-    (v .ensures z ∙ read-value-by-key (a .d) (a .w) m (a .key .now) (k .key-slots .result) (k .before .start2 .ensures) (key-slots-at k))))
+    let status : c .answer-of2 .result .status ≡ u .update-rows .result = ap (λ (x : Answer). x .status) (c .answer-of2 .ensures) ∙ status-is (u .update-rows .result) (v .result) in (
+      status ∙ d .0,
+      (
+        d .1,
+        λ z e.
+            ap (λ (x : Answer). x .value) (c .answer-of2 .ensures ∙ ap (λ (t : ℕ). answerOf t (v .result)) (sym status ∙ e)) ∙ value-is (v .result)
+            ∙ value-after (a .d) (a .w) (a .memory .now) (a .key .now) (a .amount) (sym (d .0) ∙ sym status ∙ e) m (v .result) (s .pre) (d .1)
+            (v .ensures z ∙ read-value-by-key (a .d) (a .w) m (a .key .now) (k .key-slots .result) (k .before .start2 .ensures) (key-slots-at k)),
+      ),
+    )
 
 pub update-reading-spec : {M : Type 1} → statement M
 update-reading-spec =

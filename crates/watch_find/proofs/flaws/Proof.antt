@@ -1,5 +1,5 @@
 use mathlib.Core.Path.{_≡_, refl, sym, _∙_}
-use Prim.Native.Nat.{_+_, _-_, _≤_}
+use Prim.Native.Nat.{_+_, _-_, _*_, _≤_}
 use native.Mathlib.Omega.{arith}
 use lib.ListN.{length, getD, drop}
 use Rattle.watch_find.specs.Scan.{sumOf, flawAt}
@@ -9,7 +9,7 @@ use Rattle.watch_find.proofs.flaws.Statement.{statement}
 use Rattle.watch_find.proofs.flaws.Tie as tie
 
 abbrev Inv-loop : tie.InvT-loop
-Inv-loop lengths n₀ k₀ n k = (1 ≤ k) × (k ≤ 64) × (length lengths ≡ 64) × (n ≤ k) × (n + sumOf flawAt (getD lengths (k - 1) 0) (drop k lengths) ≡ sumOf flawAt 1 lengths)
+Inv-loop lengths n₀ k₀ n k = (1 ≤ k) × (k ≤ 64) × (length lengths ≡ 64) × (n ≤ 2 * k) × (n + sumOf flawAt (getD lengths (k - 1) 0) (drop k lengths) ≡ sumOf flawAt 1 lengths)
 
 abbrev μ-loop : tie.MeasureT-loop
 μ-loop lengths n₀ k₀ n k = 64 - k
