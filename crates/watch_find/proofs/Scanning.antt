@@ -5,7 +5,7 @@ use mathlib.Core.List.{List, [], _∷_, _++_}
 use Prim.Native.Nat.{ℕ, zero, suc, _+_, _-_, _*_, _≤_, _<_}
 use native.Mathlib.Nat.{zero-add}
 use native.Mathlib.Numerals.{add-one}
-use native.Mathlib.Decide.{decLe}
+use native.Mathlib.Decide.{decLe, decLt}
 use native.Mathlib.Omega.{arith}
 use borrow.Author.Tests.{le-leb, lt-leb, lt-ltb, le-ltb, eq-eqb, ne-eqb}
 use lib.Dec.{eqb, leb, ltb}
@@ -19,7 +19,7 @@ use Rattle.meter_keys.proofs.Same.{key-same, key-differs}
 use Rattle.watch_list.specs.List.{Entry}
 use Rattle.watch_list.specs.Layout.{keysAt, listSize, keyBytes, placeAt, placesFrom, inUse, allZero, soundLengths}
 use Rattle.watch_list.specs.Parts.{indexOf}
-use Rattle.watch_find.specs.Scan.{sumOf, usedAt, longAt, gapAt, flawAt}
+use Rattle.watch_find.specs.Scan.{sumOf, usedAt, longAt, gapAt, flawAt, AllDiffer}
 
 -- one length more, and none left
 module _ (f : ℕ → ℕ → ℕ) (before : ℕ) (ns : List ℕ) (k : ℕ) where
@@ -166,6 +166,22 @@ module _ (key xs : List ℕ) (n k : ℕ) (h : k < n) where
 
   pub index-past : sameKey (placeAt xs k .key) key ≡ false → k + indexOf key (placesFrom xs (n - k) k) ≡ k + 1 + indexOf key (placesFrom xs (n - (k + 1)) (k + 1))
   index-past e = rw (index-next, e) (omega arith)
+
+-- several places passed at once
+pub both-differ : (key xs : List ℕ) (k n m : ℕ) → AllDiffer xs k n key → AllDiffer xs (k + n) m key → AllDiffer xs k (n + m) key
+both-differ key xs k n m f g = λ j h. elim (decLt j n) [
+  | yes l ↦ f j l
+  | no l ↦
+      let e : k + n + (j - n) ≡ k + j = omega arith in
+      rw e at (g (j - n) (omega arith))
+]
+
+pub skip : (key xs : List ℕ) (n k m : ℕ) → k + m ≤ n → AllDiffer xs k m key
+    → k + indexOf key (placesFrom xs (n - k) k) ≡ k + m + indexOf key (placesFrom xs (n - (k + m)) (k + m))
+skip key xs n k zero h f = let e : k + 0 ≡ k = omega arith in rw e
+skip key xs n k (suc m) h f =
+    let e : k + suc m ≡ k + m + 1 = omega arith in
+    rw e (skip key xs n k m (omega arith) (λ j l. f j (omega arith)) ∙ index-past key xs n (k + m) (omega arith) (f m (omega arith)))
 
 pub none : (key xs : List ℕ) (k : ℕ) → indexOf key (placesFrom xs 0 k) ≡ 0
 unfolding indexOf placesFrom

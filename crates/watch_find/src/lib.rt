@@ -9,7 +9,7 @@ ghost use Rattle.little_endian.specs.Bytes.{number};
 ghost use Rattle.meter_keys.specs.Keys.{sameKey};
 ghost use Rattle.watch_list.specs.Layout.{listSize, sound, placeAt, placesFrom};
 ghost use Rattle.watch_list.specs.Parts.{indexOf, Holds, KeyLong};
-ghost use Rattle.watch_find.specs.Scan.{sumOf, usedAt, longAt, gapAt, flawAt};
+ghost use Rattle.watch_find.specs.Scan.{sumOf, usedAt, longAt, gapAt, flawAt, AllSought, AllDiffer, Past};
 
 // Whether a place is in use, by its key length: 1 or 0.
 fn used(n: u8) -> u8
@@ -108,21 +108,78 @@ fn same_bytes(a: &[u8], b: &[u8]) -> bool
     true
 }
 
-// Whether a place in use has a key. Keys of one length mostly differ in their last byte, so it is looked at first.
+// Whether a place in use has a key.
 fn has_key(list: &[u8], k: usize, key: &[u8]) -> bool
     requires { ⌜ length (now list) ≡ listSize ⌝ ∗ ⌜ (k < 64) × (getD (now list) k 0 ≤ 64) ⌝ ∗ ⌜ KeyLong (now key) ⌝ }
     ensures { λ r. ⌜ r ≡ sameKey (placeAt (now (list .entry)) k .key) (now (key .entry)) ⌝ }
 {
-    let n = key.len();
-    if wide(list[k]) != n {
+    let size = key.len();
+    if wide(list[k]) != size {
         return false;
     }
     let start = 65 + k * 64;
-    let end = start + n;
-    if list[end - 1] != key[n - 1] {
+    let end = start + size;
+    same_bytes(&list[start..end], key)
+}
+
+// Whether a place cannot have a key, by its length and its last byte.
+fn differs(list: &[u8], k: usize, key: &[u8], last: u8) -> bool
+    requires { ⌜ AllSought (now list) k 1 (now key) last ⌝ }
+    ensures { λ r. ⌜ (r ≡ true → AllDiffer (now (list .entry)) k 1 (now (key .entry))) ⌝ }
+{
+    let n = key.len();
+    if wide(list[k]) != n {
+        return true;
+    }
+    list[64 + k * 64 + n] != last
+}
+
+// Whether none of two, four or eight places can have a key: eight to a turn of a loop, which the compiler goes through without a jump.
+fn two_differ(list: &[u8], k: usize, key: &[u8], last: u8) -> bool
+    requires { ⌜ AllSought (now list) k 2 (now key) last ⌝ }
+    ensures { λ r. ⌜ (r ≡ true → AllDiffer (now (list .entry)) k 2 (now (key .entry))) ⌝ }
+{
+    if !differs(list, k, key, last) {
         return false;
     }
-    same_bytes(&list[start..end], key)
+    differs(list, k + 1, key, last)
+}
+
+fn four_differ(list: &[u8], k: usize, key: &[u8], last: u8) -> bool
+    requires { ⌜ AllSought (now list) k 4 (now key) last ⌝ }
+    ensures { λ r. ⌜ (r ≡ true → AllDiffer (now (list .entry)) k 4 (now (key .entry))) ⌝ }
+{
+    if !two_differ(list, k, key, last) {
+        return false;
+    }
+    two_differ(list, k + 2, key, last)
+}
+
+fn eight_differ(list: &[u8], k: usize, key: &[u8], last: u8) -> bool
+    requires { ⌜ AllSought (now list) k 8 (now key) last ⌝ }
+    ensures { λ r. ⌜ (r ≡ true → AllDiffer (now (list .entry)) k 8 (now (key .entry))) ⌝ }
+{
+    if !four_differ(list, k, key, last) {
+        return false;
+    }
+    four_differ(list, k + 4, key, last)
+}
+
+// A place in use before which none has a key: the first eight of which one may have it, else where fewer than eight are left.
+fn candidate(list: &[u8], n: usize, key: &[u8]) -> usize
+    requires { ⌜ Holds (now list) n ⌝ ∗ ⌜ KeyLong (now key) ⌝ }
+    ensures { λ r. ⌜ r ≤ n ⌝ }
+    ensures { λ r. ⌜ Past (now (list .entry)) n (now (key .entry)) r ⌝ }
+{
+    let last = key[key.len() - 1];
+    let mut k = 0;
+    while k + 8 <= n {
+        if !eight_differ(list, k, key, last) {
+            return k;
+        }
+        k += 8;
+    }
+    k
 }
 
 // The first place in use that has a key, else how many are.
@@ -131,7 +188,7 @@ pub fn find(list: &[u8], n: usize, key: &[u8]) -> usize
     ensures { λ r. ⌜ r ≡ indexOf (now (key .entry)) (placesFrom (now (list .entry)) n 0) ⌝ }
     ensures { λ r. ⌜ r ≤ n ⌝ }
 {
-    for k in 0..n {
+    for k in candidate(list, n, key)..n {
         if has_key(list, k, key) {
             return k;
         }

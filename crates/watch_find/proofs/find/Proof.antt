@@ -16,22 +16,24 @@ Inv-loop list n key k₀ k = (k ≤ n) × (n ≤ 64) × Holds list n × KeyLong 
 abbrev μ-loop : tie.MeasureT-loop
 μ-loop list n key k₀ k = n - k
 
+candidate-requires : tie.Need-candidate-requires Inv-loop μ-loop
+candidate-requires c κs = c .before .before .pre
+
 loop-holds : tie.Need-loop-holds Inv-loop μ-loop
-loop-holds c = let s = c .before .before in
+loop-holds c = let s = c .before .before .before in
     let a = s .args in
     let holds : Holds (a .list .now) (a .n) = s .pre .0 in
-    let e : a .n - 0 ≡ a .n = omega arith in
-    (omega arith, omega (arith, holds .entries, in-use-most (a .list .now) (holds .long)), holds, s .pre .1, rw e (omega arith))
+    (c .candidate .ensures .0, omega (arith, holds .entries, in-use-most (a .list .now) (holds .long)), holds, s .pre .1, c .candidate .ensures .1)
 
 has-key-requires : tie.Need-has-key-requires Inv-loop μ-loop
 has-key-requires c κs = let l = c .before .loop in
-    let a = c .before .before .before .before .args in
+    let a = c .before .before .before .before .before .args in
     let holds = l .inv .2 in
     (holds .long, ((omega arith, length-short (a .list .now) (holds .long) (holds .is-sound) (l .k) (omega arith)), l .inv .3))
 
 returns : tie.Need-returns Inv-loop μ-loop
 returns c = let l = c .before .before .before .loop in
-    let a = c .before .before .before .before .before .before .args in
+    let a = c .before .before .before .before .before .before .before .args in
     let same = sym (c .before .has-key .ensures) ∙ c .if1 .taken in
     (omega (arith, l .inv .4, index-here (a .key .now) (a .list .now) (a .n) (l .k) (omega arith) same), omega arith)
 
@@ -43,13 +45,13 @@ loop-less c = search needs
 
 loop-again : tie.Need-loop-again Inv-loop μ-loop
 loop-again c = let l = c .before .before .before .loop in
-    let a = c .before .before .before .before .before .before .args in
+    let a = c .before .before .before .before .before .before .before .args in
     let differs = sym (c .before .has-key .ensures) ∙ c .if1 .left in
     (omega arith, l .inv .1, l .inv .2, l .inv .3, sym (index-past (a .key .now) (a .list .now) (a .n) (l .k) (omega arith) differs) ∙ l .inv .4)
 
 returns-2 : tie.Need-returns-2 Inv-loop μ-loop
 returns-2 c = let l = c .before .loop in
-    let a = c .before .before .before .before .args in
+    let a = c .before .before .before .before .before .args in
     let e : a .n - l .k ≡ 0 = omega arith in
     (omega (arith, rw e at (l .inv .4), none (a .key .now) (a .list .now) (l .k)), omega arith)
 
@@ -59,6 +61,7 @@ find-spec =
     (tie.spec
     Inv-loop
     μ-loop
+    candidate-requires
     loop-holds
     has-key-requires
     returns

@@ -4,7 +4,7 @@ use Prim.Native.Nat.{ℕ, _+_, _-_, _*_}
 use native.Mathlib.Omega.{arith}
 use lib.ListN.{length, take, drop}
 use Rattle.meter_keys.specs.Keys.{sameKey}
-use Rattle.watch_find.proofs.Scanning.{key-of-place, other-length, other-last}
+use Rattle.watch_find.proofs.Scanning.{key-of-place, other-length}
 use borrow.Author.Needs.{needs}
 use Rattle.watch_find.proofs.has_key.Statement.{statement}
 use Rattle.watch_find.proofs.has_key.Tie as tie
@@ -29,24 +29,6 @@ add-start c = search needs
 add-end : tie.Need-add-end
 add-end c = search needs
 
-sub-if2 : tie.Need-sub-if2
-sub-if2 c = search needs
-
-shared-slice-read-if2 : tie.Need-shared-slice-read-if2
-shared-slice-read-if2 c = search needs
-
-sub-if2-2 : tie.Need-sub-if2-2
-sub-if2-2 c = search needs
-
-shared-slice-read-if2-2 : tie.Need-shared-slice-read-if2-2
-shared-slice-read-if2-2 c = search needs
-
-returns-2 : tie.Need-returns-2
-returns-2 c = let e = c .before .before .before in
-    let s = e .before .before .before .before .before in
-    let a = s .args in
-    sym (other-last (a .list .now) (s .pre .0) (a .k) (s .pre .1 .0 .0) (a .key .now) (omega (arith, e .before .wide .ensures)) (s .pre .1 .1 .0) (s .pre .1 .1 .1) (c .if2 .taken))
-
 sub-same-bytes : tie.Need-sub-same-bytes
 sub-same-bytes c = search needs
 
@@ -59,8 +41,8 @@ part-same-bytes-end c = search needs
 same-bytes-requires : tie.Need-same-bytes-requires
 same-bytes-requires c κs = search needs
 
-returns-3 : tie.Need-returns-3
-returns-3 c = let e = c .before .before .before .before .before in
+returns-2 : tie.Need-returns-2
+returns-2 c = let e = c .before .before in
     let s = e .before .before .before .before .before in
     let a = s .args in
     let n = length (a .key .now) in
@@ -78,13 +60,8 @@ has-key-spec =
     mul-start
     add-start
     add-end
-    sub-if2
-    shared-slice-read-if2
-    sub-if2-2
-    shared-slice-read-if2-2
-    returns-2
     sub-same-bytes
     part-same-bytes-start
     part-same-bytes-end
     same-bytes-requires
-    returns-3)
+    returns-2)
