@@ -1,6 +1,6 @@
 -- Laws of what is counted of key lengths, and of keys compared.
 use mathlib.Core.Path.{_≡_, refl, sym, ap, _∙_}
-use mathlib.Core.Bool.{true, false, cond, true≢false, and-eq-true-iff}
+use mathlib.Core.Bool.{Bool, true, false, cond, _&&_, true≢false, and-eq-true-iff, and-false}
 use mathlib.Core.List.{List, [], _∷_, _++_}
 use Prim.Native.Nat.{ℕ, zero, suc, _+_, _-_, _*_, _≤_, _<_}
 use native.Mathlib.Nat.{zero-add}
@@ -19,33 +19,43 @@ use Rattle.meter_keys.proofs.Same.{key-same, key-differs}
 use Rattle.watch_list.specs.List.{Entry}
 use Rattle.watch_list.specs.Layout.{keysAt, listSize, keyBytes, placeAt, placesFrom, inUse, allZero, soundLengths}
 use Rattle.watch_list.specs.Parts.{indexOf}
-use Rattle.watch_find.specs.Scan.{sumOf, usedAt, longAt, gapAt, flawAt, AllDiffer}
+use Rattle.watch_find.specs.Scan.{sumOf, usedAt, longAt, AllDiffer}
 
 -- one length more, and none left
-module _ (f : ℕ → ℕ → ℕ) (before : ℕ) (ns : List ℕ) (k : ℕ) where
-  pub sum-turn : k < length ns → sumOf f before (drop k ns) ≡ f before (getD ns k 0) + sumOf f (getD ns k 0) (drop (k + 1) ns)
+module _ (f : ℕ → ℕ) (ns : List ℕ) (k : ℕ) where
+  pub sum-turn : k < length ns → sumOf f (drop k ns) ≡ f (getD ns k 0) + sumOf f (drop (k + 1) ns)
   unfolding sumOf
   sum-turn h = rw (drop-cons ns k 0 h, add-one k)
 
-  pub sum-end : length ns ≤ k → sumOf f before (drop k ns) ≡ 0
+  pub sum-end : length ns ≤ k → sumOf f (drop k ns) ≡ 0
   unfolding sumOf
   sum-end h = rw (drop-of-length-le ns {i = k} h)
 
-pub use-any : (a b : ℕ) (ns : List ℕ) → sumOf usedAt a ns ≡ sumOf usedAt b ns
-unfolding sumOf usedAt
-use-any a b [] = refl
-use-any a b (n ∷ ns) = refl
+pub zero-turn : (ns : List ℕ) (k : ℕ) → k < length ns → getD ns k 0 ≡ 0 → allZero (drop k ns) ≡ allZero (drop (k + 1) ns)
+unfolding allZero
+zero-turn ns k h e = rw (drop-cons ns k 0 h, add-one k, e)
 
--- the places in use
-pub use-zero : (b : ℕ) → usedAt b 0 ≡ 0
+pub zero-not : (ns : List ℕ) (k : ℕ) → k < length ns → (getD ns k 0 ≡ 0 → ⊥) → allZero (drop k ns) ≡ false
+unfolding allZero
+zero-not ns k h n = rw (drop-cons ns k 0 h) (go (getD ns k 0) n)
+  where
+    go : (m : ℕ) → (m ≡ 0 → ⊥) → allZero (m ∷ drop (suc k) ns) ≡ false
+    go zero n = absurd (n refl)
+    go (suc m) n = refl
+
+pub zero-end : (ns : List ℕ) (k : ℕ) → length ns ≤ k → allZero (drop k ns) ≡ true
+unfolding allZero
+zero-end ns k h = rw (drop-of-length-le ns {i = k} h)
+
+-- each length: in use or not, above 64 or not
+pub use-zero : usedAt 0 ≡ 0
 unfolding usedAt
-use-zero b = refl
+use-zero = refl
 
-pub use-some : (b n : ℕ) → (n ≡ 0 → ⊥) → usedAt b n ≡ 1
+pub use-some : (n : ℕ) → (n ≡ 0 → ⊥) → usedAt n ≡ 1
 unfolding usedAt
-use-some b n h = rw (ne-eqb n 0 h)
+use-some n h = rw (ne-eqb n 0 h)
 
--- which lengths are wrong
 pub long-no : (n : ℕ) → n ≤ 64 → longAt n ≡ 0
 unfolding longAt
 long-no n h = rw (le-ltb 64 n h)
@@ -54,65 +64,77 @@ pub long-yes : (n : ℕ) → 64 < n → longAt n ≡ 1
 unfolding longAt
 long-yes n h = rw (lt-ltb 64 n h)
 
-pub gap-after-0 : (n : ℕ) → gapAt 0 n ≡ usedAt 0 n
-unfolding gapAt
-gap-after-0 n = refl
+-- where none is in use all are 0, and none is above 64
+none-used : (ns : List ℕ) → sumOf usedAt ns ≡ 0 → allZero ns ≡ true
+unfolding sumOf allZero
+none-used [] e = refl
+none-used (zero ∷ ns) e = none-used ns (omega (arith, use-zero, e))
+none-used (suc n ∷ ns) e = absurd (omega (arith, use-some (suc n) (λ z. omega arith), e))
 
-pub gap-no : (b n : ℕ) → (b ≡ 0 → ⊥) → gapAt b n ≡ 0
-unfolding gapAt
-gap-no b n h = rw (ne-eqb b 0 h)
+zeros-none : (ns : List ℕ) → allZero ns ≡ true → (sumOf usedAt ns ≡ 0) × (sumOf longAt ns ≡ 0)
+unfolding sumOf allZero
+zeros-none [] e = (refl, refl)
+zeros-none (zero ∷ ns) e =
+    let p = zeros-none ns e in
+    (omega (arith, use-zero, p .0), omega (arith, long-no 0 (omega arith), p .1))
+zeros-none (suc n ∷ ns) e = absurd (true≢false (sym e))
 
-pub gap-of : (b n u : ℕ) → b ≡ 0 → u ≡ usedAt b n → u ≡ gapAt b n
-unfolding gapAt
-gap-of b n u z e = rw (eq-eqb b 0 z) e
+-- as many as are in use cannot all lie before a place that is too early
+used-from : (ns : List ℕ) (k : ℕ) → sumOf usedAt ns ≤ k + sumOf usedAt (drop k ns)
+unfolding sumOf
+used-from ns zero = omega arith
+used-from [] (suc k) = omega arith
+used-from (zero ∷ ns) (suc k) = omega (arith, use-zero, used-from ns k)
+used-from (suc n ∷ ns) (suc k) = omega (arith, use-some (suc n) (λ z. omega arith), used-from ns k)
 
-flaw-zero : (b : ℕ) → flawAt b 0 ≡ 0
-unfolding flawAt
-flaw-zero zero = omega (arith, long-no 0 (omega arith), gap-after-0 0, use-zero 0)
-flaw-zero (suc b) = omega (arith, long-no 0 (omega arith), gap-no (suc b) 0 (λ z. omega arith))
+-- a 0 and lengths after it: sound where they are all 0
+module _ (ns : List ℕ) where
+  uses-more : sumOf usedAt (0 ∷ ns) ≡ sumOf usedAt ns
+  unfolding sumOf
+  uses-more = omega (arith, use-zero)
 
-flaw-used : (n : ℕ) → (n ≡ 0 → ⊥) → 1 ≤ flawAt 0 n
-unfolding flawAt
-flaw-used n h = omega (arith, gap-after-0 n, use-some 0 n h)
+  longs-more : sumOf longAt (0 ∷ ns) ≡ sumOf longAt ns
+  unfolding sumOf
+  longs-more = omega (arith, long-no 0 (omega arith))
 
-flaw-short : (b n : ℕ) → (b ≡ 0 → ⊥) → n ≤ 64 → flawAt b n ≡ 0
-unfolding flawAt
-flaw-short b n h k = omega (arith, long-no n k, gap-no b n h)
+  -- some is in use, so one is after the first c - 1
+  left-over : (c : ℕ) → sumOf usedAt ns ≡ suc c → allZero (drop c ns) ≡ true → ⊥
+  left-over c e z = omega (arith, used-from ns c, zeros-none (drop c ns) z .0)
 
-flaw-long : (b n : ℕ) → 64 < n → 1 ≤ flawAt b n
-unfolding flawAt
-flaw-long b n h = omega (arith, long-yes n h)
+  some-left : (c : ℕ) → sumOf usedAt ns ≡ c → allZero ns ≡ false → (b : Bool) → allZero (drop c (0 ∷ ns)) ≡ b → b ≡ false
+  some-left zero e n b f = absurd (true≢false (sym (none-used ns e) ∙ n))
+  some-left (suc c) e n true f = absurd (left-over c e f)
+  some-left (suc c) e n false f = refl
 
--- lengths are sound where none is wrong: all 0 after a 0, and from the first on
-zero-flaws : (ns : List ℕ) → allZero ns ≡ eqb (sumOf flawAt 0 ns) 0
-unfolding allZero sumOf
-zero-flaws [] = refl
-zero-flaws (zero ∷ ns) = rw (flaw-zero 0, zero-add (sumOf flawAt 0 ns)) (zero-flaws ns)
-zero-flaws (suc n ∷ ns) = sym (ne-eqb (flawAt 0 (suc n) + sumOf flawAt (suc n) ns) 0 (λ e. omega (arith, flaw-used (suc n) (λ z. omega arith))))
+  after-zero : (b : Bool) → allZero ns ≡ b → b ≡ (eqb (sumOf longAt (0 ∷ ns)) 0 && allZero (drop (sumOf usedAt (0 ∷ ns)) (0 ∷ ns)))
+  unfolding allZero
+  after-zero true e =
+      let p = zeros-none ns e in
+      rw (longs-more, uses-more, p .0, p .1) (sym e)
+  after-zero false e =
+      let f = some-left (sumOf usedAt ns) refl e (allZero (drop (sumOf usedAt ns) (0 ∷ ns))) refl in
+      rw (longs-more, uses-more, f, and-false (eqb (sumOf longAt ns) 0))
 
-pub sound-flaws : (b : ℕ) (ns : List ℕ) → (b ≡ 0 → ⊥) → soundLengths ns ≡ eqb (sumOf flawAt b ns) 0
-unfolding soundLengths sumOf
-sound-flaws b [] h = refl
-sound-flaws b (zero ∷ ns) h = rw (flaw-zero b, zero-add (sumOf flawAt 0 ns)) (zero-flaws ns)
-sound-flaws b (suc n ∷ ns) h =
+pub sound-by : (ns : List ℕ) → soundLengths ns ≡ (eqb (sumOf longAt ns) 0 && allZero (drop (sumOf usedAt ns) ns))
+unfolding soundLengths sumOf allZero
+sound-by [] = refl
+sound-by (zero ∷ ns) = after-zero ns (allZero ns) refl
+sound-by (suc n ∷ ns) =
+    let u : usedAt (suc n) + sumOf usedAt ns ≡ suc (sumOf usedAt ns) = omega (arith, use-some (suc n) (λ z. omega arith)) in
     elim (decLe (suc n) 64) [
-      | yes l ↦ rw (le-leb (suc n) 64 l, flaw-short b (suc n) h l, zero-add (sumOf flawAt (suc n) ns)) (sound-flaws (suc n) ns (λ e. omega arith))
-      | no l ↦ rw (lt-leb (suc n) 64 (omega arith)) (sym (ne-eqb (flawAt b (suc n) + sumOf flawAt (suc n) ns) 0 (λ e. omega (arith, flaw-long b (suc n) (omega arith)))))
+      | yes l ↦
+          let f : longAt (suc n) + sumOf longAt ns ≡ sumOf longAt ns = omega (arith, long-no (suc n) l) in
+          rw (u, f, le-leb (suc n) 64 l) (sound-by ns)
+      | no l ↦ rw (u, lt-leb (suc n) 64 (omega arith), ne-eqb (longAt (suc n) + sumOf longAt ns) 0 (λ z. omega (arith, long-yes (suc n) (omega arith))))
     ]
 
--- in sound lengths those are in use that are not 0
-zero-uses : (b : ℕ) (ns : List ℕ) → allZero ns ≡ true → sumOf usedAt b ns ≡ 0
-unfolding allZero sumOf
-zero-uses b [] e = refl
-zero-uses b (zero ∷ ns) e = omega (arith, use-zero b, zero-uses 0 ns e)
-zero-uses b (suc n ∷ ns) e = absurd (true≢false (sym e))
-
-pub sound-uses : (b : ℕ) (ns : List ℕ) → soundLengths ns ≡ true → sumOf usedAt b ns ≡ inUse ns
+-- the places in use of sound lengths
+pub sound-uses : (ns : List ℕ) → soundLengths ns ≡ true → sumOf usedAt ns ≡ inUse ns
 unfolding soundLengths sumOf inUse
-sound-uses b [] e = refl
-sound-uses b (zero ∷ ns) e = omega (arith, use-zero b, zero-uses 0 ns e)
-sound-uses b (suc n ∷ ns) e =
-    omega (arith, use-some b (suc n) (λ z. omega arith), sound-uses (suc n) ns (and-eq-true-iff (leb (suc n) 64) (soundLengths ns) .0 e .1))
+sound-uses [] e = refl
+sound-uses (zero ∷ ns) e = omega (arith, use-zero, zeros-none ns e .0)
+sound-uses (suc n ∷ ns) e =
+    omega (arith, use-some (suc n) (λ z. omega arith), sound-uses ns (and-eq-true-iff (leb (suc n) 64) (soundLengths ns) .0 e .1))
 
 -- two lists that agree so far, by words of eight bytes and by bytes
 module _ (xs ys : List ℕ) (long : length xs ≡ length ys) (at : ℕ) where
@@ -144,14 +166,12 @@ module _ (xs : List ℕ) (long : length xs ≡ listSize) (k : ℕ) (h : k < 64) 
   pub other-length : (key : List ℕ) → getD xs k 0 ≤ 64 → (getD xs k 0 ≡ length key → ⊥) → sameKey (placeAt xs k .key) key ≡ false
   other-length key l d = key-differs (placeAt xs k .key) key (λ e. d (sym (key-length l) ∙ ap length e))
 
-  pub other-last : (key : List ℕ) → getD xs k 0 ≡ length key → 1 ≤ length key → length key ≤ 64 → (getD xs (keysAt + k * 64 + length key - 1) 0 ≡ getD key (length key - 1) 0 → ⊥)
+  pub other-byte : (key : List ℕ) (i : ℕ) → getD xs k 0 ≡ length key → i < length key → length key ≤ 64 → (getD xs (keysAt + k * 64 + i) 0 ≡ getD key i 0 → ⊥)
       → sameKey (placeAt xs k .key) key ≡ false
-  other-last key e a b d =
+  other-byte key i e a b d =
       let start = keysAt + k * 64 in
-      let last = length key - 1 in
-      let there : start + length key - 1 ≡ start + last = omega arith in
       key-differs (placeAt xs k .key) key
-      (λ q. d (rw there (sym (getD-drop start xs last 0) ∙ sym (getD-take (length key) (drop start xs) last 0 (omega arith)) ∙ ap (λ (l : List ℕ). getD l last 0) (sym (key-of-place e b) ∙ q))))
+      (λ q. d (sym (getD-drop start xs i 0) ∙ sym (getD-take (length key) (drop start xs) i 0 a) ∙ ap (λ (l : List ℕ). getD l i 0) (sym (key-of-place e b) ∙ q)))
 
 -- entries gone through one by one
 module _ (key xs : List ℕ) (n k : ℕ) (h : k < n) where

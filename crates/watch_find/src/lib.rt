@@ -7,65 +7,28 @@ ghost use Prim.Native.Nat.{ℕ, _+_, _<_, _≤_};
 ghost use lib.ListN.{length, getD, take, drop};
 ghost use Rattle.little_endian.specs.Bytes.{number};
 ghost use Rattle.meter_keys.specs.Keys.{sameKey};
-ghost use Rattle.watch_list.specs.Layout.{listSize, sound, placeAt, placesFrom};
+ghost use Rattle.watch_list.specs.Layout.{listSize, allZero, soundLengths, sound, placeAt, placesFrom};
 ghost use Rattle.watch_list.specs.Parts.{indexOf, Holds, KeyLong};
-ghost use Rattle.watch_find.specs.Scan.{sumOf, usedAt, longAt, gapAt, flawAt, AllSought, AllDiffer, Past};
+ghost use Rattle.watch_find.specs.Scan.{sumOf, usedAt, longAt, AllSought, AllDiffer, Past};
 
 // Whether a place is in use, by its key length: 1 or 0.
 fn used(n: u8) -> u8
-    ensures { λ r. ⌜ ((before : ℕ) → r ≡ usedAt before n) × (r ≤ 1) ⌝ }
+    ensures { λ r. ⌜ (r ≡ usedAt n) × (r ≤ 1) ⌝ }
 {
     if n == 0 { 0 } else { 1 }
 }
 
-// Whether a key length is above 64.
+// Whether a key length is above 64: 1 or 0.
 fn long(n: u8) -> u8
     ensures { λ r. ⌜ (r ≡ longAt n) × (r ≤ 1) ⌝ }
 {
     if 64 < n { 1 } else { 0 }
 }
 
-// Whether a key length other than 0 comes after a 0.
-fn gap(before: u8, n: u8) -> u8
-    ensures { λ r. ⌜ (r ≡ gapAt before n) × (r ≤ 1) ⌝ }
-{
-    if before == 0 { used(n) } else { 0 }
-}
-
-// What is wrong with a key length, by the one before it. No branch stays of it, so that the compiler takes many lengths at once.
-fn flaw(before: u8, n: u8) -> u8
-    ensures { λ r. ⌜ (r ≡ flawAt before n) × (r ≤ 2) ⌝ }
-{
-    long(n) + gap(before, n)
-}
-
-// How much is wrong with 64 key lengths. It goes through all of them.
-fn flaws(lengths: &[u8]) -> u8
-    requires { ⌜ length (now lengths) ≡ 64 ⌝ }
-    ensures { λ r. ⌜ r ≡ sumOf flawAt 1 (now (lengths .entry)) ⌝ }
-{
-    let mut n = flaw(1, lengths[0]);
-    for k in 1..64 {
-        n = n + flaw(lengths[k - 1], lengths[k]);
-    }
-    n
-}
-
-// Whether nothing breaks a list's layout.
-pub fn is_sound(list: &[u8]) -> bool
-    requires { ⌜ length (now list) ≡ listSize ⌝ }
-    ensures { λ r. ⌜ r ≡ sound (now (list .entry)) ⌝ }
-{
-    if flaws(&list[0..64]) != 0 {
-        return false;
-    }
-    list[64] <= 1
-}
-
-// How many of 64 places are in use.
+// How many of 64 places are in use. This and the next go through all lengths without a branch, so that the compiler takes many at once.
 fn uses(lengths: &[u8]) -> u8
     requires { ⌜ length (now lengths) ≡ 64 ⌝ }
-    ensures { λ r. ⌜ r ≡ sumOf usedAt 1 (now (lengths .entry)) ⌝ }
+    ensures { λ r. ⌜ (r ≡ sumOf usedAt (now (lengths .entry))) × (r ≤ 64) ⌝ }
 {
     let mut n = 0u8;
     for k in 0..64 {
@@ -74,12 +37,59 @@ fn uses(lengths: &[u8]) -> u8
     n
 }
 
+// How many of 64 key lengths are above 64.
+fn longs(lengths: &[u8]) -> u8
+    requires { ⌜ length (now lengths) ≡ 64 ⌝ }
+    ensures { λ r. ⌜ (r ≡ sumOf longAt (now (lengths .entry))) × (r ≤ 64) ⌝ }
+{
+    let mut n = 0u8;
+    for k in 0..64 {
+        n = n + long(lengths[k]);
+    }
+    n
+}
+
+// Whether the lengths from one on are 0.
+fn zero_from(lengths: &[u8], first: usize) -> bool
+    requires { ⌜ length (now lengths) ≡ 64 ⌝ ∗ ⌜ first ≤ 64 ⌝ }
+    ensures { λ r. ⌜ r ≡ allZero (drop first (now (lengths .entry))) ⌝ }
+{
+    for k in first..64 {
+        if lengths[k] != 0 {
+            return false;
+        }
+    }
+    true
+}
+
+// Whether nothing breaks 64 key lengths: none is above 64, and after as many as are not 0 there are zeros.
+fn sound_lengths(lengths: &[u8]) -> bool
+    requires { ⌜ length (now lengths) ≡ 64 ⌝ }
+    ensures { λ r. ⌜ r ≡ soundLengths (now (lengths .entry)) ⌝ }
+{
+    if longs(lengths) != 0 {
+        return false;
+    }
+    zero_from(lengths, wide(uses(lengths)))
+}
+
+// Whether nothing breaks a list's layout.
+pub fn is_sound(list: &[u8]) -> bool
+    requires { ⌜ length (now list) ≡ listSize ⌝ }
+    ensures { λ r. ⌜ r ≡ sound (now (list .entry)) ⌝ }
+{
+    if !sound_lengths(&list[0..64]) {
+        return false;
+    }
+    list[64] <= 1
+}
+
 // How many places of a sound list are in use.
 pub fn in_use(list: &[u8]) -> usize
     requires { ⌜ length (now list) ≡ listSize ⌝ ∗ ⌜ sound (now list) ≡ true ⌝ }
     ensures { λ r. ⌜ Holds (now (list .entry)) r ⌝ }
 {
-    uses(&list[0..64]) as usize
+    wide(uses(&list[0..64]))
 }
 
 fn word_at(bytes: &[u8], at: usize) -> u64
@@ -122,59 +132,63 @@ fn has_key(list: &[u8], k: usize, key: &[u8]) -> bool
     same_bytes(&list[start..end], key)
 }
 
-// Whether a place cannot have a key, by its length and its last byte.
-fn differs(list: &[u8], k: usize, key: &[u8], last: u8) -> bool
-    requires { ⌜ AllSought (now list) k 1 (now key) last ⌝ }
+// Whether a place cannot have a key, by its length, its last byte and its first.
+fn differs(list: &[u8], k: usize, key: &[u8], last: u8, first: u8) -> bool
+    requires { ⌜ AllSought (now list) k 1 (now key) last first ⌝ }
     ensures { λ r. ⌜ (r ≡ true → AllDiffer (now (list .entry)) k 1 (now (key .entry))) ⌝ }
 {
     let n = key.len();
     if wide(list[k]) != n {
         return true;
     }
-    list[64 + k * 64 + n] != last
+    if list[64 + k * 64 + n] != last {
+        return true;
+    }
+    list[65 + k * 64] != first
 }
 
 // Whether none of two, four or eight places can have a key: eight to a turn of a loop, which the compiler goes through without a jump.
-fn two_differ(list: &[u8], k: usize, key: &[u8], last: u8) -> bool
-    requires { ⌜ AllSought (now list) k 2 (now key) last ⌝ }
+fn two_differ(list: &[u8], k: usize, key: &[u8], last: u8, first: u8) -> bool
+    requires { ⌜ AllSought (now list) k 2 (now key) last first ⌝ }
     ensures { λ r. ⌜ (r ≡ true → AllDiffer (now (list .entry)) k 2 (now (key .entry))) ⌝ }
 {
-    if !differs(list, k, key, last) {
+    if !differs(list, k, key, last, first) {
         return false;
     }
-    differs(list, k + 1, key, last)
+    differs(list, k + 1, key, last, first)
 }
 
-fn four_differ(list: &[u8], k: usize, key: &[u8], last: u8) -> bool
-    requires { ⌜ AllSought (now list) k 4 (now key) last ⌝ }
+fn four_differ(list: &[u8], k: usize, key: &[u8], last: u8, first: u8) -> bool
+    requires { ⌜ AllSought (now list) k 4 (now key) last first ⌝ }
     ensures { λ r. ⌜ (r ≡ true → AllDiffer (now (list .entry)) k 4 (now (key .entry))) ⌝ }
 {
-    if !two_differ(list, k, key, last) {
+    if !two_differ(list, k, key, last, first) {
         return false;
     }
-    two_differ(list, k + 2, key, last)
+    two_differ(list, k + 2, key, last, first)
 }
 
-fn eight_differ(list: &[u8], k: usize, key: &[u8], last: u8) -> bool
-    requires { ⌜ AllSought (now list) k 8 (now key) last ⌝ }
+fn eight_differ(list: &[u8], k: usize, key: &[u8], last: u8, first: u8) -> bool
+    requires { ⌜ AllSought (now list) k 8 (now key) last first ⌝ }
     ensures { λ r. ⌜ (r ≡ true → AllDiffer (now (list .entry)) k 8 (now (key .entry))) ⌝ }
 {
-    if !four_differ(list, k, key, last) {
+    if !four_differ(list, k, key, last, first) {
         return false;
     }
-    four_differ(list, k + 4, key, last)
+    four_differ(list, k + 4, key, last, first)
 }
 
-// A place in use before which none has a key: the first eight of which one may have it, else where fewer than eight are left.
-fn candidate(list: &[u8], n: usize, key: &[u8]) -> usize
+// A place in use before which none has a key: the first of eight of which one may have it, else where fewer than eight are left.
+fn eights(list: &[u8], n: usize, key: &[u8]) -> usize
     requires { ⌜ Holds (now list) n ⌝ ∗ ⌜ KeyLong (now key) ⌝ }
     ensures { λ r. ⌜ r ≤ n ⌝ }
     ensures { λ r. ⌜ Past (now (list .entry)) n (now (key .entry)) r ⌝ }
 {
     let last = key[key.len() - 1];
+    let first = key[0];
     let mut k = 0;
     while k + 8 <= n {
-        if !eight_differ(list, k, key, last) {
+        if !eight_differ(list, k, key, last, first) {
             return k;
         }
         k += 8;
@@ -188,7 +202,7 @@ pub fn find(list: &[u8], n: usize, key: &[u8]) -> usize
     ensures { λ r. ⌜ r ≡ indexOf (now (key .entry)) (placesFrom (now (list .entry)) n 0) ⌝ }
     ensures { λ r. ⌜ r ≤ n ⌝ }
 {
-    for k in candidate(list, n, key)..n {
+    for k in eights(list, n, key)..n {
         if has_key(list, k, key) {
             return k;
         }

@@ -5,7 +5,7 @@ use borrow.Author.Tests.{not-true, eqb-false}
 use lib.ListN.{length, getD}
 use Rattle.watch_list.specs.Layout.{keysAt}
 use Rattle.watch_list.proofs.Places.{length-short}
-use Rattle.watch_find.proofs.Scanning.{other-length, other-last}
+use Rattle.watch_find.proofs.Scanning.{other-length, other-byte}
 use borrow.Author.Needs.{needs}
 use Rattle.watch_find.proofs.differs.Statement.{statement}
 use Rattle.watch_find.proofs.differs.Tie as tie
@@ -26,29 +26,51 @@ returns c = let w = c .before in
     let e : a .k + j ≡ a .k = omega arith in
     rw e (other-length (a .list .now) (p .0) (a .k) (omega arith) (a .key .now) short (λ q. omega (arith, w .wide .ensures)))
 
+mul-if2 : tie.Need-mul-if2
+mul-if2 c = search needs
+
+add-if2 : tie.Need-add-if2
+add-if2 c = search needs
+
+add-if2-2 : tie.Need-add-if2-2
+add-if2-2 c = search needs
+
+shared-slice-read-if2 : tie.Need-shared-slice-read-if2
+shared-slice-read-if2 c = search needs
+
+returns-2 : tie.Need-returns-2
+returns-2 c = let w = c .before .before .before in
+    let s = w .before .before .before .before in
+    let a = s .args in
+    let p = s .pre in
+    let n = length (a .key .now) in
+    λ z j h.
+    let e : a .k + j ≡ a .k = omega arith in
+    let at : keysAt + a .k * 64 + (n - 1) ≡ 64 + a .k * 64 + n = omega arith in
+    rw e
+    (other-byte (a .list .now) (p .0) (a .k) (omega arith) (a .key .now) (n - 1) (omega (arith, w .wide .ensures)) (omega arith) (p .3 .1)
+    (λ q. c .if2 .taken (ap (λ (i : ℕ). getD (a .list .now) i 0) (sym at) ∙ q ∙ sym (p .4))))
+
 mul-result : tie.Need-mul-result
 mul-result c = search needs
 
 add-result : tie.Need-add-result
 add-result c = search needs
 
-add-result-2 : tie.Need-add-result-2
-add-result-2 c = search needs
-
 shared-slice-read-result : tie.Need-shared-slice-read-result
 shared-slice-read-result c = search needs
 
-returns-2 : tie.Need-returns-2
-returns-2 c = let w = c .before .before in
+returns-3 : tie.Need-returns-3
+returns-3 c = let w = c .before .before .before .before in
     let s = w .before .before .before .before in
     let a = s .args in
     let p = s .pre in
     λ z j h.
     let e : a .k + j ≡ a .k = omega arith in
-    let at : keysAt + a .k * 64 + length (a .key .now) - 1 ≡ 64 + a .k * 64 + length (a .key .now) = omega arith in
+    let at : keysAt + a .k * 64 + 0 ≡ 65 + a .k * 64 = omega arith in
     rw e
-    (other-last (a .list .now) (p .0) (a .k) (omega arith) (a .key .now) (omega (arith, w .wide .ensures)) (p .3 .0) (p .3 .1)
-    (λ q. eqb-false _ _ (not-true _ z) (ap (λ (i : ℕ). getD (a .list .now) i 0) (sym at) ∙ q ∙ sym (p .4))))
+    (other-byte (a .list .now) (p .0) (a .k) (omega arith) (a .key .now) 0 (omega (arith, w .wide .ensures)) (p .3 .0) (p .3 .1)
+    (λ q. eqb-false _ _ (not-true _ z) (ap (λ (i : ℕ). getD (a .list .now) i 0) (sym at) ∙ q ∙ sym (p .5))))
 
 pub differs-spec : {M : Type 1} → statement M
 differs-spec =
@@ -57,8 +79,12 @@ differs-spec =
     shared-slice-read-wide
     wide-requires
     returns
+    mul-if2
+    add-if2
+    add-if2-2
+    shared-slice-read-if2
+    returns-2
     mul-result
     add-result
-    add-result-2
     shared-slice-read-result
-    returns-2)
+    returns-3)

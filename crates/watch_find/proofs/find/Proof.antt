@@ -16,14 +16,14 @@ Inv-loop list n key k₀ k = (k ≤ n) × (n ≤ 64) × Holds list n × KeyLong 
 abbrev μ-loop : tie.MeasureT-loop
 μ-loop list n key k₀ k = n - k
 
-candidate-requires : tie.Need-candidate-requires Inv-loop μ-loop
-candidate-requires c κs = c .before .before .pre
+eights-requires : tie.Need-eights-requires Inv-loop μ-loop
+eights-requires c κs = c .before .before .pre
 
 loop-holds : tie.Need-loop-holds Inv-loop μ-loop
 loop-holds c = let s = c .before .before .before in
     let a = s .args in
     let holds : Holds (a .list .now) (a .n) = s .pre .0 in
-    (c .candidate .ensures .0, omega (arith, holds .entries, in-use-most (a .list .now) (holds .long)), holds, s .pre .1, c .candidate .ensures .1)
+    (c .eights .ensures .0, omega (arith, holds .entries, in-use-most (a .list .now) (holds .long)), holds, s .pre .1, c .eights .ensures .1)
 
 has-key-requires : tie.Need-has-key-requires Inv-loop μ-loop
 has-key-requires c κs = let l = c .before .loop in
@@ -61,7 +61,7 @@ find-spec =
     (tie.spec
     Inv-loop
     μ-loop
-    candidate-requires
+    eights-requires
     loop-holds
     has-key-requires
     returns

@@ -1,4 +1,4 @@
-use mathlib.Core.Path.{_≡_, sym, _∙_}
+use mathlib.Core.Path.{_∙_}
 use mathlib.Core.Bool.{and-eq-true-iff}
 use lib.Dec.{leb}
 use lib.ListN.{take, getD}
@@ -20,19 +20,20 @@ part-uses-end c = search needs
 uses-requires : tie.Need-uses-requires
 uses-requires c κs = search needs
 
-cast-result : tie.Need-cast-result
-cast-result c = search needs
+wide-requires : tie.Need-wide-requires
+wide-requires c κs = search needs
 
 returns : tie.Need-returns
 unfolding sound
-returns c = let s = c .before .before .before in
+returns c = let u = c .before in
+    let s = u .before .before .before in
     let xs = s .args .list .now in
     record {
       long = s .pre .0;
       is-sound = s .pre .1;
-      entries = c .uses .ensures ∙ sound-uses 1 (take 64 xs) (and-eq-true-iff (soundLengths (take 64 xs)) (leb (getD xs 64 0) 1) .0 (s .pre .1) .0);
+      entries = c .wide .ensures ∙ u .uses .ensures .0 ∙ sound-uses (take 64 xs) (and-eq-true-iff (soundLengths (take 64 xs)) (leb (getD xs 64 0) 1) .0 (s .pre .1) .0);
     }
 
 pub in-use-spec : {M : Type 1} → statement M
 in-use-spec =
-    tie.close (tie.spec sub-uses part-uses-start part-uses-end uses-requires cast-result returns)
+    tie.close (tie.spec sub-uses part-uses-start part-uses-end uses-requires wide-requires returns)

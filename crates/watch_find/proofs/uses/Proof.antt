@@ -1,15 +1,15 @@
 use mathlib.Core.Path.{_≡_}
 use Prim.Native.Nat.{_+_, _-_, _≤_}
 use native.Mathlib.Omega.{arith}
-use lib.ListN.{length, getD, drop}
+use lib.ListN.{length, drop}
 use Rattle.watch_find.specs.Scan.{sumOf, usedAt}
-use Rattle.watch_find.proofs.Scanning.{sum-turn, sum-end, use-any}
+use Rattle.watch_find.proofs.Scanning.{sum-turn, sum-end}
 use borrow.Author.Needs.{needs}
 use Rattle.watch_find.proofs.uses.Statement.{statement}
 use Rattle.watch_find.proofs.uses.Tie as tie
 
 abbrev Inv-loop : tie.InvT-loop
-Inv-loop lengths n₀ k₀ n k = (k ≤ 64) × (length lengths ≡ 64) × (n ≤ k) × (n + sumOf usedAt 1 (drop k lengths) ≡ sumOf usedAt 1 lengths)
+Inv-loop lengths n₀ k₀ n k = (k ≤ 64) × (length lengths ≡ 64) × (n ≤ k) × (n + sumOf usedAt (drop k lengths) ≡ sumOf usedAt lengths)
 
 abbrev μ-loop : tie.MeasureT-loop
 μ-loop lengths n₀ k₀ n k = 64 - k
@@ -35,17 +35,12 @@ loop-less c = search needs
 loop-again : tie.Need-loop-again Inv-loop μ-loop
 loop-again c = let ls = c .before .before .before .before .before .args .lengths .now in
     let l = c .before .before .before .loop in
-    let n = getD ls (l .k) 0 in (
-      omega arith,
-      l .inv .1,
-      omega (arith, c .used .ensures .1),
-      omega (arith, l .inv .3, c .used .ensures .0 1, sum-turn usedAt 1 ls (l .k) (omega arith), use-any 1 n (drop (l .k + 1) ls)),
-    )
+    (omega arith, l .inv .1, omega (arith, c .used .ensures .1), omega (arith, l .inv .3, c .used .ensures .0, sum-turn usedAt ls (l .k) (omega arith)))
 
 returns : tie.Need-returns Inv-loop μ-loop
 returns c = let ls = c .before .before .before .args .lengths .now in
     let l = c .before .loop in
-    omega (arith, l .inv .3, sum-end usedAt 1 ls (l .k) (omega arith))
+    (omega (arith, l .inv .3, sum-end usedAt ls (l .k) (omega arith)), omega arith)
 
 pub uses-spec : {M : Type 1} → statement M
 uses-spec =
