@@ -22,10 +22,10 @@ usedAt n = cond (eqb n 0) 0 1
 unfoldable pub longAt : ℕ → ℕ
 longAt n = cond (ltb 64 n) 1 0
 
--- n places of a sound list, the first of which is place k, and a key with its last and its first byte
-abbrev pub AllSought : List ℕ → ℕ → ℕ → List ℕ → ℕ → ℕ → Type 0
-AllSought list k n key last first =
-    (length list ≡ listSize) × (sound list ≡ true) × (k + n ≤ 64) × KeyLong key × (last ≡ getD key (length key - 1) 0) × (first ≡ getD key 0 0)
+-- n places of a sound list, the first of which is place k, and a key with its length, its last and its first byte
+abbrev pub AllSought : List ℕ → ℕ → ℕ → List ℕ → ℕ → ℕ → ℕ → Type 0
+AllSought list k n key size last first =
+    (length list ≡ listSize) × (sound list ≡ true) × (k + n ≤ 64) × KeyLong key × (size ≡ length key) × (last ≡ getD key (length key - 1) 0) × (first ≡ getD key 0 0)
 
 -- none of them has the key
 abbrev pub AllDiffer : List ℕ → ℕ → ℕ → List ℕ → Type 0

@@ -132,50 +132,56 @@ fn has_key(list: &[u8], k: usize, key: &[u8]) -> bool
     same_bytes(&list[start..end], key)
 }
 
-// Whether a place cannot have a key, by its length, its last byte and its first.
-fn differs(list: &[u8], k: usize, key: &[u8], last: u8, first: u8) -> bool
-    requires { ⌜ AllSought (now list) k 1 (now key) last first ⌝ }
+// What is looked at first of a key: its length, its last byte and its first.
+struct Probe {
+    size: u8,
+    last: u8,
+    first: u8,
+}
+
+// Whether a place cannot have a key, by these.
+fn differs(list: &[u8], k: usize, key: &[u8], p: Probe) -> bool
+    requires { ⌜ AllSought (now list) k 1 (now key) (p .size) (p .last) (p .first) ⌝ }
     ensures { λ r. ⌜ (r ≡ true → AllDiffer (now (list .entry)) k 1 (now (key .entry))) ⌝ }
 {
-    let n = key.len();
-    if wide(list[k]) != n {
+    if list[k] != p.size {
         return true;
     }
-    if list[64 + k * 64 + n] != last {
+    if list[64 + k * 64 + key.len()] != p.last {
         return true;
     }
-    list[65 + k * 64] != first
+    list[65 + k * 64] != p.first
 }
 
 // Whether none of two, four or eight places can have a key: eight to a turn of a loop, which the compiler goes through without a jump.
-fn two_differ(list: &[u8], k: usize, key: &[u8], last: u8, first: u8) -> bool
-    requires { ⌜ AllSought (now list) k 2 (now key) last first ⌝ }
+fn two_differ(list: &[u8], k: usize, key: &[u8], p: Probe) -> bool
+    requires { ⌜ AllSought (now list) k 2 (now key) (p .size) (p .last) (p .first) ⌝ }
     ensures { λ r. ⌜ (r ≡ true → AllDiffer (now (list .entry)) k 2 (now (key .entry))) ⌝ }
 {
-    if !differs(list, k, key, last, first) {
+    if !differs(list, k, key, p) {
         return false;
     }
-    differs(list, k + 1, key, last, first)
+    differs(list, k + 1, key, p)
 }
 
-fn four_differ(list: &[u8], k: usize, key: &[u8], last: u8, first: u8) -> bool
-    requires { ⌜ AllSought (now list) k 4 (now key) last first ⌝ }
+fn four_differ(list: &[u8], k: usize, key: &[u8], p: Probe) -> bool
+    requires { ⌜ AllSought (now list) k 4 (now key) (p .size) (p .last) (p .first) ⌝ }
     ensures { λ r. ⌜ (r ≡ true → AllDiffer (now (list .entry)) k 4 (now (key .entry))) ⌝ }
 {
-    if !two_differ(list, k, key, last, first) {
+    if !two_differ(list, k, key, p) {
         return false;
     }
-    two_differ(list, k + 2, key, last, first)
+    two_differ(list, k + 2, key, p)
 }
 
-fn eight_differ(list: &[u8], k: usize, key: &[u8], last: u8, first: u8) -> bool
-    requires { ⌜ AllSought (now list) k 8 (now key) last first ⌝ }
+fn eight_differ(list: &[u8], k: usize, key: &[u8], p: Probe) -> bool
+    requires { ⌜ AllSought (now list) k 8 (now key) (p .size) (p .last) (p .first) ⌝ }
     ensures { λ r. ⌜ (r ≡ true → AllDiffer (now (list .entry)) k 8 (now (key .entry))) ⌝ }
 {
-    if !four_differ(list, k, key, last, first) {
+    if !four_differ(list, k, key, p) {
         return false;
     }
-    four_differ(list, k + 4, key, last, first)
+    four_differ(list, k + 4, key, p)
 }
 
 // A place in use before which none has a key: the first of eight of which one may have it, else where fewer than eight are left.
@@ -184,11 +190,14 @@ fn eights(list: &[u8], n: usize, key: &[u8]) -> usize
     ensures { λ r. ⌜ r ≤ n ⌝ }
     ensures { λ r. ⌜ Past (now (list .entry)) n (now (key .entry)) r ⌝ }
 {
-    let last = key[key.len() - 1];
-    let first = key[0];
+    let p = Probe {
+        size: key.len() as u8,
+        last: key[key.len() - 1],
+        first: key[0],
+    };
     let mut k = 0;
     while k + 8 <= n {
-        if !eight_differ(list, k, key, last, first) {
+        if !eight_differ(list, k, key, p) {
             return k;
         }
         k += 8;

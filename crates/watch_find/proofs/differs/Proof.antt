@@ -10,21 +10,17 @@ use borrow.Author.Needs.{needs}
 use Rattle.watch_find.proofs.differs.Statement.{statement}
 use Rattle.watch_find.proofs.differs.Tie as tie
 
-shared-slice-read-wide : tie.Need-shared-slice-read-wide
-shared-slice-read-wide c = search needs
-
-wide-requires : tie.Need-wide-requires
-wide-requires c κs = search needs
+shared-slice-read-if1 : tie.Need-shared-slice-read-if1
+shared-slice-read-if1 c = search needs
 
 returns : tie.Need-returns
-returns c = let w = c .before in
-    let s = w .before .before .before .before in
+returns c = let s = c .before .before .before in
     let a = s .args in
-    let p = s .pre in
-    let short = length-short (a .list .now) (p .0) (p .1) (a .k) (omega arith) in
-    λ z j h.
+    let h = s .pre in
+    let short = length-short (a .list .now) (h .0) (h .1) (a .k) (omega arith) in
+    λ z j l.
     let e : a .k + j ≡ a .k = omega arith in
-    rw e (other-length (a .list .now) (p .0) (a .k) (omega arith) (a .key .now) short (λ q. omega (arith, w .wide .ensures)))
+    rw e (other-length (a .list .now) (h .0) (a .k) (omega arith) (a .key .now) short (λ q. c .if1 .taken (q ∙ sym (h .4))))
 
 mul-if2 : tie.Need-mul-if2
 mul-if2 c = search needs
@@ -39,17 +35,17 @@ shared-slice-read-if2 : tie.Need-shared-slice-read-if2
 shared-slice-read-if2 c = search needs
 
 returns-2 : tie.Need-returns-2
-returns-2 c = let w = c .before .before .before in
-    let s = w .before .before .before .before in
+returns-2 c = let f = c .before .before .before in
+    let s = f .before .before .before in
     let a = s .args in
-    let p = s .pre in
+    let h = s .pre in
     let n = length (a .key .now) in
-    λ z j h.
+    λ z j l.
     let e : a .k + j ≡ a .k = omega arith in
     let at : keysAt + a .k * 64 + (n - 1) ≡ 64 + a .k * 64 + n = omega arith in
     rw e
-    (other-byte (a .list .now) (p .0) (a .k) (omega arith) (a .key .now) (n - 1) (omega (arith, w .wide .ensures)) (omega arith) (p .3 .1)
-    (λ q. c .if2 .taken (ap (λ (i : ℕ). getD (a .list .now) i 0) (sym at) ∙ q ∙ sym (p .4))))
+    (other-byte (a .list .now) (h .0) (a .k) (omega arith) (a .key .now) (n - 1) (f .if1 .left ∙ h .4) (omega arith) (h .3 .1)
+    (λ q. c .if2 .taken (ap (λ (i : ℕ). getD (a .list .now) i 0) (sym at) ∙ q ∙ sym (h .5))))
 
 mul-result : tie.Need-mul-result
 mul-result c = search needs
@@ -61,23 +57,22 @@ shared-slice-read-result : tie.Need-shared-slice-read-result
 shared-slice-read-result c = search needs
 
 returns-3 : tie.Need-returns-3
-returns-3 c = let w = c .before .before .before .before in
-    let s = w .before .before .before .before in
+returns-3 c = let f = c .before .before .before .before .before in
+    let s = f .before .before .before in
     let a = s .args in
-    let p = s .pre in
-    λ z j h.
+    let h = s .pre in
+    λ z j l.
     let e : a .k + j ≡ a .k = omega arith in
     let at : keysAt + a .k * 64 + 0 ≡ 65 + a .k * 64 = omega arith in
     rw e
-    (other-byte (a .list .now) (p .0) (a .k) (omega arith) (a .key .now) 0 (omega (arith, w .wide .ensures)) (p .3 .0) (p .3 .1)
-    (λ q. eqb-false _ _ (not-true _ z) (ap (λ (i : ℕ). getD (a .list .now) i 0) (sym at) ∙ q ∙ sym (p .5))))
+    (other-byte (a .list .now) (h .0) (a .k) (omega arith) (a .key .now) 0 (f .if1 .left ∙ h .4) (h .3 .0) (h .3 .1)
+    (λ q. eqb-false _ _ (not-true _ z) (ap (λ (i : ℕ). getD (a .list .now) i 0) (sym at) ∙ q ∙ sym (h .6))))
 
 pub differs-spec : {M : Type 1} → statement M
 differs-spec =
     tie.close
     (tie.spec
-    shared-slice-read-wide
-    wide-requires
+    shared-slice-read-if1
     returns
     mul-if2
     add-if2
