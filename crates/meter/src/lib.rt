@@ -1,6 +1,6 @@
 // A meter in lent memory: clearing, updates, estimates, the widest level and unions. Every call takes any depth, width, memory and
-// key, and answers by document 01's number, place and figure. A refused call leaves the memory as it was. The two named `checked` are for
-// callers that have made the tests before them.
+// key, and answers by document 01's number, place and figure. A refused call leaves the memory as it was. `update_checked`, `update_reading`
+// and `estimate_checked` are for callers that have made the tests before them.
 use answer::Answer;
 use answer::answer_of;
 use geometry::bad_key;
