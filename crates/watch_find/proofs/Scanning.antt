@@ -5,7 +5,7 @@ use mathlib.Core.List.{List, [], _∷_, _++_}
 use Prim.Native.Nat.{ℕ, zero, suc, _+_, _-_, _*_, _≤_, _<_}
 use native.Mathlib.Nat.{zero-add}
 use native.Mathlib.Numerals.{add-one}
-use native.Mathlib.Decide.{decLe, decLt}
+use native.Mathlib.Decide.{ℕ-discrete, decLe, decLt}
 use native.Mathlib.Omega.{arith}
 use borrow.Author.Tests.{le-leb, lt-leb, lt-ltb, le-ltb, eq-eqb, ne-eqb}
 use lib.Dec.{eqb, leb, ltb}
@@ -172,6 +172,11 @@ module _ (xs : List ℕ) (long : length xs ≡ listSize) (k : ℕ) (h : k < 64) 
       let start = keysAt + k * 64 in
       key-differs (placeAt xs k .key) key
       (λ q. d (sym (getD-drop start xs i 0) ∙ sym (getD-take (length key) (drop start xs) i 0 a) ∙ ap (λ (l : List ℕ). getD l i 0) (sym (key-of-place e b) ∙ q)))
+
+  -- whatever the length of its key
+  pub other-at : (key : List ℕ) (i : ℕ) → getD xs k 0 ≤ 64 → i < length key → length key ≤ 64 → (getD xs (keysAt + k * 64 + i) 0 ≡ getD key i 0 → ⊥)
+      → sameKey (placeAt xs k .key) key ≡ false
+  other-at key i l a b d = elim (ℕ-discrete (getD xs k 0) (length key)) [ yes e ↦ other-byte key i e a b d | no n ↦ other-length key l n ]
 
 -- entries gone through one by one
 module _ (key xs : List ℕ) (n k : ℕ) (h : k < n) where

@@ -132,22 +132,22 @@ fn has_key(list: &[u8], k: usize, key: &[u8]) -> bool
     same_bytes(&list[start..end], key)
 }
 
-// What is looked at first of a key: its length, its last byte and its first.
+// What is looked at first of a key: its last byte, its length and its first byte.
 struct Probe {
     size: u8,
     last: u8,
     first: u8,
 }
 
-// Whether a place cannot have a key, by these.
+// Whether a place cannot have a key, by these. Where the byte at its last differs, the place has another key or one of another length.
 fn differs(list: &[u8], k: usize, key: &[u8], p: Probe) -> bool
     requires { ⌜ AllSought (now list) k 1 (now key) (p .size) (p .last) (p .first) ⌝ }
     ensures { λ r. ⌜ (r ≡ true → AllDiffer (now (list .entry)) k 1 (now (key .entry))) ⌝ }
 {
-    if list[k] != p.size {
+    if list[64 + k * 64 + key.len()] != p.last {
         return true;
     }
-    if list[64 + k * 64 + key.len()] != p.last {
+    if list[k] != p.size {
         return true;
     }
     list[65 + k * 64] != p.first
