@@ -74,13 +74,10 @@ fn watched_in_rust() {
     rust_example("watch");
 }
 
-/// README shows the short examples as they are built and run here.
+/// README shows the short example in C as it is built and run here.
 #[test]
 fn in_readme() {
     let read = |path: &str| std::fs::read_to_string(host().join(path)).expect(path);
-    let readme = read("../README.md");
-    for (language, example) in [("c", "short.c"), ("rust", "short.rs")] {
-        let block = format!("```{language}\n{}```\n", read(&format!("examples/{example}")));
-        assert!(readme.contains(&block), "README.md does not have {example} as it is");
-    }
+    let block = format!("```c\n{}```\n", read("examples/short.c"));
+    assert!(read("../README.md").contains(&block), "README.md does not have short.c as it is");
 }
