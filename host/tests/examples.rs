@@ -79,5 +79,8 @@ fn watched_in_rust() {
 fn in_readme() {
     let read = |path: &str| std::fs::read_to_string(host().join(path)).expect(path);
     let block = format!("```c\n{}```\n", read("examples/short.c"));
-    assert!(read("../README.md").contains(&block), "README.md does not have short.c as it is");
+    assert!(
+        read("../README.md").contains(&block),
+        "README.md does not have short.c as it is"
+    );
 }
