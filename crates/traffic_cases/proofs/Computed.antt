@@ -1,4 +1,4 @@
--- What is proved by computation: the one place that opens every definition.
+-- What is proved by computation. Here, and in watch_cases, every definition is opened.
 use mathlib.Core.Path.{_≡_, refl, sym}
 use mathlib.Core.Bool.{Bool, true, false, _&&_, true≢false}
 use mathlib.Core.List.{List, [], _∷_, _++_}

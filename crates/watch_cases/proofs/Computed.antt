@@ -1,4 +1,4 @@
--- What is proved by computation, on entries: the one place that opens every definition.
+-- What is proved by computation, on entries. Here, and in traffic_cases, every definition is opened.
 use mathlib.Core.Path.{_≡_, refl}
 use mathlib.Core.Bool.{true, false}
 use mathlib.Core.List.{List, [], _∷_}

@@ -19,7 +19,7 @@ use Rattle.meter_keys.proofs.Same.{key-same, key-differs}
 use Rattle.watch_list.specs.List.{Entry}
 use Rattle.watch_list.specs.Layout.{keysAt, listSize, keyBytes, placeAt, placesFrom, inUse, allZero, soundLengths}
 use Rattle.watch_list.specs.Parts.{indexOf}
-use Rattle.watch_find.specs.Scan.{sumOf, usedAt, longAt, AllDiffer}
+use Rattle.watch_find.specs.Scan.{sumOf, aboveAt, AllDiffer}
 
 -- one length more, and none left
 module _ (f : ℕ → ℕ) (ns : List ℕ) (k : ℕ) where
@@ -47,94 +47,79 @@ pub zero-end : (ns : List ℕ) (k : ℕ) → length ns ≤ k → allZero (drop k
 unfolding allZero
 zero-end ns k h = rw (drop-of-length-le ns {i = k} h)
 
--- each length: in use or not, above 64 or not
-pub use-zero : usedAt 0 ≡ 0
-unfolding usedAt
-use-zero = refl
+-- each length: above a bound or not
+pub above-no : (bound n : ℕ) → n ≤ bound → aboveAt bound n ≡ 0
+unfolding aboveAt
+above-no bound n h = rw (le-ltb bound n h)
 
-pub use-some : (n : ℕ) → (n ≡ 0 → ⊥) → usedAt n ≡ 1
-unfolding usedAt
-use-some n h = rw (ne-eqb n 0 h)
+pub above-yes : (bound n : ℕ) → bound < n → aboveAt bound n ≡ 1
+unfolding aboveAt
+above-yes bound n h = rw (lt-ltb bound n h)
 
-pub long-no : (n : ℕ) → n ≤ 64 → longAt n ≡ 0
-unfolding longAt
-long-no n h = rw (le-ltb 64 n h)
-
-pub long-yes : (n : ℕ) → 64 < n → longAt n ≡ 1
-unfolding longAt
-long-yes n h = rw (lt-ltb 64 n h)
-
--- where none is in use all are 0, and none is above 64
-none-used : (ns : List ℕ) → sumOf usedAt ns ≡ 0 → allZero ns ≡ true
+-- where none is above 0 all are 0, and none is above any bound
+none-used : (ns : List ℕ) → sumOf (aboveAt 0) ns ≡ 0 → allZero ns ≡ true
 unfolding sumOf allZero
 none-used [] e = refl
-none-used (zero ∷ ns) e = none-used ns (omega (arith, use-zero, e))
-none-used (suc n ∷ ns) e = absurd (omega (arith, use-some (suc n) (λ z. omega arith), e))
+none-used (zero ∷ ns) e = none-used ns (omega (arith, above-no 0 0 (omega arith), e))
+none-used (suc n ∷ ns) e = absurd (omega (arith, above-yes 0 (suc n) (omega arith), e))
 
-zeros-none : (ns : List ℕ) → allZero ns ≡ true → (sumOf usedAt ns ≡ 0) × (sumOf longAt ns ≡ 0)
+zeros-none : (bound : ℕ) (ns : List ℕ) → allZero ns ≡ true → sumOf (aboveAt bound) ns ≡ 0
 unfolding sumOf allZero
-zeros-none [] e = (refl, refl)
-zeros-none (zero ∷ ns) e =
-    let p = zeros-none ns e in
-    (omega (arith, use-zero, p .0), omega (arith, long-no 0 (omega arith), p .1))
-zeros-none (suc n ∷ ns) e = absurd (true≢false (sym e))
+zeros-none bound [] e = refl
+zeros-none bound (zero ∷ ns) e = omega (arith, above-no bound 0 (omega arith), zeros-none bound ns e)
+zeros-none bound (suc n ∷ ns) e = absurd (true≢false (sym e))
 
 -- as many as are in use cannot all lie before a place that is too early
-used-from : (ns : List ℕ) (k : ℕ) → sumOf usedAt ns ≤ k + sumOf usedAt (drop k ns)
+used-from : (ns : List ℕ) (k : ℕ) → sumOf (aboveAt 0) ns ≤ k + sumOf (aboveAt 0) (drop k ns)
 unfolding sumOf
 used-from ns zero = omega arith
 used-from [] (suc k) = omega arith
-used-from (zero ∷ ns) (suc k) = omega (arith, use-zero, used-from ns k)
-used-from (suc n ∷ ns) (suc k) = omega (arith, use-some (suc n) (λ z. omega arith), used-from ns k)
+used-from (zero ∷ ns) (suc k) = omega (arith, above-no 0 0 (omega arith), used-from ns k)
+used-from (suc n ∷ ns) (suc k) = omega (arith, above-yes 0 (suc n) (omega arith), used-from ns k)
 
 -- a 0 and lengths after it: sound where they are all 0
 module _ (ns : List ℕ) where
-  uses-more : sumOf usedAt (0 ∷ ns) ≡ sumOf usedAt ns
+  zero-more : (bound : ℕ) → sumOf (aboveAt bound) (0 ∷ ns) ≡ sumOf (aboveAt bound) ns
   unfolding sumOf
-  uses-more = omega (arith, use-zero)
-
-  longs-more : sumOf longAt (0 ∷ ns) ≡ sumOf longAt ns
-  unfolding sumOf
-  longs-more = omega (arith, long-no 0 (omega arith))
+  zero-more bound = omega (arith, above-no bound 0 (omega arith))
 
   -- some is in use, so one is after the first c - 1
-  left-over : (c : ℕ) → sumOf usedAt ns ≡ suc c → allZero (drop c ns) ≡ true → ⊥
-  left-over c e z = omega (arith, used-from ns c, zeros-none (drop c ns) z .0)
+  left-over : (c : ℕ) → sumOf (aboveAt 0) ns ≡ suc c → allZero (drop c ns) ≡ true → ⊥
+  left-over c e z = omega (arith, used-from ns c, zeros-none 0 (drop c ns) z)
 
-  some-left : (c : ℕ) → sumOf usedAt ns ≡ c → allZero ns ≡ false → (b : Bool) → allZero (drop c (0 ∷ ns)) ≡ b → b ≡ false
+  some-left : (c : ℕ) → sumOf (aboveAt 0) ns ≡ c → allZero ns ≡ false → (b : Bool) → allZero (drop c (0 ∷ ns)) ≡ b → b ≡ false
   some-left zero e n b f = absurd (true≢false (sym (none-used ns e) ∙ n))
   some-left (suc c) e n true f = absurd (left-over c e f)
   some-left (suc c) e n false f = refl
 
-  after-zero : (b : Bool) → allZero ns ≡ b → b ≡ (eqb (sumOf longAt (0 ∷ ns)) 0 && allZero (drop (sumOf usedAt (0 ∷ ns)) (0 ∷ ns)))
+  after-zero : (b : Bool) → allZero ns ≡ b → b ≡ (eqb (sumOf (aboveAt 64) (0 ∷ ns)) 0 && allZero (drop (sumOf (aboveAt 0) (0 ∷ ns)) (0 ∷ ns)))
   unfolding allZero
   after-zero true e =
-      let p = zeros-none ns e in
-      rw (longs-more, uses-more, p .0, p .1) (sym e)
+      rw (zero-more 64, zero-more 0, zeros-none 0 ns e, zeros-none 64 ns e) (sym e)
   after-zero false e =
-      let f = some-left (sumOf usedAt ns) refl e (allZero (drop (sumOf usedAt ns) (0 ∷ ns))) refl in
-      rw (longs-more, uses-more, f, and-false (eqb (sumOf longAt ns) 0))
+      let f = some-left (sumOf (aboveAt 0) ns) refl e (allZero (drop (sumOf (aboveAt 0) ns) (0 ∷ ns))) refl in
+      rw (zero-more 64, zero-more 0, f, and-false (eqb (sumOf (aboveAt 64) ns) 0))
 
-pub sound-by : (ns : List ℕ) → soundLengths ns ≡ (eqb (sumOf longAt ns) 0 && allZero (drop (sumOf usedAt ns) ns))
+pub sound-by : (ns : List ℕ) → soundLengths ns ≡ (eqb (sumOf (aboveAt 64) ns) 0 && allZero (drop (sumOf (aboveAt 0) ns) ns))
 unfolding soundLengths sumOf allZero
 sound-by [] = refl
 sound-by (zero ∷ ns) = after-zero ns (allZero ns) refl
 sound-by (suc n ∷ ns) =
-    let u : usedAt (suc n) + sumOf usedAt ns ≡ suc (sumOf usedAt ns) = omega (arith, use-some (suc n) (λ z. omega arith)) in
+    let u : aboveAt 0 (suc n) + sumOf (aboveAt 0) ns ≡ suc (sumOf (aboveAt 0) ns) = omega (arith, above-yes 0 (suc n) (omega arith)) in
     elim (decLe (suc n) 64) [
       | yes l ↦
-          let f : longAt (suc n) + sumOf longAt ns ≡ sumOf longAt ns = omega (arith, long-no (suc n) l) in
+          let f : aboveAt 64 (suc n) + sumOf (aboveAt 64) ns ≡ sumOf (aboveAt 64) ns = omega (arith, above-no 64 (suc n) l) in
           rw (u, f, le-leb (suc n) 64 l) (sound-by ns)
-      | no l ↦ rw (u, lt-leb (suc n) 64 (omega arith), ne-eqb (longAt (suc n) + sumOf longAt ns) 0 (λ z. omega (arith, long-yes (suc n) (omega arith))))
+      | no l ↦ rw (u, lt-leb (suc n) 64 (omega arith), ne-eqb (aboveAt 64 (suc n) + sumOf (aboveAt 64) ns) 0 (λ z. omega (arith, above-yes 64 (suc n) (omega arith))))
     ]
 
 -- the places in use of sound lengths
-pub sound-uses : (ns : List ℕ) → soundLengths ns ≡ true → sumOf usedAt ns ≡ inUse ns
+pub sound-uses : (ns : List ℕ) → soundLengths ns ≡ true → sumOf (aboveAt 0) ns ≡ inUse ns
 unfolding soundLengths sumOf inUse
 sound-uses [] e = refl
-sound-uses (zero ∷ ns) e = omega (arith, use-zero, zeros-none ns e .0)
+sound-uses (zero ∷ ns) e = omega (arith, above-no 0 0 (omega arith), zeros-none 0 ns e)
 sound-uses (suc n ∷ ns) e =
-    omega (arith, use-some (suc n) (λ z. omega arith), sound-uses ns (and-eq-true-iff (leb (suc n) 64) (soundLengths ns) .0 e .1))
+    omega (arith, above-yes 0 (suc n) (omega arith), sound-uses ns (and-eq-true-iff (leb (suc n) 64) (soundLengths ns) .0 e .1))
 
 -- two lists that agree so far, by words of eight bytes and by bytes
 module _ (xs ys : List ℕ) (long : length xs ≡ length ys) (at : ℕ) where

@@ -3,7 +3,7 @@ use Prim.Native.Nat.{ℕ, _+_, _-_, _≤_, _<_}
 use mathlib.Core.Path.{_≡_}
 use mathlib.Core.Bool.{true, false, cond}
 use mathlib.Core.List.{List, [], _∷_}
-use lib.Dec.{eqb, ltb}
+use lib.Dec.{ltb}
 use lib.ListN.{length, getD}
 use Rattle.meter_keys.specs.Keys.{sameKey}
 use Rattle.watch_list.specs.Layout.{listSize, sound, placeAt, placesFrom}
@@ -14,13 +14,9 @@ unfoldable pub sumOf : (ℕ → ℕ) → List ℕ → ℕ
 sumOf f [] = 0
 sumOf f (n ∷ lengths) = f n + sumOf f lengths
 
--- 1 where a place is in use
-unfoldable pub usedAt : ℕ → ℕ
-usedAt n = cond (eqb n 0) 0 1
-
--- 1 where a length is above 64
-unfoldable pub longAt : ℕ → ℕ
-longAt n = cond (ltb 64 n) 1 0
+-- 1 where a length is above a bound
+unfoldable pub aboveAt : ℕ → ℕ → ℕ
+aboveAt bound n = cond (ltb bound n) 1 0
 
 -- n places of a sound list, the first of which is place k, and a key with its length, its last and its first byte
 abbrev pub AllSought : List ℕ → ℕ → ℕ → List ℕ → ℕ → ℕ → ℕ → Type 0

@@ -9,42 +9,23 @@ ghost use Rattle.little_endian.specs.Bytes.{number};
 ghost use Rattle.meter_keys.specs.Keys.{sameKey};
 ghost use Rattle.watch_list.specs.Layout.{listSize, allZero, soundLengths, sound, placeAt, placesFrom};
 ghost use Rattle.watch_list.specs.Parts.{indexOf, Holds, KeyLong};
-ghost use Rattle.watch_find.specs.Scan.{sumOf, usedAt, longAt, AllSought, AllDiffer, Past};
+ghost use Rattle.watch_find.specs.Scan.{sumOf, aboveAt, AllSought, AllDiffer, Past};
 
-// Whether a place is in use, by its key length: 1 or 0.
-fn used(n: u8) -> u8
-    ensures { λ r. ⌜ (r ≡ usedAt n) × (r ≤ 1) ⌝ }
+// Whether a key length is above a bound: 1 or 0.
+fn above(n: u8, bound: u8) -> u8
+    ensures { λ r. ⌜ (r ≡ aboveAt bound n) × (r ≤ 1) ⌝ }
 {
-    if n == 0 { 0 } else { 1 }
+    if bound < n { 1 } else { 0 }
 }
 
-// Whether a key length is above 64: 1 or 0.
-fn long(n: u8) -> u8
-    ensures { λ r. ⌜ (r ≡ longAt n) × (r ≤ 1) ⌝ }
-{
-    if 64 < n { 1 } else { 0 }
-}
-
-// How many of 64 places are in use. This and the next go through all lengths without a branch, so that the compiler takes many at once.
-fn uses(lengths: &[u8]) -> u8
+// How many of 64 key lengths are above a bound: those in use are above 0. Without a branch, so that the compiler takes many at once.
+fn count_above(lengths: &[u8], bound: u8) -> u8
     requires { ⌜ length (now lengths) ≡ 64 ⌝ }
-    ensures { λ r. ⌜ (r ≡ sumOf usedAt (now (lengths .entry))) × (r ≤ 64) ⌝ }
+    ensures { λ r. ⌜ (r ≡ sumOf (aboveAt bound) (now (lengths .entry))) × (r ≤ 64) ⌝ }
 {
     let mut n = 0u8;
     for k in 0..64 {
-        n = n + used(lengths[k]);
-    }
-    n
-}
-
-// How many of 64 key lengths are above 64.
-fn longs(lengths: &[u8]) -> u8
-    requires { ⌜ length (now lengths) ≡ 64 ⌝ }
-    ensures { λ r. ⌜ (r ≡ sumOf longAt (now (lengths .entry))) × (r ≤ 64) ⌝ }
-{
-    let mut n = 0u8;
-    for k in 0..64 {
-        n = n + long(lengths[k]);
+        n = n + above(lengths[k], bound);
     }
     n
 }
@@ -67,10 +48,10 @@ fn sound_lengths(lengths: &[u8]) -> bool
     requires { ⌜ length (now lengths) ≡ 64 ⌝ }
     ensures { λ r. ⌜ r ≡ soundLengths (now (lengths .entry)) ⌝ }
 {
-    if longs(lengths) != 0 {
+    if count_above(lengths, 64) != 0 {
         return false;
     }
-    zero_from(lengths, wide(uses(lengths)))
+    zero_from(lengths, wide(count_above(lengths, 0)))
 }
 
 // Whether nothing breaks a list's layout.
@@ -89,7 +70,7 @@ pub fn in_use(list: &[u8]) -> usize
     requires { ⌜ length (now list) ≡ listSize ⌝ ∗ ⌜ sound (now list) ≡ true ⌝ }
     ensures { λ r. ⌜ Holds (now (list .entry)) r ⌝ }
 {
-    wide(uses(&list[0..64]))
+    wide(count_above(&list[0..64], 0))
 }
 
 fn word_at(bytes: &[u8], at: usize) -> u64

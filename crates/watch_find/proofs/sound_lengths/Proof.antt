@@ -8,16 +8,16 @@ use borrow.Author.Needs.{needs}
 use Rattle.watch_find.proofs.sound_lengths.Statement.{statement}
 use Rattle.watch_find.proofs.sound_lengths.Tie as tie
 
-longs-requires : tie.Need-longs-requires
-longs-requires c κs = search needs
+count-above-requires : tie.Need-count-above-requires
+count-above-requires c κs = search needs
 
 returns : tie.Need-returns
 returns c = let f = c .before in
     let ls = f .before .before .args .lengths .now in
-    rw (sound-by ls, ne-eqb _ 0 (λ z. c .if1 .taken (f .longs .ensures .0 ∙ z)))
+    rw (sound-by ls, ne-eqb _ 0 (λ z. c .if1 .taken (f .count-above .ensures .0 ∙ z)))
 
-uses-requires : tie.Need-uses-requires
-uses-requires c κs = search needs
+count-above-requires-2 : tie.Need-count-above-requires-2
+count-above-requires-2 c κs = search needs
 
 wide-requires : tie.Need-wide-requires
 wide-requires c κs = search needs
@@ -31,9 +31,9 @@ returns-2 c = let w = c .before in
     let e = u .before in
     let f = e .before in
     let ls = f .before .before .args .lengths .now in
-    rw (sound-by ls, eq-eqb _ 0 (sym (f .longs .ensures .0) ∙ e .if1 .left)) (c .zero-from .ensures ∙ ap (λ (k : ℕ). allZero (drop k ls)) (w .wide .ensures ∙ u .uses .ensures .0))
+    rw (sound-by ls, eq-eqb _ 0 (sym (f .count-above .ensures .0) ∙ e .if1 .left)) (c .zero-from .ensures ∙ ap (λ (k : ℕ). allZero (drop k ls)) (w .wide .ensures ∙ u .count-above2 .ensures .0))
 
 pub sound-lengths-spec : {M : Type 1} → statement M
 sound-lengths-spec =
     tie.close
-    (tie.spec longs-requires returns uses-requires wide-requires zero-from-requires returns-2)
+    (tie.spec count-above-requires returns count-above-requires-2 wide-requires zero-from-requires returns-2)
