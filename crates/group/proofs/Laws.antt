@@ -24,7 +24,7 @@ use Rattle.group_slots.proofs.Places.{add-in-place}
 use Rattle.group.specs.declared.Group.{Group}
 use Rattle.group.specs.declared.Kept.{Kept}
 use Rattle.group.specs.declared.Outcome.{Outcome}
-use Rattle.group.specs.Group.{decode, encode, settle, unchanged, added, holds, unitedGroups}
+use Rattle.group.specs.Group.{decode, encode, settle, unchanged, reading, read, added, holds, unitedGroups}
 use Rattle.group.specs.Stored.{stored}
 use Rattle.answer.specs.Numbers.{invalidContent, counterFull}
 
@@ -118,6 +118,14 @@ module _ (g : Group) (slot amount : ℕ) where
       → added g slot amount ≡ record { status = 0; group = record { counts = r .counts; merge = g .merge } }
   added-kept r t h e =
       added-held (sym h ∙ t) ∙ ap (λ (l : List ℕ). record { status = 0; group = record { counts = l; merge = g .merge } }) (sym (rw t at e))
+
+  -- and the counter has the amount more
+  pub read-held : number (g .counts) < cap 3 → holds g slot amount ≡ true → read (added g slot amount .group) slot .value ≡ counterAt (decode g) (slot % 8) .value + amount
+  unfolding holds added settle read reading Sound
+  read-held w h =
+      let v = and-eq-true-iff (valid 3 (g .merge)) _ .0 h in
+      let s = add-in-place (decode g) (slot % 8) amount (ltb-true _ _ (v .1)) in
+      rw (v .0, s .1, encode-valid (s .0), decode-encode (s .0) (rw (s .1) at (add-is-sound w (v .0))), s .4)
 
 module _ (g source : Group) where
   pub united-invalid : valid 3 (g .merge) ≡ false → unitedGroups g source ≡ unchanged invalidContent g

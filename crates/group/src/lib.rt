@@ -78,34 +78,39 @@ fn unchanged(status: u8, g: Group) -> Outcome
     Outcome { status, group: g }
 }
 
-// The count bytes after an addition that its counter holds; if it does not, as they were.
+// The count bytes after an addition that its counter holds, and the counter's value then; if it does not, the bytes as they were, and 0.
 pub struct Kept {
     pub held: bool,
     pub counts: [u8; 8],
+    pub value: u64,
 }
 
 // An amount added to the counter that a slot is in, if the counter holds the sum. The layout stays and no other counter changes.
 pub fn add_in_place(g: Group, slot: usize, amount: u32) -> Kept
     ensures { λ r. ⌜ r .held ≡ holds g slot amount ⌝ }
     ensures { λ r. ⌜ r .counts ≡ cond (r .held) (added g slot amount .group .counts) (g .counts) ⌝ }
+    ensures { λ r. ⌜ r .value ≡ cond (r .held) (read (added g slot amount .group) slot .value) 0 ⌝ }
 {
     let counts = g.counts;
     if !is_valid(g.merge) {
         return Kept {
             held: false,
             counts,
+            value: 0,
         };
     }
     let sum = group_sums::add_in_place(little_endian::number_of(counts), g.merge, slot % 8, amount);
-    if sum.over {
+    if !sum.held {
         return Kept {
             held: false,
             counts,
+            value: 0,
         };
     }
     Kept {
         held: true,
         counts: little_endian::bytes_of(sum.word),
+        value: sum.value,
     }
 }
 

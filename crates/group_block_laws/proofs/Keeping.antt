@@ -1,4 +1,4 @@
--- What an addition leaves as it was: counters that its slot is not in and, where its counter holds the sum, the layout. For any level.
+-- What an addition leaves as it was: counters that its slot is not in. For any level.
 use mathlib.Core.Path.{_≡_, refl, ap}
 use mathlib.Core.Bool.{Bool, true, false, cond, true≢false}
 use Prim.Native.Nat.{ℕ, suc, _+_, _-_, _^_, _<_}
@@ -77,26 +77,3 @@ add-keeps-others (split {n} l r) k a =
 pub add-other : {n : ℕ} (b b′ : Block n) (k j a : ℕ) → add b k a ≡ fits b′ → together (shape b′) k j ≡ false → counterAt b′ j ≡ counterAt b j
 unfolding Keeps
 add-other b b′ k j a e = (rw e at (add-keeps-others b k a)) j
-
--- an addition that its counter can hold changes the counter's value and nothing of the layout
-abbrev pub Stays : {n : ℕ} → Block n → ℕ → ℕ → Type 0
-Stays {n} b k a = (b′ : Block n) × (add b k a ≡ fits b′) × (shape b′ ≡ shape b) × (counterAt b′ k ≡ record { value = counterAt b k .value + a; level = counterAt b k .level })
-
-pub add-stays : {n : ℕ} (b : Block n) (k a : ℕ) → counterAt b k .value + a < cap (counterAt b k .level) → Stays b k a
-unfolding add join shape counterAt held
-add-stays {n} (counter v) k a h = (counter (v + a), rw (lt-ltb (v + a) (cap n) h), refl, refl)
-add-stays (split {n} l r) k a h = go (ltb k (2 ^ n)) refl h (λ h. add-stays l k a h) (λ h. add-stays r (k - 2 ^ n) a h)
-  where
-    at : Bool → Counter
-    at b = cond b (counterAt l k) (counterAt r (k - 2 ^ n))
-
-    go : (b : Bool) → ltb k (2 ^ n) ≡ b → at b .value + a < cap (at b .level)
-        → (counterAt l k .value + a < cap (counterAt l k .level) → Stays l k a)
-        → (counterAt r (k - 2 ^ n) .value + a < cap (counterAt r (k - 2 ^ n) .level) → Stays r (k - 2 ^ n) a)
-        → Stays (split l r) k a
-    go true e h p q =
-        let s = p h in
-        (split (s .0) r, rw (e, s .1), ap (λ (L : Layout n). halves L (shape r)) (s .2), rw e (s .3))
-    go false e h p q =
-        let s = q h in
-        (split l (s .0), rw (e, s .1), ap (λ (L : Layout n). halves (shape l) L) (s .2), rw e (s .3))

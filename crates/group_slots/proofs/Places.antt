@@ -96,17 +96,23 @@ value-is (split {n} l r) k f = elim (decLt k (2 ^ n)) [
       (value-is r (k - 2 ^ n) (f .1))
 ]
 
--- an addition that its counter can hold leaves the layout, and adds to the number at the counter's place
+-- an addition that its counter can hold leaves the layout, adds to the counter's value, and to the number at the counter's place
 abbrev pub InPlace : {n : ℕ} → Block n → ℕ → ℕ → Type 0
 InPlace {n} b k a = (b′ : Block n) × (add b k a ≡ fits b′) × (shape b′ ≡ shape b) × (numberOf b′ ≡ numberOf b + a * 2 ^ (8 * first b k))
+    × (counterAt b′ k ≡ record { value = counterAt b k .value + a; level = counterAt b k .level })
 
 pub add-in-place : {n : ℕ} (b : Block n) (k a : ℕ) → counterAt b k .value + a < cap (counterAt b k .level) → InPlace b k a
 unfolding add join shape numberOf first counterAt held cap
-add-in-place {n} (counter v) k a h = (counter (v + a), rw (lt-ltb (v + a) (cap n) h), refl, omega arith)
+add-in-place {n} (counter v) k a h = (counter (v + a), rw (lt-ltb (v + a) (cap n) h), refl, omega arith, refl)
 add-in-place (split {n} l r) k a h = elim (decLt k (2 ^ n)) [
   | yes m ↦
-      let s = add-in-place l k a (rw (in-left l r k m) at h) in
-      (split (s .0) r, rw (add-left l r k a m, s .1), ap (λ (L : Layout n). halves L (shape r)) (s .2), rw (first-left l r k m) (omega (arith, s .3)))
+      let s = add-in-place l k a (rw (in-left l r k m) at h) in (
+        split (s .0) r,
+        rw (add-left l r k a m, s .1),
+        ap (λ (L : Layout n). halves L (shape r)) (s .2),
+        rw (first-left l r k m) (omega (arith, s .3)),
+        rw (in-left (s .0) r k m, in-left l r k m) (s .4),
+      )
   | no m′ ↦
       let m : 2 ^ n ≤ k = omega arith in
       let s = add-in-place r (k - 2 ^ n) a (rw (in-right l r k m) at h) in (
@@ -114,6 +120,7 @@ add-in-place (split {n} l r) k a h = elim (decLt k (2 ^ n)) [
         rw (add-right l r k a m, s .1),
         ap (λ (L : Layout n). halves (shape l) L) (s .2),
         rw (first-right l r k m, s .3) (higher (numberOf r) (numberOf l) a (2 ^ n) (first r (k - 2 ^ n))),
+        rw (in-right l (s .0) k m, in-right l r k m) (s .4),
       )
 ]
   where

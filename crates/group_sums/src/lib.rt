@@ -34,27 +34,36 @@ pub fn counter_at(word: u64, merge: u8, slot: usize) -> Counter
     }
 }
 
-// An amount added to the counter that a slot is in, if the counter holds the sum; over elsewhere. The layout stays.
-pub fn add_in_place(word: u64, merge: u8, slot: usize, amount: u32) -> Summed
+// The count bytes, taken as one number, after an addition that its counter holds, and the counter's value then. Both 0 elsewhere.
+pub struct InPlace {
+    pub held: bool,
+    pub word: u64,
+    pub value: u64,
+}
+
+// An amount added to the counter that a slot is in, if the counter holds the sum. The layout stays.
+pub fn add_in_place(word: u64, merge: u8, slot: usize, amount: u32) -> InPlace
     requires { ⌜ valid 3 merge ≡ true ⌝ ∗ ⌜ slot < 8 ⌝ }
-    ensures { λ r. ⌜ r .over ≡ not (spec.holdsAt word merge slot amount) ⌝ }
-    ensures { λ r. ⌜ (r .over ≡ false → r ≡ summed (sum_spec.add (block 3 word merge) slot amount)) ⌝ }
+    ensures { λ r. ⌜ r .held ≡ spec.holdsAt word merge slot amount ⌝ }
+    ensures { λ r. ⌜ (r .held ≡ true → spec.Stays word merge slot amount (r .word) (r .value)) ⌝ }
 {
     let level = level_at(merge, slot);
     let at = place(level, slot);
-    let room = most(level) - value_at(word, level, at);
+    let before = value_at(word, level, at);
+    let room = most(level) - before;
     if room < amount as u64 {
-        return Summed {
-            over: true,
+        return InPlace {
+            held: false,
             word: 0,
-            merge: 0,
+            value: 0,
         };
     }
     let sum = word + ((amount as u64) << at);
-    Summed {
-        over: false,
+    let value = before + amount as u64;
+    InPlace {
+        held: true,
         word: sum,
-        merge,
+        value,
     }
 }
 

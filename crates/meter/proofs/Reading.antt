@@ -16,10 +16,11 @@ use Rattle.geometry.specs.Geometry.{stride}
 use Rattle.meter_memory.specs.Rows.{rowOf, ofRows, groupAt, least}
 use Rattle.meter_keys.specs.Keys.{keySlot}
 use Rattle.meter_row.specs.Row.{addedIn, updateStatus, readRow}
-use Rattle.meter_rows.proofs.Stored.{reads-same}
+use Rattle.meter_memory.proofs.Agree.{reads-same}
 use Rattle.geometry.proofs.Widths.{shape-good}
 use Rattle.meter.specs.Meter.{badCall, updated, readStatus, readValue, estimated}
 use Rattle.meter.proofs.Calls.{updated-rows, estimated-good}
+use Rattle.meter.proofs.Slots.{leftValue}
 use Rattle.meter.proofs.Memory.{Updated, update-accepted, update-group, rows-long}
 
 zeros : (s n r : ℕ) (memory : List ℕ) → earliest (ofRows (λ (r : ℕ) (row : List ℕ). 0) s n r memory) ≡ 0
@@ -49,32 +50,43 @@ module _ (d w : ℕ) (memory key : List ℕ) (amount : ℕ) (e : updated d w mem
   accepted : Updated d w memory key amount (updated d w memory key amount .memory)
   accepted = update-accepted d w memory key amount e
 
+  -- the group of the key's slot in a row that is left
+  row-group : (r : ℕ) → r < d
+      → groupAt w (rowOf w (updated d w memory key amount .memory) r) (keySlot basis w key r / 8) ≡ addedIn w (rowOf w memory r) (keySlot basis w key r) amount .group
+  unfolding addedIn
+  row-group r h =
+      let p = shape-good d w (length memory) (accepted .good) .1 in
+      ap (λ (x : List ℕ). groupAt w x (keySlot basis w key r / 8)) (accepted .row r h)
+      ∙ update-group w (p .0) key amount r (rowOf w memory r) (rows-long d w memory p r h)
+
   row-status : (r : ℕ) → r < d → readStatus w key r (rowOf w (updated d w memory key amount .memory) r) ≡ 0
   unfolding readStatus readRow addedIn
   row-status r h =
-      let p = shape-good d w (length memory) (accepted .good) .1 in
       let slot = keySlot basis w key r in
-      let row = rowOf w memory r in
-      ap (λ (x : List ℕ). read (groupAt w x (slot / 8)) slot .status) (accepted .row r h)
-      ∙ ap (λ (g : Group). read g slot .status) (update-group w (p .0) key amount r row (rows-long d w memory p r h))
-      ∙ read-added (groupAt w row (slot / 8)) slot amount (accepted .taken r h)
+      ap (λ (g : Group). read g slot .status) (row-group r h) ∙ read-added (groupAt w (rowOf w memory r) (slot / 8)) slot amount (accepted .taken r h)
 
   statuses : earliest (ofRows (readStatus w key) (stride w) d 0 (updated d w memory key amount .memory)) ≡ 0
   unfolding rowOf
   statuses =
-      ap earliest (reads-same (stride w) (readStatus w key) (λ (r : ℕ) (row : List ℕ). 0) d 0 (updated d w memory key amount .memory) (λ k h. rw (zero-add k) (row-status k h)))
-      ∙ zeros (stride w) d 0 (updated d w memory key amount .memory)
+      let after = updated d w memory key amount .memory in
+      ap earliest (reads-same (stride w) (readStatus w key) (λ (r : ℕ) (row : List ℕ). 0) d 0 after after (λ k h. rw (zero-add k) (row-status k h)))
+      ∙ zeros (stride w) d 0 after
 
-  pub estimate-after : badCall d w memory key ≡ 0
-      → estimated d w (updated d w memory key amount .memory) key .value ≡ least (ofRows (readValue w key) (stride w) d 0 (updated d w memory key amount .memory))
+  values : ofRows (leftValue w key amount) (stride w) d 0 memory ≡ ofRows (readValue w key) (stride w) d 0 (updated d w memory key amount .memory)
+  unfolding rowOf readValue readRow
+  values =
+      reads-same (stride w) (leftValue w key amount) (readValue w key) d 0 memory (updated d w memory key amount .memory)
+      (λ k h. rw (zero-add k) (ap (λ (g : Group). read g (keySlot basis w key k) .value) (sym (row-group k h))))
+
+  -- the least value that is left is the estimate of the memory as a caller has it
+  pub value-left : (m : List ℕ) (v : ℕ) → badCall d w memory key ≡ 0 → m ≡ updated d w memory key amount .memory
+      → v ≡ least (ofRows (leftValue w key amount) (stride w) d 0 memory) → v ≡ estimated d w m key .value
   unfolding answerOf
-  estimate-after b =
-      let values = least (ofRows (readValue w key) (stride w) d 0 (updated d w memory key amount .memory)) in
-      ap (λ (x : Answer). x .value)
-      (sym (estimated-good d w (updated d w memory key amount .memory) key (call-same d w memory (updated d w memory key amount .memory) key (accepted .long) b))
-      ∙ ap (λ (s : ℕ). answerOf s values) statuses)
-
-  -- of the memory as a caller has it
-  pub value-after : (m : List ℕ) (v : ℕ) → badCall d w memory key ≡ 0 → m ≡ updated d w memory key amount .memory
-      → v ≡ least (ofRows (readValue w key) (stride w) d 0 m) → v ≡ estimated d w m key .value
-  value-after m v b is h = rw is (rw is at h ∙ sym (estimate-after b))
+  value-left m v b is h =
+      let after = updated d w memory key amount .memory in
+      let least-read = least (ofRows (readValue w key) (stride w) d 0 after) in
+      rw is
+      (h
+      ∙ ap least values
+      ∙ ap (λ (x : Answer). x .value)
+      (ap (λ (s : ℕ). answerOf s least-read) (sym statuses) ∙ estimated-good d w after key (call-same d w memory after key (accepted .long) b)))

@@ -14,9 +14,13 @@ use Rattle.meter_memory.specs.Rows.{mapRows, ofRows, groupAt, leastOr, least}
 use Rattle.meter_keys.specs.Keys.{keySlot}
 use Rattle.meter_row.specs.Row.{addedIn, addedRow, updateStatus, updateRow, readRow}
 use Rattle.answer.proofs.Order.{earlier-none}
-use Rattle.meter_rows.specs.Slots.{addedStatus, slotAdded, slotStatus, slotValue}
-use Rattle.meter_rows.proofs.Stored.{reads-same, maps-same}
+use Rattle.meter_row.specs.Slots.{addedStatus, addedValue, slotAdded, slotStatus, slotValue}
+use Rattle.meter_memory.proofs.Agree.{reads-same, maps-same}
 use Rattle.meter.specs.Meter.{readStatus, readValue}
+
+-- the value of the key's counter that an update of row r leaves
+abbrev pub leftValue : ℕ → List ℕ → ℕ → ℕ → List ℕ → ℕ
+leftValue w key amount r row = read (addedIn w row (keySlot basis w key r) amount .group) (keySlot basis w key r) .value
 
 -- a memory of one row
 pub one-read : (f : ℕ → List ℕ → ℕ) (s : ℕ) (memory : List ℕ) → length memory ≡ s → ofRows f s 1 0 memory ≡ f 0 memory ∷ []
@@ -36,7 +40,7 @@ module _ (d w : ℕ) (memory key slots : List ℕ) {state : ℕ} (start : state 
       → ofRows (λ (r : ℕ) (row : List ℕ). f (getD slots r 0) row) (stride w) d 0 memory
       ≡ ofRows (λ (r : ℕ) (row : List ℕ). f (keySlot basis w key r) row) (stride w) d 0 memory
   reads-by-key f =
-      reads-same (stride w) (λ (r : ℕ) (row : List ℕ). f (getD slots r 0) row) (λ (r : ℕ) (row : List ℕ). f (keySlot basis w key r) row) d 0 memory
+      reads-same (stride w) (λ (r : ℕ) (row : List ℕ). f (getD slots r 0) row) (λ (r : ℕ) (row : List ℕ). f (keySlot basis w key r) row) d 0 memory memory
       (λ k h. ap (λ (s : ℕ). f s (take (stride w) (drop (k * stride w) memory))) (slot-at k h))
 
   pub maps-by-key : (f : ℕ → List ℕ → List ℕ)
@@ -55,6 +59,9 @@ module _ (d w : ℕ) (memory key slots : List ℕ) {state : ℕ} (start : state 
       → mapRows (slotAdded w slots amount) (stride w) d 0 memory ≡ mapRows (updateRow basis w key amount) (stride w) d 0 memory
   unfolding updateRow
   added-by-key amount = maps-by-key (λ (s : ℕ) (row : List ℕ). addedRow w row s amount)
+
+  pub left-by-key : (amount : ℕ) → least (ofRows (addedValue w slots amount) (stride w) d 0 memory) ≡ least (ofRows (leftValue w key amount) (stride w) d 0 memory)
+  left-by-key amount = ap least (reads-by-key (λ (s : ℕ) (row : List ℕ). read (addedIn w row s amount .group) s .value))
 
   pub read-status-by-key : earliest (ofRows (slotStatus w slots) (stride w) d 0 memory) ≡ earliest (ofRows (readStatus w key) (stride w) d 0 memory)
   unfolding readStatus readRow
@@ -94,9 +101,13 @@ module _ (d w : ℕ) (memory key : List ℕ) (one : d ≡ 1) (long : length memo
   unfolding readStatus readRow
   one-read-status = ap (λ (s : ℕ). read (groupAt w memory (s / 8)) s .status) at-basis ∙ one-earliest (readStatus w key)
 
+  one-least : (f : ℕ → List ℕ → ℕ) → f 0 memory ≡ least (ofRows f (stride w) d 0 memory)
+  unfolding least leastOr
+  one-least f = ap least (sym (one-read f (stride w) memory long)) ∙ ap (λ (n : ℕ). least (ofRows f (stride w) n 0 memory)) (sym one)
+
+  pub one-left : (amount : ℕ) → read (addedIn w memory slot amount .group) slot .value ≡ least (ofRows (leftValue w key amount) (stride w) d 0 memory)
+  one-left amount = ap (λ (s : ℕ). read (addedIn w memory s amount .group) s .value) at-basis ∙ one-least (leftValue w key amount)
+
   pub one-read-value : read (groupAt w memory (slot / 8)) slot .value ≡ least (ofRows (readValue w key) (stride w) d 0 memory)
-  unfolding readValue readRow least leastOr
-  one-read-value =
-      ap (λ (s : ℕ). read (groupAt w memory (s / 8)) s .value) at-basis
-      ∙ ap least (sym (one-read (readValue w key) (stride w) memory long))
-      ∙ ap (λ (n : ℕ). least (ofRows (readValue w key) (stride w) n 0 memory)) (sym one)
+  unfolding readValue readRow
+  one-read-value = ap (λ (s : ℕ). read (groupAt w memory (s / 8)) s .value) at-basis ∙ one-least (readValue w key)

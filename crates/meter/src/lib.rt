@@ -9,14 +9,7 @@ use hash::Hash;
 use meter_keys::key_slots;
 use meter_keys::row_slot;
 ghost use mathlib.Core.Path.{_≡_};
-ghost use mathlib.Core.Bool.{true};
-ghost use Prim.Native.Nat.{_/_, _<_, _≤_};
 ghost use lib.ListN.{length, replicate};
-ghost use Rattle.group.specs.Group as group;
-ghost use Rattle.geometry.specs.Geometry.{validWidth, RowsIn};
-ghost use Rattle.geometry.specs.Geometry as geometry;
-ghost use Rattle.meter_memory.specs.Rows.{groupAt, ofRows, least};
-ghost use Rattle.meter_rows.specs.Slots.{SlotsIn, slotValue};
 ghost use Rattle.meter.specs.Meter.{cleared, badCall, updated, estimated};
 ghost use Rattle.meter.specs.Meter as spec;
 
@@ -61,53 +54,22 @@ fn whole(bytes: &[u8]) -> &[u8]
     &bytes[0..bytes.len()]
 }
 
-// The counter's value in a meter of one row, where it is to be read.
-fn one_value(read: bool, memory: &[u8], w: usize, slot: usize) -> u64
-    requires { ⌜ validWidth w ≡ true ⌝ ∗ ⌜ length (now memory) ≡ geometry.stride w ⌝ ∗ ⌜ slot < w ⌝ }
-    ensures { λ v. ⌜ (read ≡ true → v ≡ group.read (groupAt w (now (memory .entry)) (slot / 8)) slot .value) ⌝ }
-{
-    if read {
-        let c = meter_row::read_row(memory, w, slot);
-        return c.value;
-    }
-    0
-}
-
-// The least of the counters' values in several rows, where they are to be read.
-fn least_value(read: bool, d: usize, w: usize, memory: &[u8], slots: &[usize; 8]) -> u64
-    requires { ⌜ 1 ≤ d ⌝ ∗ ⌜ RowsIn d w (length (now memory)) ⌝ ∗ ⌜ SlotsIn d w (now slots) ⌝ }
-    ensures { λ v. ⌜ (read ≡ true → v ≡ least (ofRows (slotValue w (now (slots .entry))) (geometry.stride w) d 0 (now (memory .entry)))) ⌝ }
-{
-    if read {
-        return meter_rows::least_rows(d, w, memory, slots);
-    }
-    0
-}
-
-// An update whose geometry and key length have passed; and the estimate that it leaves, if that is to be read. One function for both, so that
-// what it calls has one caller and is compiled into it.
-pub fn update_reading(
-    d: usize,
-    w: usize,
-    memory: &mut [u8],
-    key: &[u8],
-    amount: u32,
-    read: bool,
-) -> Answer
+// An update whose geometry and key length have passed; and the estimate that it leaves.
+pub fn update_reading(d: usize, w: usize, memory: &mut [u8], key: &[u8], amount: u32) -> Answer
     requires { ⌜ badCall d w (now memory) (now key) ≡ 0 ⌝ }
     ensures { λ r. ⌜ r .status ≡ updated d w (now (memory .entry)) (now (key .entry)) amount .answer .status ⌝ }
     ensures { λ r. ⌜ now (memory .exit) ≡ updated d w (now (memory .entry)) (now (key .entry)) amount .memory ⌝ }
-    ensures { λ r. ⌜ (read ≡ true → r .status ≡ 0 → r .value ≡ estimated d w (now (memory .exit)) (now (key .entry)) .value) ⌝ }
+    ensures { λ r. ⌜ (r .status ≡ 0 → r .value ≡ estimated d w (now (memory .exit)) (now (key .entry)) .value) ⌝ }
 {
     let bytes = whole(key);
     if d == 1 {
         let slot = row_slot(Hash::start(), w, bytes, 0);
-        let status = meter_row::update_one(memory, w, slot, amount);
-        return answer_of(status, one_value(read, memory, w, slot));
+        let one = meter_update::update_one(memory, w, slot, amount);
+        return answer_of(one.status, one.value);
     }
     let slots = key_slots(Hash::start(), w, bytes, d);
-    let status = meter_rows::update_rows(d, w, memory, &slots, amount);
-    answer_of(status, least_value(read, d, w, memory, &slots))
+    let all = meter_update::update_rows(d, w, memory, &slots, amount);
+    answer_of(all.status, all.value)
 }
 
 // An update whose geometry and key length have passed.
@@ -116,7 +78,7 @@ pub fn update_checked(d: usize, w: usize, memory: &mut [u8], key: &[u8], amount:
     ensures { λ r. ⌜ r ≡ updated d w (now (memory .entry)) (now (key .entry)) amount .answer ⌝ }
     ensures { λ r. ⌜ now (memory .exit) ≡ updated d w (now (memory .entry)) (now (key .entry)) amount .memory ⌝ }
 {
-    let u = update_reading(d, w, memory, key, amount, false);
+    let u = update_reading(d, w, memory, key, amount);
     answer_of(u.status, 0)
 }
 

@@ -1,2 +1,4 @@
 pub mod Lists
 pub mod Groups
+pub mod Gather
+pub mod Agree

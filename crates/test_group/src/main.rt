@@ -60,9 +60,9 @@ fn outcome(o: Outcome) {
 fn update(g: Group, slot: usize, amount: u32) -> Outcome {
     let mut row = [0u8; 36];
     meter_memory::store(&mut row, 32, 0, g);
-    let status = meter_row::update_one(&mut row, 32, slot % 8, amount);
+    let a = meter_update::update_one(&mut row, 32, slot % 8, amount);
     Outcome {
-        status,
+        status: a.status,
         group: meter_memory::load(&row, 32, 0),
     }
 }

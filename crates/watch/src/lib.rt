@@ -98,7 +98,7 @@ pub fn update(
         let asked = meter::estimate_checked(d, w, memory, key);
         return answer_of(earlier(asked.status, line), 0);
     }
-    let left = meter::update_reading(d, w, memory, key, amount, true);
+    let left = meter::update_reading(d, w, memory, key, amount);
     if left.status != 0 {
         return answer_of(left.status, 0);
     }

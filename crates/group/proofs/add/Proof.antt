@@ -10,7 +10,7 @@ add-in-place-requires c κs = search needs
 returns : tie.Need-returns
 returns c = let p = c .before .before .add-in-place in
     let a = c .before .before .before .args in
-    sym (added-kept (a .g) (a .slot) (a .amount) (p .result) (c .before .if1 .taken) (p .ensures .0) (p .ensures .1))
+    sym (added-kept (a .g) (a .slot) (a .amount) (p .result) (c .before .if1 .taken) (p .ensures .0) (p .ensures .1 .0))
 
 add-widening-requires : tie.Need-add-widening-requires
 add-widening-requires c κs = sym (c .before .add-in-place .ensures .0) ∙ c .if1 .left

@@ -1,14 +1,15 @@
-use mathlib.Core.Path.{_≡_, sym, ap, _∙_}
+use mathlib.Core.Path.{_≡_, refl, sym, ap, _∙_}
 use mathlib.Core.Bool.{Bool, true, false, not}
 use Prim.Native.Nat.{ℕ, _%_}
 use native.Mathlib.Omega.{arith}
 use borrow.Author.Tests.{not-true, not-false}
 use Rattle.group_layout.specs.Layout.{valid}
+use Rattle.group_block.specs.Block.{cap}
 use Rattle.group_sums.specs.Sums.{holdsAt}
 use Rattle.group.specs.declared.Outcome.{Outcome}
-use Rattle.group.specs.Group.{decode, added, holds}
+use Rattle.group.specs.Group.{decode, read, added, holds}
 use Rattle.group.specs.Stored.{stored}
-use Rattle.group.proofs.Laws.{added-summed, holds-invalid, holds-valid}
+use Rattle.group.proofs.Laws.{added-summed, holds-invalid, holds-valid, read-held}
 use borrow.Author.Needs.{needs}
 use Rattle.group.proofs.add_in_place.Statement.{statement}
 use Rattle.group.proofs.add_in_place.Tie as tie
@@ -30,11 +31,16 @@ module _ (d : tie.After-add-in-place) where
       holds-valid (s .args .g) (s .args .slot) (s .args .amount) (is-sane (n .before))
       ∙ ap (λ (x : ℕ). holdsAt x (s .args .g .merge) (s .args .slot % 8) (s .args .amount)) (sym (n .number-of .ensures))
 
-  sum-is : d .add-in-place .result .over ≡ false → stored (d .add-in-place .result) ≡ added (s .args .g) (s .args .slot) (s .args .amount)
+  sum-is : d .add-in-place .result .held ≡ true
+      → stored (record { over = false; word = d .add-in-place .result .word; merge = s .args .g .merge }) ≡ added (s .args .g) (s .args .slot) (s .args .amount)
   unfolding decode
-  sum-is e =
-      added-summed (s .args .g) (s .args .slot) (s .args .amount) (d .add-in-place .result) (is-sane (n .before)) e
-      (rw (← n .number-of .ensures) (d .add-in-place .ensures .1 e))
+  sum-is e = added-summed (s .args .g) (s .args .slot) (s .args .amount) _ (is-sane (n .before)) refl (rw (← n .number-of .ensures) (d .add-in-place .ensures .1 e .0))
+
+  value-is : d .add-in-place .result .held ≡ true → d .add-in-place .result .value ≡ read (added (s .args .g) (s .args .slot) (s .args .amount) .group) (s .args .slot) .value
+  unfolding decode cap
+  value-is e =
+      rw (n .number-of .ensures) at (d .add-in-place .ensures .1 e .1)
+      ∙ sym (read-held (s .args .g) (s .args .slot) (s .args .amount) (omega (arith, n .number-of .ensures)) (holds-is ∙ sym (d .add-in-place .ensures .0) ∙ e))
 
 is-valid-requires : tie.Need-is-valid-requires
 is-valid-requires c κs = search needs
@@ -50,17 +56,17 @@ add-in-place-requires : tie.Need-add-in-place-requires
 add-in-place-requires c κs = (is-sane (c .before), omega arith)
 
 returns-2 : tie.Need-returns-2
-returns-2 c = let d = c .before in
-    (sym (holds-is d ∙ not-true _ (sym (d .add-in-place .ensures .0) ∙ c .if2 .taken)), search needs)
+returns-2 c = let d = c .before .before in
+    (sym (holds-is d ∙ sym (d .add-in-place .ensures .0) ∙ not-true _ (c .if2 .taken)), search needs)
 
 bytes-of-requires : tie.Need-bytes-of-requires
 bytes-of-requires c κs = search needs
 
 returns-3 : tie.Need-returns-3
 unfolding stored
-returns-3 c = let d = c .before .before in
-    let e = c .before .if2 .left in
-    (sym (holds-is d ∙ not-false _ (sym (d .add-in-place .ensures .0) ∙ e)), c .bytes-of .ensures ∙ ap (λ (o : Outcome). o .group .counts) (sum-is d e))
+returns-3 c = let d = c .before .before .before in
+    let e = not-false _ (c .before .if2 .left) in
+    (sym (holds-is d ∙ sym (d .add-in-place .ensures .0) ∙ e), (c .bytes-of .ensures ∙ ap (λ (o : Outcome). o .group .counts) (sum-is d e), value-is d e))
 
 pub add-in-place-spec : {M : Type 1} → statement M
 add-in-place-spec =

@@ -5,6 +5,7 @@ use native.Mathlib.Nat.{mod-eq-of-lt, mod-lt}
 use native.Mathlib.Omega.{arith}
 use borrow.Author.Tests.{lt-ltb, le-ltb}
 use lib.Dec.{ltb}
+use Rattle.group_block.specs.declared.Counter.{Counter}
 use Rattle.group_block.specs.Block.{cap, block, counterAt}
 use Rattle.group_block.proofs.Laws.{cap-pos}
 use Rattle.group_sums.specs.Sums.{holdsAt}
@@ -13,7 +14,7 @@ use borrow.Author.Needs.{needs}
 use Rattle.group_sums.proofs.add_in_place.Statement.{statement}
 use Rattle.group_sums.proofs.add_in_place.Tie as tie
 
-module _ (c : tie.After-value-at) where
+module _ (c : tie.After-most) where
   abbrev p : tie.After-place
   p = c .before .before
 
@@ -31,26 +32,30 @@ module _ (c : tie.After-value-at) where
   level-is = has-level (s .args .word) (s .args .merge) (s .args .slot) (l .level-at .ensures .0)
 
   -- the counter's value is below its cap
-  value-lt : c .value-at .result < cap (l .level-at .result)
-  value-lt = omega (arith, c .value-at .ensures, mod-lt (s .args .word / 2 ^ p .place .result) (cap-pos (l .level-at .result)))
+  value-lt : c .before .value-at .result < cap (l .level-at .result)
+  value-lt = omega (arith, c .before .value-at .ensures, mod-lt (s .args .word / 2 ^ p .place .result) (cap-pos (l .level-at .result)))
 
-  holds-is : holdsAt (s .args .word) (s .args .merge) (s .args .slot) (s .args .amount) ≡ ltb (c .value-at .result + s .args .amount) (cap (l .level-at .result))
-  holds-is =
-      rw (counter-at (s .args .word) (s .args .merge) (s .args .slot) (l .level-at .result) (p .place .result) word-in (s .pre .1) level-is (p .place .ensures .0))
-      (ap (λ (x : ℕ). ltb (x + s .args .amount) (cap (l .level-at .result))) (sym (c .value-at .ensures)))
+  value-is : counterAt (block 3 (s .args .word) (s .args .merge)) (s .args .slot) .value ≡ c .before .value-at .result
+  value-is =
+      ap (λ (x : Counter). x .value)
+      (counter-at (s .args .word) (s .args .merge) (s .args .slot) (l .level-at .result) (p .place .result) word-in (s .pre .1) level-is (p .place .ensures .0))
+      ∙ sym (c .before .value-at .ensures)
 
-  holds-not : c .before .most .result - c .value-at .result < s .args .amount → holdsAt (s .args .word) (s .args .merge) (s .args .slot) (s .args .amount) ≡ false
+  holds-is : holdsAt (s .args .word) (s .args .merge) (s .args .slot) (s .args .amount) ≡ ltb (c .before .value-at .result + s .args .amount) (cap (l .level-at .result))
+  holds-is = rw (value-is, level-is)
+
+  holds-not : c .most .result - c .before .value-at .result < s .args .amount → holdsAt (s .args .word) (s .args .merge) (s .args .slot) (s .args .amount) ≡ false
   holds-not r =
-      holds-is ∙ le-ltb (c .value-at .result + s .args .amount) (cap (l .level-at .result)) (omega (arith, c .before .most .ensures, value-lt))
+      holds-is ∙ le-ltb (c .before .value-at .result + s .args .amount) (cap (l .level-at .result)) (omega (arith, c .most .ensures, value-lt))
 
   -- where the counter holds the sum
-  module _ (fits : s .args .amount ≤ c .before .most .result - c .value-at .result) where
+  module _ (fits : s .args .amount ≤ c .most .result - c .before .value-at .result) where
     small : s .args .word / 2 ^ p .place .result % cap (l .level-at .result) + s .args .amount < cap (l .level-at .result)
-    small = omega (arith, fits, c .value-at .ensures, c .before .most .ensures, value-lt)
+    small = omega (arith, fits, c .before .value-at .ensures, c .most .ensures, value-lt)
 
     holds-sum : holdsAt (s .args .word) (s .args .merge) (s .args .slot) (s .args .amount) ≡ true
     holds-sum =
-        holds-is ∙ lt-ltb (c .value-at .result + s .args .amount) (cap (l .level-at .result)) (omega (arith, c .before .most .ensures, value-lt))
+        holds-is ∙ lt-ltb (c .before .value-at .result + s .args .amount) (cap (l .level-at .result)) (omega (arith, c .most .ensures, value-lt))
 
     in-word : s .args .word + s .args .amount * 2 ^ p .place .result < 2 ^ 64
     in-word = sum-in (s .args .word) (s .args .merge) (s .args .slot) (l .level-at .result) (p .place .result) word-in (s .pre .1) level-is (p .place .ensures .0) (s .args .amount) small
@@ -64,17 +69,17 @@ level-at-requires c κs = search needs
 place-requires : tie.Need-place-requires
 place-requires c κs = search needs
 
-most-requires : tie.Need-most-requires
-most-requires c κs = search needs
-
 value-at-requires : tie.Need-value-at-requires
 value-at-requires c κs = search needs
 
+most-requires : tie.Need-most-requires
+most-requires c κs = search needs
+
 sub-room : tie.Need-sub-room
-sub-room c = omega (arith, value-lt c, c .before .most .ensures)
+sub-room c = omega (arith, value-lt c, c .most .ensures)
 
 returns : tie.Need-returns
-returns c = (sym (ap not (holds-not (c .before) (c .if1 .taken))), λ e. absurd (true≢false e))
+returns c = (sym (holds-not (c .before) (c .if1 .taken)), λ e. absurd (true≢false (sym e)))
 
 shl-sum : tie.Need-shl-sum
 shl-sum c = search needs
@@ -82,14 +87,19 @@ shl-sum c = search needs
 add-sum : tie.Need-add-sum
 add-sum c = omega (arith, shifted (c .before) (c .if1 .left), in-word (c .before) (c .if1 .left))
 
+add-value : tie.Need-add-value
+add-value c = search needs
+
 returns-2 : tie.Need-returns-2
 returns-2 c = let d = c .before in
     let a = s d in
     let fits = c .if1 .left in (
-      sym (ap not (holds-sum d fits)),
-      λ e.
-          rw (shifted d fits)
-          (in-place-is (a .args .word) (a .args .merge) (a .args .slot) (l d .level-at .result) (p d .place .result) (word-in d) (a .pre .1) (level-is d) (p d .place .ensures .0) (a .args .amount) (small d fits) (a .pre .0)),
+      sym (holds-sum d fits),
+      λ e. (
+        rw (shifted d fits)
+            (in-place-is (a .args .word) (a .args .merge) (a .args .slot) (l d .level-at .result) (p d .place .result) (word-in d) (a .pre .1) (level-is d) (p d .place .ensures .0) (a .args .amount) (small d fits) (a .pre .0)),
+        ap (λ (x : ℕ). x + a .args .amount) (sym (value-is d)),
+      ),
     )
 
 pub add-in-place-spec : {M : Type 1} → statement M
@@ -98,10 +108,11 @@ add-in-place-spec =
     (tie.spec
     level-at-requires
     place-requires
-    most-requires
     value-at-requires
+    most-requires
     sub-room
     returns
     shl-sum
     add-sum
+    add-value
     returns-2)

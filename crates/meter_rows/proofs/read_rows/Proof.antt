@@ -11,8 +11,8 @@ use Rattle.answer.specs.Order.{earlier, earliest}
 use Rattle.meter_memory.specs.Rows.{ofRows, groupAt, least, leastOr}
 use Rattle.meter_memory.specs.Rows.{rowOf}
 use Rattle.geometry.proofs.Widths.{one-row}
-use Rattle.meter_rows.proofs.Gather.{status-turn, status-end, least-start, least-turn, least-end, statuses-start}
-use Rattle.meter_rows.specs.Slots.{slotStatus, slotValue}
+use Rattle.meter_memory.proofs.Gather.{status-turn, status-end, least-start, least-turn, least-end, statuses-start}
+use Rattle.meter_row.specs.Slots.{slotStatus, slotValue}
 use Rattle.meter_rows.proofs.read_rows.Statement.{statement}
 use Rattle.meter_rows.proofs.read_rows.Tie as tie
 

@@ -11,7 +11,7 @@ use Rattle.answer.specs.Order.{earlier, earliest}
 use Rattle.meter_memory.specs.Rows.{ofRows}
 use Rattle.meter_union.specs.Union.{uniteStatus}
 use Rattle.geometry.proofs.Widths.{one-row}
-use Rattle.meter_rows.proofs.Gather.{status-turn, status-end, rows-start}
+use Rattle.meter_memory.proofs.Gather.{status-turn, status-end, rows-start}
 use Rattle.meter_rows.proofs.unite_status.Statement.{statement}
 use Rattle.meter_rows.proofs.unite_status.Tie as tie
 

@@ -10,7 +10,7 @@ use Rattle.answer.specs.Order.{earlier, earliest}
 use Rattle.meter_memory.specs.Rows.{ofRows, largest}
 use Rattle.meter_row.specs.Row.{widestStatus, widestRow}
 use Rattle.geometry.proofs.Widths.{one-row}
-use Rattle.meter_rows.proofs.Gather.{status-turn, status-end, level-turn, level-end, rows-start, levels-start}
+use Rattle.meter_memory.proofs.Gather.{status-turn, status-end, level-turn, level-end, rows-start, levels-start}
 use Rattle.meter_rows.proofs.widest_rows.Statement.{statement}
 use Rattle.meter_rows.proofs.widest_rows.Tie as tie
 

@@ -147,7 +147,7 @@ returns-4 c = let n = c .before .before .before in
     let left = u .update-reading in
     let p = watched-done (a .d) (a .w) (a .memory .now) (a .list .now) (a .key .now) (a .amount) (a .threshold) (passed e) (sym (own-line l) ∙ o .if2 .left) (sym (left .ensures .0) ∙ t .if3 .left) in
     let is = left .ensures .1 .0 in
-    let estimate = left .ensures .1 .1 refl (t .if3 .left) ∙ ap (λ (m : List ℕ). estimated (a .d) (a .w) m (a .key .now) .value) is in (
+    let estimate = left .ensures .1 .1 (t .if3 .left) ∙ ap (λ (m : List ℕ). estimated (a .d) (a .w) m (a .key .now) .value) is in (
       c .answer-of4 .ensures ∙ p .0,
       (is ∙ p .1 .0, n .note .ensures ∙ ap (λ (v : ℕ). encode (noted (a .key .now) v (a .threshold) (decode (a .list .now)))) estimate ∙ p .1 .1),
     )

@@ -9,9 +9,9 @@ use Rattle.group.specs.declared.Group.{Group}
 use Rattle.meter_memory.specs.Rows.{mapRows}
 use Rattle.geometry.proofs.Widths.{one-row}
 use Rattle.meter_memory.proofs.Lists.{lent, rowsFrom, rows-start, rows-turn, rows-end}
-use Rattle.meter_rows.proofs.Stored.{groupStored, stored-added}
-use Rattle.meter_rows.proofs.update_rows.Statement.{statement}
-use Rattle.meter_rows.proofs.update_rows.Tie as tie
+use Rattle.meter_update.proofs.Stored.{groupStored, stored-added}
+use Rattle.meter_update.proofs.update_rows.Statement.{statement}
+use Rattle.meter_update.proofs.update_rows.Tie as tie
 
 -- what stands for an element that is not there
 abbrev none : Group
@@ -29,7 +29,7 @@ abbrev μ-loop : tie.MeasureT-loop
 row-end : (c : tie.In-loop Inv-loop μ-loop) → c .before .loop .r * c .before .before .stride .result + c .before .before .stride .result ≤ length (c .before .loop .memory)
 row-end c =
     let s = c .before .before .before .before .before .before .before in
-    let i = one-row (s .args .d) (s .args .w) (c .before .loop .r) (s .pre .0) (c .loop-test .taken) in
+    let i = one-row (s .args .d) (s .args .w) (c .before .loop .r) (s .pre .1 .0) (c .loop-test .taken) in
     rw (c .before .before .stride .ensures) (omega (arith, i .2))
 
 try-rows-requires : tie.Need-try-rows-requires Inv-loop μ-loop
@@ -40,10 +40,10 @@ same-length c = search needs
 
 returns : tie.Need-returns Inv-loop μ-loop
 returns c = let t = c .before .try-rows in
-    (t .ensures .0, rw (ne-eqb (t .result .status) 0 (c .if1 .taken)))
+    (t .ensures .0, (t .ensures .1 .0, rw (ne-eqb (t .result .status) 0 (c .if1 .taken))))
 
 stride-requires : tie.Need-stride-requires Inv-loop μ-loop
-stride-requires c κs = c .before .before .before .before .pre .0 .0
+stride-requires c κs = c .before .before .before .before .pre .1 .0 .0
 
 loop-holds : tie.Need-loop-holds Inv-loop μ-loop
 loop-holds c = let a = c .before .before .before .before .before .args in
@@ -68,18 +68,18 @@ mul-update-row : tie.Need-mul-update-row Inv-loop μ-loop
 mul-update-row c = search needs
 
 element-copy-out-update-row : tie.Need-element-copy-out-update-row Inv-loop μ-loop
-element-copy-out-update-row c = omega (arith, c .before .before .before .before .before .before .before .before .pre .0 .1)
+element-copy-out-update-row c = omega (arith, c .before .before .before .before .before .before .before .before .pre .1 .0 .1)
 
 mul-update-row-2 : tie.Need-mul-update-row-2 Inv-loop μ-loop
 mul-update-row-2 c = search needs
 
 element-copy-out-update-row-2 : tie.Need-element-copy-out-update-row-2 Inv-loop μ-loop
-element-copy-out-update-row-2 c = omega (arith, c .before .before .before .before .before .before .before .before .before .pre .0 .1)
+element-copy-out-update-row-2 c = omega (arith, c .before .before .before .before .before .before .before .before .before .pre .1 .0 .1)
 
 update-row-requires : tie.Need-update-row-requires Inv-loop μ-loop
 update-row-requires c κs = let l = c .before .before .before in
     let s = l .before .before .before .before .before .before .before in
-    (s .pre .0 .0, (omega (arith, row-end l, l .before .before .stride .ensures), s .pre .1 (l .before .loop .r) (l .loop-test .taken)))
+    (s .pre .1 .0 .0, (omega (arith, row-end l, l .before .before .stride .ensures), s .pre .1 .1 (l .before .loop .r) (l .loop-test .taken)))
 
 add-r : tie.Need-add-r Inv-loop μ-loop
 add-r c = search needs
@@ -108,10 +108,13 @@ returns-2 c = let l = c .before .loop in
     let t = c .before .before .before .before .try-rows in
     let a = c .before .before .before .before .before .before .before .args in (
       sym (c .before .before .before .if1 .left) ∙ t .ensures .0,
-      sym (rows-end (groupStored (a .w) (a .slots .now) (t .result .groups) none) (stride .result) (a .d) (l .r) (l .memory) (omega arith))
-          ∙ l .inv .1
-          ∙ ap (λ (s : ℕ). mapRows (groupStored (a .w) (a .slots .now) (t .result .groups) none) s (a .d) 0 (a .memory .now)) (stride .ensures)
-          ∙ stored-added (a .d) (a .w) (a .memory .now) (a .slots .now) (a .amount) (t .result .groups) none (t .ensures .1),
+      (
+        t .ensures .1 .0,
+        sym (rows-end (groupStored (a .w) (a .slots .now) (t .result .groups) none) (stride .result) (a .d) (l .r) (l .memory) (omega arith))
+            ∙ l .inv .1
+            ∙ ap (λ (s : ℕ). mapRows (groupStored (a .w) (a .slots .now) (t .result .groups) none) s (a .d) 0 (a .memory .now)) (stride .ensures)
+            ∙ stored-added (a .d) (a .w) (a .memory .now) (a .slots .now) (a .amount) (t .result .groups) none (t .ensures .1 .1),
+      ),
     )
 
 pub update-rows-spec : {M : Type 1} → statement M

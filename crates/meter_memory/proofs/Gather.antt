@@ -1,15 +1,15 @@
 -- What is read of rows, gathered one by one: for any reading of a row.
 use mathlib.Core.Path.{_≡_, sym, ap, _∙_}
 use mathlib.Core.List.{List}
-use Prim.Native.Nat.{ℕ, _+_, _-_, _*_, _≤_, _<_, min, max}
+use Prim.Native.Nat.{ℕ, _+_, _-_, _*_, _≤_, _<_, _^_, min, max}
 use native.Mathlib.Nat.{max-zero}
 use native.Mathlib.Omega.{arith}
 use lib.ListN.{drop}
 use Rattle.geometry.specs.Geometry.{stride}
 use Rattle.answer.specs.Order.{earlier, earliest}
 use Rattle.meter_memory.specs.Rows.{rowOf, ofRows, leastOr, least, largest}
 use Rattle.answer.proofs.Order.{earlier-none, earlier-assoc}
 use Rattle.meter_memory.proofs.Lists.{rows-read, rows-read-none, rows-read-all}
 
 module _ (f : ℕ → List ℕ → ℕ) (w : ℕ) (d r : ℕ) (memory : List ℕ) where
   pub status-turn : (s x : ℕ) → r < d → x ≡ f r (rowOf w memory r)
@@ -49,6 +49,13 @@ module _ (f : ℕ → List ℕ → ℕ) (w d : ℕ) (memory : List ℕ) where
   pub least-end : (r v : ℕ) → d ≤ r → leastOr v (ofRows f (stride w) (d - r) r (drop (r * stride w) memory)) ≡ v
   unfolding leastOr
   least-end r v h = rw (rows-read-none f (stride w) d r (drop (r * stride w) memory) h)
+
+  -- from the largest number of 64 bits on, where row 0 has no larger
+  pub least-first : 1 ≤ d → f 0 (rowOf w memory 0) < 2 ^ 64 → leastOr (2 ^ 64 - 1) (ofRows f (stride w) d 0 memory) ≡ least (ofRows f (stride w) d 0 memory)
+  unfolding leastOr least rowOf
+  least-first h l =
+      let same : min (2 ^ 64 - 1) (f 0 (rowOf w memory 0)) ≡ f 0 (rowOf w memory 0) = omega (arith, l) in
+      rw (sym (rows-read-all f (stride w) d memory) ∙ rows-read f (stride w) d 0 memory h) (ap (λ (v : ℕ). leastOr v (ofRows f (stride w) (d - 1) 1 (drop (1 * stride w) memory))) same)
 
   pub statuses-start : 1 ≤ d → earlier (f 0 (rowOf w memory 0)) (earliest (ofRows f (stride w) (d - 1) 1 (drop (1 * stride w) memory))) ≡ earliest (ofRows f (stride w) d 0 memory)
   unfolding earliest rowOf

@@ -19,6 +19,10 @@ addedStatus w slots amount r row = addedIn w row (getD slots r 0) amount .status
 
 abbrev pub slotAdded : ℕ → List ℕ → ℕ → ℕ → List ℕ → List ℕ
 slotAdded w slots amount r row = addedRow w row (getD slots r 0) amount
+
+-- the value of the counter that an update of row r leaves
+abbrev pub addedValue : ℕ → List ℕ → ℕ → ℕ → List ℕ → ℕ
+addedValue w slots amount r row = read (addedIn w row (getD slots r 0) amount .group) (getD slots r 0) .value
 
 -- the rows that updates of d rows leave, and groups that are those updates', not yet stored
 abbrev pub addedRows : ℕ → ℕ → List ℕ → ℕ → List ℕ → List ℕ

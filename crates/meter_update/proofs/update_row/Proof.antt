@@ -2,8 +2,8 @@ use Prim.Native.Nat.{_/_}
 use native.Mathlib.Omega.{arith}
 use Rattle.geometry.proofs.Widths.{slot-in, group-in}
 use borrow.Author.Needs.{needs}
-use Rattle.meter_row.proofs.update_row.Statement.{statement}
-use Rattle.meter_row.proofs.update_row.Tie as tie
+use Rattle.meter_update.proofs.update_row.Statement.{statement}
+use Rattle.meter_update.proofs.update_row.Tie as tie
 
 store-requires : tie.Need-store-requires
 store-requires c κs = let a = c .before .before .args in
