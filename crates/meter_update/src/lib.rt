@@ -39,15 +39,11 @@ pub fn update_one(row: &mut [u8], w: usize, slot: usize, amount: u32) -> Answer
     let k = group::add_in_place(x, slot, amount);
     if k.held {
         let counts = k.counts;
-        update_row(
-            row,
-            w,
-            slot,
-            Group {
-                counts,
-                merge: x.merge,
-            },
-        );
+        let kept = Group {
+            counts,
+            merge: x.merge,
+        };
+        update_row(row, w, slot, kept);
         return Answer {
             status: 0,
             position: 0,
