@@ -1,12 +1,10 @@
 -- What an addition leaves as it was: counters that its slot is not in. For any level.
-use mathlib.Core.Path.{_≡_, refl, ap}
+use mathlib.Core.Path.{_≡_, refl}
 use mathlib.Core.Bool.{Bool, true, false, cond, true≢false}
-use Prim.Native.Nat.{ℕ, suc, _+_, _-_, _^_, _<_}
-use borrow.Author.Tests.{lt-ltb}
+use Prim.Native.Nat.{ℕ, suc, _+_, _-_, _^_}
 use lib.Dec.{ltb}
 use Rattle.group_layout.specs.Layout.{Layout, merged, halves}
-use Rattle.group_block.specs.declared.Counter.{Counter}
-use Rattle.group_block.specs.Block.{Block, counter, split, cap, shape, counterAt, total}
+use Rattle.group_block.specs.Block.{Block, counter, split, shape, counterAt, total}
 use Rattle.group_block.specs.Sum.{Sum, fits, over, held, join, add, sumTotal}
 use Rattle.group_block.proofs.Adding.{held-cases, add-halves}
 use Rattle.group_block_laws.specs.Least.{together}

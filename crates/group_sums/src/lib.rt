@@ -11,7 +11,7 @@ use group_levels::twins;
 use group_levels::value_at;
 ghost use mathlib.Core.Path.{_≡_};
 ghost use mathlib.Core.Bool.{true, false, not};
-ghost use Prim.Native.Nat.{_+_, _-_, _*_, _/_, _%_, _^_, _<_, _≤_};
+ghost use Prim.Native.Nat.{_+_, _-_, _/_, _%_, _^_, _<_, _≤_};
 ghost use lib.Dec.{ltb};
 ghost use Rattle.group_layout.specs.Layout.{layout, valid, levelOf};
 ghost use Rattle.group_block.specs.Block.{cap, block, counterAt};
