@@ -79,6 +79,7 @@ pub fn head_geometry(payload: u64) -> (usize, usize) {
 // Every call below lends the library what its slices point to, for the time of the call and no longer: pointer and length of a
 // slice are valid together, also of an empty one, whose pointer is not null and is not followed. A `&mut` slice overlaps no other.
 
+#[inline]
 fn call(f: impl FnOnce(*mut u64, *mut u64) -> u32) -> Answer {
     // Both are written by every call, whatever they were.
     let (mut place, mut figure) = (u64::MAX, u64::MAX);
@@ -94,6 +95,7 @@ pub fn clear(d: usize, w: usize, memory: &mut [u8]) -> Answer {
 
 /// Adds an amount to the key's counter in each row.
 #[must_use = "the call may be refused"]
+#[inline]
 pub fn update(d: usize, w: usize, memory: &mut [u8], key: &[u8], amount: u32) -> Answer {
     call(|place, figure| unsafe {
         ffi::meter_update(
@@ -112,6 +114,7 @@ pub fn update(d: usize, w: usize, memory: &mut [u8], key: &[u8], amount: u32) ->
 
 /// The least figure of the key's counters.
 #[must_use = "the call may be refused"]
+#[inline]
 pub fn estimate(d: usize, w: usize, memory: &[u8], key: &[u8]) -> Answer {
     call(|place, figure| unsafe {
         ffi::meter_estimate(d, w, memory.as_ptr(), memory.len(), key.as_ptr(), key.len(), place, figure)
@@ -200,6 +203,7 @@ pub fn feed_head(words: &[u32]) -> Answer {
 /// Carries out the record or the end of a feed that the words start with, after so many words of the feed. The figure of an asking
 /// record is the estimate.
 #[must_use = "the call may be refused"]
+#[inline]
 pub fn feed_record(d: usize, w: usize, memory: &mut [u8], before: u64, words: &[u32]) -> Answer {
     call(|place, figure| unsafe {
         ffi::meter_feed_record(
@@ -219,6 +223,7 @@ pub fn feed_record(d: usize, w: usize, memory: &mut [u8], before: u64, words: &[
 /// How many words the record or the end takes that the words start with, so that the next record is found behind it. Of one with a
 /// faulty word it says nothing.
 #[must_use = "it does nothing else"]
+#[inline]
 pub fn feed_taken(words: &[u32]) -> usize {
     unsafe { ffi::meter_feed_taken(words.as_ptr(), words.len()) }
 }
@@ -232,6 +237,7 @@ pub fn watch_clear(list: &mut [u8]) -> Answer {
 /// An update of a meter that a watch list takes note of, or no change of either: a listed key's estimate is renewed, and one that is
 /// not listed joins if its estimate is now at or above the threshold, or sets the mark where no place is free.
 #[must_use = "the call may be refused"]
+#[inline]
 pub fn watch_update(d: usize, w: usize, memory: &mut [u8], list: &mut [u8], key: &[u8], amount: u32, threshold: u64) -> Answer {
     call(|place, figure| unsafe {
         ffi::meter_watch_update(

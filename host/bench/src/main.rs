@@ -376,14 +376,15 @@ fn line_of_lists(name: &str, d: usize, calls: &Calls, lists: [Vec<u8>; 2]) {
 fn watched() {
     println!("\n| w 1024, Zipf, nanoseconds a call | update | through a list of 64 other keys | it adds | of 64 of another length | it adds | estimate | update on 4 rows |");
     println!("|---|---|---|---|---|---|---|---|");
-    // Keys of one length that differ in their last four bytes alone take the most work to tell apart.
+    // Long keys of one length that differ in the middle alone take the most work to tell apart.
     let alike: fn(&mut [u8]) = |key| {
-        let same = key.len() - 4;
-        key[..same].fill(b'k')
+        let middle = key.len() / 2 - 2;
+        key[..middle].fill(b'k');
+        key[middle + 4..].fill(b'k');
     };
     for (suffix, lengths, change) in [
         ("", &[4, 13, 37][..], (|_| {}) as fn(&mut [u8])),
-        (", alike but for 4 bytes", &[13, 37], alike),
+        (", alike but for 4 in the middle", &[13, 37], alike),
     ] {
         for &length in lengths {
             let calls = Calls::by(length, true, change);
