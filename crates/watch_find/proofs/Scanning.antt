@@ -1,125 +1,21 @@
--- Laws of what is counted of key lengths, and of keys compared.
+-- Laws of keys compared, and of places gone through.
 use mathlib.Core.Path.{_≡_, refl, sym, ap, _∙_}
-use mathlib.Core.Bool.{Bool, true, false, cond, _&&_, true≢false, and-eq-true-iff, and-false}
-use mathlib.Core.List.{List, [], _∷_, _++_}
+use mathlib.Core.Bool.{true, false, cond}
+use mathlib.Core.List.{List}
 use Prim.Native.Nat.{ℕ, zero, suc, _+_, _-_, _*_, _≤_, _<_}
-use native.Mathlib.Nat.{zero-add}
 use native.Mathlib.Numerals.{add-one}
-use native.Mathlib.Decide.{ℕ-discrete, decLe, decLt}
+use native.Mathlib.Decide.{ℕ-discrete, decLt}
 use native.Mathlib.Omega.{arith}
-use borrow.Author.Tests.{le-leb, lt-leb, lt-ltb, le-ltb, eq-eqb, ne-eqb}
-use lib.Dec.{eqb, leb, ltb}
-use lib.ListN.{length, getD, take, drop, drop-of-length-le, length-take, length-drop}
-use lib.Seq.{drop-cons, take-add, take-take, take-suc, take-all, getD-take, getD-drop}
+use lib.ListN.{length, getD, take, drop, length-take, length-drop}
+use lib.Seq.{take-add, take-take, take-suc, getD-take, getD-drop}
 use Rattle.laws.proofs.Lists.{Bytes, bytes-take, bytes-drop}
 use Rattle.little_endian.specs.Bytes.{number, bytes}
 use Rattle.little_endian.proofs.Bytes.{bytes-number}
 use Rattle.meter_keys.specs.Keys.{sameKey}
-use Rattle.meter_keys.proofs.Same.{key-same, key-differs}
-use Rattle.watch_list.specs.List.{Entry}
-use Rattle.watch_list.specs.Layout.{keysAt, listSize, keyBytes, placeAt, placesFrom, inUse, allZero, soundLengths}
+use Rattle.meter_keys.proofs.Same.{key-differs}
+use Rattle.watch_list.specs.Layout.{keysAt, listSize, keyBytes, placeAt, placesFrom}
 use Rattle.watch_list.specs.Parts.{indexOf}
-use Rattle.watch_find.specs.Scan.{sumOf, aboveAt, AllDiffer}
-
--- one length more, and none left
-module _ (f : ℕ → ℕ) (ns : List ℕ) (k : ℕ) where
-  pub sum-turn : k < length ns → sumOf f (drop k ns) ≡ f (getD ns k 0) + sumOf f (drop (k + 1) ns)
-  unfolding sumOf
-  sum-turn h = rw (drop-cons ns k 0 h, add-one k)
-
-  pub sum-end : length ns ≤ k → sumOf f (drop k ns) ≡ 0
-  unfolding sumOf
-  sum-end h = rw (drop-of-length-le ns {i = k} h)
-
-pub zero-turn : (ns : List ℕ) (k : ℕ) → k < length ns → getD ns k 0 ≡ 0 → allZero (drop k ns) ≡ allZero (drop (k + 1) ns)
-unfolding allZero
-zero-turn ns k h e = rw (drop-cons ns k 0 h, add-one k, e)
-
-pub zero-not : (ns : List ℕ) (k : ℕ) → k < length ns → (getD ns k 0 ≡ 0 → ⊥) → allZero (drop k ns) ≡ false
-unfolding allZero
-zero-not ns k h n = rw (drop-cons ns k 0 h) (go (getD ns k 0) n)
-  where
-    go : (m : ℕ) → (m ≡ 0 → ⊥) → allZero (m ∷ drop (suc k) ns) ≡ false
-    go zero n = absurd (n refl)
-    go (suc m) n = refl
-
-pub zero-end : (ns : List ℕ) (k : ℕ) → length ns ≤ k → allZero (drop k ns) ≡ true
-unfolding allZero
-zero-end ns k h = rw (drop-of-length-le ns {i = k} h)
-
--- each length: above a bound or not
-pub above-no : (bound n : ℕ) → n ≤ bound → aboveAt bound n ≡ 0
-unfolding aboveAt
-above-no bound n h = rw (le-ltb bound n h)
-
-pub above-yes : (bound n : ℕ) → bound < n → aboveAt bound n ≡ 1
-unfolding aboveAt
-above-yes bound n h = rw (lt-ltb bound n h)
-
--- where none is above 0 all are 0, and none is above any bound
-none-used : (ns : List ℕ) → sumOf (aboveAt 0) ns ≡ 0 → allZero ns ≡ true
-unfolding sumOf allZero
-none-used [] e = refl
-none-used (zero ∷ ns) e = none-used ns (omega (arith, above-no 0 0 (omega arith), e))
-none-used (suc n ∷ ns) e = absurd (omega (arith, above-yes 0 (suc n) (omega arith), e))
-
-zeros-none : (bound : ℕ) (ns : List ℕ) → allZero ns ≡ true → sumOf (aboveAt bound) ns ≡ 0
-unfolding sumOf allZero
-zeros-none bound [] e = refl
-zeros-none bound (zero ∷ ns) e = omega (arith, above-no bound 0 (omega arith), zeros-none bound ns e)
-zeros-none bound (suc n ∷ ns) e = absurd (true≢false (sym e))
-
--- as many as are in use cannot all lie before a place that is too early
-used-from : (ns : List ℕ) (k : ℕ) → sumOf (aboveAt 0) ns ≤ k + sumOf (aboveAt 0) (drop k ns)
-unfolding sumOf
-used-from ns zero = omega arith
-used-from [] (suc k) = omega arith
-used-from (zero ∷ ns) (suc k) = omega (arith, above-no 0 0 (omega arith), used-from ns k)
-used-from (suc n ∷ ns) (suc k) = omega (arith, above-yes 0 (suc n) (omega arith), used-from ns k)
-
--- a 0 and lengths after it: sound where they are all 0
-module _ (ns : List ℕ) where
-  zero-more : (bound : ℕ) → sumOf (aboveAt bound) (0 ∷ ns) ≡ sumOf (aboveAt bound) ns
-  unfolding sumOf
-  zero-more bound = omega (arith, above-no bound 0 (omega arith))
-
-  -- some is in use, so one is after the first c - 1
-  left-over : (c : ℕ) → sumOf (aboveAt 0) ns ≡ suc c → allZero (drop c ns) ≡ true → ⊥
-  left-over c e z = omega (arith, used-from ns c, zeros-none 0 (drop c ns) z)
-
-  some-left : (c : ℕ) → sumOf (aboveAt 0) ns ≡ c → allZero ns ≡ false → (b : Bool) → allZero (drop c (0 ∷ ns)) ≡ b → b ≡ false
-  some-left zero e n b f = absurd (true≢false (sym (none-used ns e) ∙ n))
-  some-left (suc c) e n true f = absurd (left-over c e f)
-  some-left (suc c) e n false f = refl
-
-  after-zero : (b : Bool) → allZero ns ≡ b → b ≡ (eqb (sumOf (aboveAt 64) (0 ∷ ns)) 0 && allZero (drop (sumOf (aboveAt 0) (0 ∷ ns)) (0 ∷ ns)))
-  unfolding allZero
-  after-zero true e =
-      rw (zero-more 64, zero-more 0, zeros-none 0 ns e, zeros-none 64 ns e) (sym e)
-  after-zero false e =
-      let f = some-left (sumOf (aboveAt 0) ns) refl e (allZero (drop (sumOf (aboveAt 0) ns) (0 ∷ ns))) refl in
-      rw (zero-more 64, zero-more 0, f, and-false (eqb (sumOf (aboveAt 64) ns) 0))
-
-pub sound-by : (ns : List ℕ) → soundLengths ns ≡ (eqb (sumOf (aboveAt 64) ns) 0 && allZero (drop (sumOf (aboveAt 0) ns) ns))
-unfolding soundLengths sumOf allZero
-sound-by [] = refl
-sound-by (zero ∷ ns) = after-zero ns (allZero ns) refl
-sound-by (suc n ∷ ns) =
-    let u : aboveAt 0 (suc n) + sumOf (aboveAt 0) ns ≡ suc (sumOf (aboveAt 0) ns) = omega (arith, above-yes 0 (suc n) (omega arith)) in
-    elim (decLe (suc n) 64) [
-      | yes l ↦
-          let f : aboveAt 64 (suc n) + sumOf (aboveAt 64) ns ≡ sumOf (aboveAt 64) ns = omega (arith, above-no 64 (suc n) l) in
-          rw (u, f, le-leb (suc n) 64 l) (sound-by ns)
-      | no l ↦ rw (u, lt-leb (suc n) 64 (omega arith), ne-eqb (aboveAt 64 (suc n) + sumOf (aboveAt 64) ns) 0 (λ z. omega (arith, above-yes 64 (suc n) (omega arith))))
-    ]
-
--- the places in use of sound lengths
-pub sound-uses : (ns : List ℕ) → soundLengths ns ≡ true → sumOf (aboveAt 0) ns ≡ inUse ns
-unfolding soundLengths sumOf inUse
-sound-uses [] e = refl
-sound-uses (zero ∷ ns) e = omega (arith, above-no 0 0 (omega arith), zeros-none 0 ns e)
-sound-uses (suc n ∷ ns) e =
-    omega (arith, above-yes 0 (suc n) (omega arith), sound-uses ns (and-eq-true-iff (leb (suc n) 64) (soundLengths ns) .0 e .1))
+use Rattle.watch_find.specs.Scan.{AllDiffer}
 
 -- two lists that agree so far, by words of eight bytes and by bytes
 module _ (xs ys : List ℕ) (long : length xs ≡ length ys) (at : ℕ) where

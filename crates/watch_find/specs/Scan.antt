@@ -1,22 +1,12 @@
--- What is counted of a list's key lengths. The code's own terms.
+-- Places of a list in which a key is looked for. The code's own terms.
 use Prim.Native.Nat.{ℕ, _+_, _-_, _≤_, _<_}
 use mathlib.Core.Path.{_≡_}
-use mathlib.Core.Bool.{true, false, cond}
-use mathlib.Core.List.{List, [], _∷_}
-use lib.Dec.{ltb}
+use mathlib.Core.Bool.{true, false}
+use mathlib.Core.List.{List}
 use lib.ListN.{length, getD}
 use Rattle.meter_keys.specs.Keys.{sameKey}
 use Rattle.watch_list.specs.Layout.{listSize, sound, placeAt, placesFrom}
 use Rattle.watch_list.specs.Parts.{KeyLong, indexOf}
-
--- what f gives for each length, summed
-unfoldable pub sumOf : (ℕ → ℕ) → List ℕ → ℕ
-sumOf f [] = 0
-sumOf f (n ∷ lengths) = f n + sumOf f lengths
-
--- 1 where a length is above a bound
-unfoldable pub aboveAt : ℕ → ℕ → ℕ
-aboveAt bound n = cond (ltb bound n) 1 0
 
 -- n places of a sound list, the first of which is place k, and a key with its length, its last and its first byte
 abbrev pub AllSought : List ℕ → ℕ → ℕ → List ℕ → ℕ → ℕ → ℕ → Type 0

@@ -1,77 +1,15 @@
-// What a watch list holds: whether its bytes are sound, how many places are in use, and where a key is.
+// Where a key is in a watch list.
 use little_endian::number_of;
 use meter_memory::eight;
 ghost use mathlib.Core.Path.{_≡_};
 ghost use mathlib.Core.Bool.{true};
-ghost use Prim.Native.Nat.{ℕ, _+_, _<_, _≤_};
+ghost use Prim.Native.Nat.{_+_, _<_, _≤_};
 ghost use lib.ListN.{length, getD, take, drop};
 ghost use Rattle.little_endian.specs.Bytes.{number};
 ghost use Rattle.meter_keys.specs.Keys.{sameKey};
-ghost use Rattle.watch_list.specs.Layout.{listSize, allZero, soundLengths, sound, placeAt, placesFrom};
+ghost use Rattle.watch_list.specs.Layout.{listSize, placeAt, placesFrom};
 ghost use Rattle.watch_list.specs.Parts.{indexOf, Holds, KeyLong};
-ghost use Rattle.watch_find.specs.Scan.{sumOf, aboveAt, AllSought, AllDiffer, Past};
-
-// Whether a key length is above a bound: 1 or 0.
-fn above(n: u8, bound: u8) -> u8
-    ensures { λ r. ⌜ (r ≡ aboveAt bound n) × (r ≤ 1) ⌝ }
-{
-    if bound < n { 1 } else { 0 }
-}
-
-// How many of 64 key lengths are above a bound: those in use are above 0. Without a branch, so that the compiler takes many at once.
-fn count_above(lengths: &[u8], bound: u8) -> u8
-    requires { ⌜ length (now lengths) ≡ 64 ⌝ }
-    ensures { λ r. ⌜ (r ≡ sumOf (aboveAt bound) (now (lengths .entry))) × (r ≤ 64) ⌝ }
-{
-    let mut n = 0u8;
-    for k in 0..64 {
-        n = n + above(lengths[k], bound);
-    }
-    n
-}
-
-// Whether the lengths from one on are 0.
-fn zero_from(lengths: &[u8], first: usize) -> bool
-    requires { ⌜ length (now lengths) ≡ 64 ⌝ ∗ ⌜ first ≤ 64 ⌝ }
-    ensures { λ r. ⌜ r ≡ allZero (drop first (now (lengths .entry))) ⌝ }
-{
-    for k in first..64 {
-        if lengths[k] != 0 {
-            return false;
-        }
-    }
-    true
-}
-
-// Whether nothing breaks 64 key lengths: none is above 64, and after as many as are not 0 there are zeros.
-fn sound_lengths(lengths: &[u8]) -> bool
-    requires { ⌜ length (now lengths) ≡ 64 ⌝ }
-    ensures { λ r. ⌜ r ≡ soundLengths (now (lengths .entry)) ⌝ }
-{
-    if count_above(lengths, 64) != 0 {
-        return false;
-    }
-    zero_from(lengths, wide(count_above(lengths, 0)))
-}
-
-// Whether nothing breaks a list's layout.
-pub fn is_sound(list: &[u8]) -> bool
-    requires { ⌜ length (now list) ≡ listSize ⌝ }
-    ensures { λ r. ⌜ r ≡ sound (now (list .entry)) ⌝ }
-{
-    if !sound_lengths(&list[0..64]) {
-        return false;
-    }
-    list[64] <= 1
-}
-
-// How many places of a sound list are in use.
-pub fn in_use(list: &[u8]) -> usize
-    requires { ⌜ length (now list) ≡ listSize ⌝ ∗ ⌜ sound (now list) ≡ true ⌝ }
-    ensures { λ r. ⌜ Holds (now (list .entry)) r ⌝ }
-{
-    wide(count_above(&list[0..64], 0))
-}
+ghost use Rattle.watch_find.specs.Scan.{AllSought, AllDiffer, Past};
 
 fn word_at(bytes: &[u8], at: usize) -> u64
     requires { ⌜ at + 8 ≤ length (now bytes) ⌝ }

@@ -1,8 +1,8 @@
 use mathlib.Core.Path.{sym}
 use native.Mathlib.Omega.{arith}
-use Rattle.watch_find.proofs.Scanning.{above-yes, above-no}
-use Rattle.watch_find.proofs.above.Statement.{statement}
-use Rattle.watch_find.proofs.above.Tie as tie
+use Rattle.watch_sound.proofs.Lengths.{above-yes, above-no}
+use Rattle.watch_sound.proofs.above.Statement.{statement}
+use Rattle.watch_sound.proofs.above.Tie as tie
 
 returns : tie.Need-returns
 returns c = (sym (above-yes _ _ (c .if1 .taken)), omega arith)
