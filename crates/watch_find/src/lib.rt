@@ -9,7 +9,7 @@ ghost use Rattle.little_endian.specs.Bytes.{number};
 ghost use Rattle.meter_keys.specs.Keys.{sameKey};
 ghost use Rattle.watch_list.specs.Layout.{listSize, placeAt, placesFrom};
 ghost use Rattle.watch_list.specs.Parts.{indexOf, Holds, KeyLong};
-ghost use Rattle.watch_find.specs.Scan.{AllSought, AllDiffer, Past};
+ghost use Rattle.watch_find.specs.Scan.{Sought, AllDiffer, Past};
 
 fn word_at(bytes: &[u8], at: usize) -> u64
     requires { ⌜ at + 8 ≤ length (now bytes) ⌝ }
@@ -60,7 +60,7 @@ struct Probe {
 
 // Whether a place cannot have a key, by these. Where the byte at its last differs, the place has another key or one of another length.
 fn differs(list: &[u8], k: usize, key: &[u8], p: Probe) -> bool
-    requires { ⌜ AllSought (now list) k 1 (now key) (p .size) (p .last) (p .first) ⌝ }
+    requires { ⌜ Sought (now list) (now key) p ⌝ ∗ ⌜ k + 1 ≤ 64 ⌝ }
     ensures { λ r. ⌜ (r ≡ true → AllDiffer (now (list .entry)) k 1 (now (key .entry))) ⌝ }
 {
     if list[64 + k * 64 + key.len()] != p.last {
@@ -74,7 +74,7 @@ fn differs(list: &[u8], k: usize, key: &[u8], p: Probe) -> bool
 
 // Whether none of two, four or eight places can have a key: eight to a turn of a loop, which the compiler goes through without a jump.
 fn two_differ(list: &[u8], k: usize, key: &[u8], p: Probe) -> bool
-    requires { ⌜ AllSought (now list) k 2 (now key) (p .size) (p .last) (p .first) ⌝ }
+    requires { ⌜ Sought (now list) (now key) p ⌝ ∗ ⌜ k + 2 ≤ 64 ⌝ }
     ensures { λ r. ⌜ (r ≡ true → AllDiffer (now (list .entry)) k 2 (now (key .entry))) ⌝ }
 {
     if !differs(list, k, key, p) {
@@ -84,7 +84,7 @@ fn two_differ(list: &[u8], k: usize, key: &[u8], p: Probe) -> bool
 }
 
 fn four_differ(list: &[u8], k: usize, key: &[u8], p: Probe) -> bool
-    requires { ⌜ AllSought (now list) k 4 (now key) (p .size) (p .last) (p .first) ⌝ }
+    requires { ⌜ Sought (now list) (now key) p ⌝ ∗ ⌜ k + 4 ≤ 64 ⌝ }
     ensures { λ r. ⌜ (r ≡ true → AllDiffer (now (list .entry)) k 4 (now (key .entry))) ⌝ }
 {
     if !two_differ(list, k, key, p) {
@@ -94,7 +94,7 @@ fn four_differ(list: &[u8], k: usize, key: &[u8], p: Probe) -> bool
 }
 
 fn eight_differ(list: &[u8], k: usize, key: &[u8], p: Probe) -> bool
-    requires { ⌜ AllSought (now list) k 8 (now key) (p .size) (p .last) (p .first) ⌝ }
+    requires { ⌜ Sought (now list) (now key) p ⌝ ∗ ⌜ k + 8 ≤ 64 ⌝ }
     ensures { λ r. ⌜ (r ≡ true → AllDiffer (now (list .entry)) k 8 (now (key .entry))) ⌝ }
 {
     if !four_differ(list, k, key, p) {
