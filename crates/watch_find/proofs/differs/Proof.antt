@@ -5,7 +5,7 @@ use borrow.Author.Tests.{not-true, eqb-false}
 use lib.ListN.{length, getD}
 use Rattle.watch_list.specs.Layout.{keysAt}
 use Rattle.watch_list.proofs.Places.{length-short}
-use Rattle.watch_find.proofs.Scanning.{other-length, other-byte, other-at}
+use Rattle.watch_key.proofs.Keys.{other-length, other-byte, other-at}
 use borrow.Author.Needs.{needs}
 use Rattle.watch_find.proofs.differs.Statement.{statement}
 use Rattle.watch_find.proofs.differs.Tie as tie

@@ -4,10 +4,10 @@ use Prim.Native.Nat.{ℕ, _+_, _-_, _*_}
 use native.Mathlib.Omega.{arith}
 use lib.ListN.{length, take, drop}
 use Rattle.meter_keys.specs.Keys.{sameKey}
-use Rattle.watch_find.proofs.Scanning.{key-of-place, other-length}
+use Rattle.watch_key.proofs.Keys.{key-of-place, other-length}
 use borrow.Author.Needs.{needs}
-use Rattle.watch_find.proofs.has_key.Statement.{statement}
-use Rattle.watch_find.proofs.has_key.Tie as tie
+use Rattle.watch_key.proofs.has_key.Statement.{statement}
+use Rattle.watch_key.proofs.has_key.Tie as tie
 
 shared-slice-read-wide : tie.Need-shared-slice-read-wide
 shared-slice-read-wide c = search needs

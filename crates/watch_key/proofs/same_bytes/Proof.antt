@@ -9,10 +9,10 @@ use mathlib.Core.List.{List}
 use Rattle.little_endian.specs.Bytes.{number}
 use Rattle.meter_keys.specs.Keys.{sameKey}
 use Rattle.meter_keys.proofs.Same.{key-same, key-differs}
-use Rattle.watch_find.proofs.Scanning.{word-turn, byte-turn}
+use Rattle.watch_key.proofs.Keys.{word-turn, byte-turn}
 use borrow.Author.Needs.{needs}
-use Rattle.watch_find.proofs.same_bytes.Statement.{statement}
-use Rattle.watch_find.proofs.same_bytes.Tie as tie
+use Rattle.watch_key.proofs.same_bytes.Statement.{statement}
+use Rattle.watch_key.proofs.same_bytes.Tie as tie
 
 abbrev Inv-loop : tie.InvT-loop
 Inv-loop a b words i₀ i = (i ≤ words) × (words ≡ length a / 8) × (length a ≡ length b) × (take (i * 8) a ≡ take (i * 8) b)

@@ -1,8 +1,8 @@
 use mathlib.Core.Path.{ap, _∙_}
 use Rattle.little_endian.specs.Bytes.{number}
 use borrow.Author.Needs.{needs}
-use Rattle.watch_find.proofs.word_at.Statement.{statement}
-use Rattle.watch_find.proofs.word_at.Tie as tie
+use Rattle.watch_key.proofs.word_at.Statement.{statement}
+use Rattle.watch_key.proofs.word_at.Tie as tie
 
 eight-requires : tie.Need-eight-requires
 eight-requires c κs = search needs
