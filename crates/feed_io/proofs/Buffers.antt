@@ -5,10 +5,10 @@ use mathlib.Core.Bool.{Bool, true, false, true≢false}
 use mathlib.Core.List.{List, [], _++_, append-nil}
 use Prim.Native.Nat.{ℕ, _+_, _-_, _≤_, _<_}
 use native.Mathlib.Nat.{sub-zero}
-use native.Mathlib.Decide.{decLt}
 use native.Mathlib.Omega.{arith}
-use lib.ListN.{length, take, drop, take-append-drop, length-take, length-drop, length-append, drop-of-length-le}
-use lib.Seq.{take-take, take-at, drop-at, drop-drop, take-nil, length-take-le, take-add}
+use lib.ListN.{length, take, drop, take-append-drop, length-drop, length-append}
+use lib.Seq.{take-take, take-at, drop-drop, length-take-le}
+use Rattle.laws.proofs.Lists.{drop-take}
 use Rattle.feed_text.specs.declared.text.Text.{Text}
 use Rattle.feed_text.specs.Text.{content}
 use Rattle.feed_io.specs.declared.input.Input.{Input}
@@ -18,21 +18,10 @@ use Rattle.feed_io.specs.Buffers.{Within, unused, Held, advanced, Filled
 pub unused-length : (i : Input) (buffer : List ℕ) → Within i buffer → length (unused i buffer) ≡ i .end - i .start
 unused-length i buffer h = length-take-le (i .end - i .start) (drop (i .start) buffer) (omega (arith, length-drop (i .start) buffer))
 
--- the bytes after the first n
-drop-take : (n m : ℕ) (xs : List ℕ) → drop n (take (n + m) xs) ≡ take m (drop n xs)
-drop-take n m xs =
-    elim (decLt n (length xs)) [
-      | yes l ↦ ap (drop n) (take-add n m xs) ∙ drop-at (take n xs) (take m (drop n xs)) n (length-take-le n xs (omega arith))
-      | no l ↦
-          drop-of-length-le (take (n + m) xs) {i = n} (omega (arith, length-take (n + m) xs))
-          ∙ sym (take-nil m) ∙ ap (take m) (sym (drop-of-length-le xs {i = n} (omega arith)))
-    ]
-
 pub advanced-is : (i : Input) (n : ℕ) (buffer : List ℕ) → i .start + n ≤ i .end → unused (advanced i n) buffer ≡ drop n (unused i buffer)
 advanced-is i n buffer h =
-    let e : n + (i .end - (i .start + n)) ≡ i .end - i .start = omega arith in
-    ap (take (i .end - (i .start + n))) (sym (drop-drop n (i .start) buffer)) ∙ sym (drop-take n (i .end - (i .start + n)) (drop (i .start) buffer))
-    ∙ ap (λ (k : ℕ). drop n (take k (drop (i .start) buffer))) e
+    ap (take (i .end - (i .start + n))) (sym (drop-drop n (i .start) buffer))
+    ∙ sym (drop-take n (i .end - (i .start + n)) (i .end - i .start) (drop (i .start) buffer) (omega arith))
 
 -- nothing is read
 pub held : (n : ℕ) (i : Input) (buffer : List ℕ) → Within i buffer → (n ≤ i .end - i .start) ⊎ (i .more ≡ false) → Refilled n i buffer i buffer × Held n i buffer

@@ -1,13 +1,13 @@
 -- Lists of bytes, and copies.
-use mathlib.Core.Path.{_≡_}
-use mathlib.Core.List.{List, _++_}
-use Prim.Native.Nat.{ℕ, _+_, _<_}
-use native.Mathlib.Nat.{zero-add}
+use mathlib.Core.Path.{_≡_, sym, ap, _∙_}
+use mathlib.Core.List.{List, [], _∷_, _++_}
+use Prim.Native.Nat.{ℕ, zero, suc, _+_, _<_}
+use native.Mathlib.Nat.{zero-add, add-zero}
 use native.Mathlib.Numerals.{add-one}
 use native.Mathlib.Decide.{decLt}
 use native.Mathlib.Omega.{arith}
 use lib.ListN.{length, getD, take, drop, set, length-take, List·getD-eq-default}
-use lib.Seq.{getD-drop, getD-take, paste-suc}
+use lib.Seq.{take-nil, getD-drop, getD-take, paste-suc}
 
 -- every element is a byte
 abbrev pub Bytes : List ℕ → Type 0
@@ -22,6 +22,13 @@ bytes-take n xs b = λ i. elim (decLt i n) [
   | yes l ↦ rw (getD-take n xs i 0 l) (b i)
   | no l ↦ rw (List·getD-eq-default (take n xs) 0 {n = i} (omega (arith, length-take n xs))) (omega arith)
 ]
+
+-- what is left of the first m elements after the first k
+pub drop-take : (k n m : ℕ) (xs : List ℕ) → m ≡ n + k → drop k (take m xs) ≡ take n (drop k xs)
+drop-take zero n m xs e = ap (λ (i : ℕ). take i xs) (e ∙ add-zero n)
+drop-take (suc k) n zero xs e = absurd (omega arith)
+drop-take (suc k) n (suc m) [] e = sym (take-nil n)
+drop-take (suc k) n (suc m) (x ∷ xs) e = drop-take k n m xs (omega arith)
 
 -- one element more of a copy from the front
 pub copy-more : (s d : List ℕ) (i : ℕ) → i < length s → i < length d → set (take i s ++ drop i d) i (getD s i 0) ≡ take (i + 1) s ++ drop (i + 1) d

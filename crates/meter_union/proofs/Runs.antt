@@ -1,16 +1,15 @@
 -- Runs of unmerged groups in two rows: their unions are accepted, and where none is merged they are made side by side.
 use mathlib.Core.Path.{_≡_, refl, sym, ap, ap₂, _∙_}
 use mathlib.Core.Bool.{Bool, true, false, cond, not, and-eq-true-iff}
-use mathlib.Core.List.{List, [], _∷_, _++_, append-assoc, append-nil}
+use mathlib.Core.List.{List, _++_, append-assoc, append-nil}
 use Prim.Native.Nat.{ℕ, zero, suc, _+_, _-_, _*_, _/_, _≤_, _<_}
-use native.Mathlib.Nat.{add-zero}
 use native.Mathlib.Omega.{arith}
 use borrow.Author.Tests.{not-true, eqb-true}
 use borrow.Rule.Slice.PartMut.{putMid, post-is}
 use lib.Dec.{eqb}
 use lib.ListN.{length, getD, take, drop, length-append, length-drop, take-append-drop}
-use lib.Seq.{length-take-le, take-nil, take-at, drop-at, drop-drop, getD-take, getD-drop, take-take, take-add}
-use Rattle.laws.proofs.Lists.{Bytes, bytes-drop, bytes-take}
+use lib.Seq.{length-take-le, take-at, drop-at, drop-drop, getD-take, getD-drop, take-take, take-add}
+use Rattle.laws.proofs.Lists.{Bytes, bytes-drop, bytes-take, drop-take}
 use Rattle.group.specs.declared.Group.{Group}
 use Rattle.group.specs.Group.{unitedGroups}
 use Rattle.group.proofs.Laws.{Eight}
@@ -76,12 +75,6 @@ status-none w row source v l m b c e =
     (eight-of w g source c (i .0) (omega (arith, stride-is w))))
 
 -- count bytes taken apart
-drop-take : (k n m : ℕ) (xs : List ℕ) → m ≡ n + k → drop k (take m xs) ≡ take n (drop k xs)
-drop-take zero n m xs e = ap (λ (i : ℕ). take i xs) (e ∙ add-zero n)
-drop-take (suc k) n zero xs e = absurd (omega arith)
-drop-take (suc k) n (suc m) [] e = sym (take-nil n)
-drop-take (suc k) n (suc m) (x ∷ xs) e = drop-take k n m xs (omega arith)
-
 counts-first : (n g : ℕ) (row : List ℕ) → take 8 (countsOf (suc n) g row) ≡ take 8 (drop (8 * g) row)
 counts-first n g row = take-take 8 (8 * suc n) (drop (8 * g) row) (omega arith)
 

@@ -1,19 +1,19 @@
 -- What each call answers and leaves, by the tests that led there.
 use mathlib.Core.Path.{_≡_, refl, sym, ap, _∙_}
-use mathlib.Core.Bool.{Bool, true, false, _&&_, and-eq-true-iff}
+use mathlib.Core.Bool.{Bool, true, false}
 use mathlib.Core.List.{List, [], _∷_}
 use mathlib.Core.Logic.{_⊎_, inl, inr}
-use Prim.Native.Nat.{ℕ, zero, suc, _≤_}
-use native.Mathlib.Decide.{ℕ-discrete}
+use Prim.Native.Nat.{ℕ}
 use native.Mathlib.Omega.{arith}
-use borrow.Author.Tests.{eqb-true, leb-true, eq-eqb, ne-eqb}
-use lib.Dec.{eqb, leb}
+use borrow.Author.Tests.{ne-eqb}
+use lib.Dec.{leb}
 use lib.ListN.{length, replicate}
-use Rattle.answer.specs.Answers.{answerOf, leaves, finish}
+use Rattle.answer.specs.Numbers.{invalidContent}
+use Rattle.answer.specs.Answers.{answerOf, leaves}
 use Rattle.answer.specs.Order.{unless, firstOf, placeIn, earlier, earliest}
-use Rattle.answer.proofs.Order.{earlier-none, none-earlier, first-stop, first-skip, first-one, none-first}
+use Rattle.answer.proofs.Order.{earlier-none, none-earlier, first-rest, first-part, first-one, first-stop, first-skip, none-first}
 use Rattle.answer.proofs.Answers.{refusing, accepting, finish-kept}
-use Rattle.geometry.specs.Checks.{badDepth, badWidth, badLength, badShape, badKey}
+use Rattle.geometry.specs.Checks.{badShape, badKey}
 use Rattle.meter.specs.Meter.{badCall, updated, estimated}
 use Rattle.meter.proofs.Calls.{call-key}
 use Rattle.meter.proofs.Refusals.{refused-as-estimated}
@@ -21,64 +21,53 @@ use Rattle.watch_list.specs.List.{takenOff}
 use Rattle.watch_list.specs.Layout.{listSize, sound, encode, decode}
 use Rattle.watch_list.specs.Parts.{KeyLong}
 use Rattle.watch.specs.Watch.{badList, brokenList, badThreshold, listCleared, badLines, watchStatus, notedIn, watched, badRemoval, removed}
+use Rattle.watch.proofs.Lines.{list-long, key-long, arguments-none}
 
--- a line that does not apply
-pub holds-by : (b : Bool) (n : ℕ) → (n ≡ 0 → ⊥) → unless b n ≡ 0 → b ≡ true
-holds-by true n h e = refl
-holds-by false n h e = absurd (h e)
-
-pub list-long : (list : List ℕ) → badList list ≡ 0 → length list ≡ listSize
-list-long list e = eqb-true (length list) listSize (holds-by (eqb (length list) listSize) 3 (λ z. omega arith) e)
-
-pub list-sound : (list : List ℕ) → brokenList list ≡ 0 → sound list ≡ true
-list-sound list e = holds-by (sound list) 5 (λ z. omega arith) e
-
-pub key-long : (key : List ℕ) → badKey (length key) ≡ 0 → KeyLong key
-key-long key e =
-    let p = and-eq-true-iff (leb 1 (length key)) (leb (length key) 64) .0 (holds-by (leb 1 (length key) && leb (length key) 64) 4 (λ z. omega arith) e) in
-    (leb-true 1 (length key) (p .0), leb-true (length key) 64 (p .1))
-
--- a line of a list's own, and that of a threshold: 5 or 11
-own-lines : (a b : Bool) (line : ℕ) → line ≡ earlier (unless a 5) (unless b 11) → (line ≡ 0 → ⊥) → (line ≡ 5) ⊎ (line ≡ 11)
+-- 5 comes before 11, and one of the two is what a line other than 0 is
+pub five-first : (b : Bool) → earlier 5 (unless b 11) ≡ 5
 unfolding earlier placeIn
+five-first true = refl
+five-first false = refl
+
+own-lines : (a b : Bool) (line : ℕ) → line ≡ earlier (unless a 5) (unless b 11) → (line ≡ 0 → ⊥) → (line ≡ 5) ⊎ (line ≡ 11)
+unfolding earlier
 own-lines true true line e h = absurd (h e)
 own-lines true false line e h = inr e
-own-lines false true line e h = inl e
-own-lines false false line e h = inl e
+own-lines false b line e h = inl (e ∙ five-first b)
 
 -- clearing
 module _ (list : List ℕ) where
   pub cleared-bad : (s : ℕ) → s ≡ badList list → (s ≡ 0 → ⊥) → (answerOf s 0 ≡ listCleared list .answer) × (list ≡ listCleared list .memory)
   unfolding listCleared
-  cleared-bad s e h = refusing s (badList list) (replicate (length list) 0) list (sym e) h
+  cleared-bad s e h = refusing s (badList list) _ list (sym e) h
 
   pub cleared-good : badList list ≡ 0 → (answerOf 0 0 ≡ listCleared list .answer) × (replicate (length list) 0 ≡ listCleared list .memory)
   unfolding listCleared
   cleared-good e = accepting (badList list) (replicate (length list) 0) list e
 
--- lines 1 to 4, one by one
+-- lines 3 and 4, and with them 1 and 2
+module _ (list key : List ℕ) where
+  pub arguments-list : (badList list ≡ 0 → ⊥) → badList list ≡ firstOf (badList list ∷ badKey (length key) ∷ [])
+  arguments-list h = sym (first-stop (badList list) (badKey (length key) ∷ []) h)
+
+  pub arguments-key : badList list ≡ 0 → badKey (length key) ≡ firstOf (badList list ∷ badKey (length key) ∷ [])
+  arguments-key e = sym (first-skip (badList list) (badKey (length key) ∷ []) e ∙ first-one (badKey (length key)))
+
 module _ (d w : ℕ) (memory list key : List ℕ) where
-  pub lines-shape : (badShape d w (length memory) ≡ 0 → ⊥) → badLines d w memory list key ≡ badShape d w (length memory)
+  pub lines-shape : (badShape d w (length memory) ≡ 0 → ⊥) → badShape d w (length memory) ≡ badLines d w memory list key
   unfolding badLines
-  lines-shape h = first-stop (badShape d w (length memory)) (badList list ∷ badKey (length key) ∷ []) h
+  lines-shape h = sym (first-stop (badShape d w (length memory)) (badList list ∷ badKey (length key) ∷ []) h)
 
-  pub lines-list : badShape d w (length memory) ≡ 0 → (badList list ≡ 0 → ⊥) → badLines d w memory list key ≡ badList list
+  pub lines-arguments : badShape d w (length memory) ≡ 0 → firstOf (badList list ∷ badKey (length key) ∷ []) ≡ badLines d w memory list key
   unfolding badLines
-  lines-list e h = first-skip (badShape d w (length memory)) (badList list ∷ badKey (length key) ∷ []) e ∙ first-stop (badList list) (badKey (length key) ∷ []) h
+  lines-arguments e = sym (first-skip (badShape d w (length memory)) (badList list ∷ badKey (length key) ∷ []) e)
 
-  pub lines-key : badShape d w (length memory) ≡ 0 → badList list ≡ 0 → badLines d w memory list key ≡ badKey (length key)
+  pub lines-good : badLines d w memory list key ≡ 0 → (badCall d w memory key ≡ 0) × (length list ≡ listSize) × KeyLong key
   unfolding badLines
-  lines-key e f =
-      first-skip (badShape d w (length memory)) (badList list ∷ badKey (length key) ∷ []) e ∙ first-skip (badList list) (badKey (length key) ∷ []) f ∙ first-one (badKey (length key))
-
-  module _ (good : badLines d w memory list key ≡ 0) where
-    pub lines-good : (badCall d w memory key ≡ 0) × (badList list ≡ 0) × (badKey (length key) ≡ 0)
-    unfolding badLines
-    lines-good =
-        let p = none-first (badShape d w (length memory)) (badList list ∷ badKey (length key) ∷ []) good in
-        let q = none-first (badList list) (badKey (length key) ∷ []) (p .1) in
-        let k = sym (first-one (badKey (length key))) ∙ q .1 in
-        (sym (call-key d w memory key (p .0)) ∙ k, q .0, k)
+  lines-good e =
+      let p = none-first (badShape d w (length memory)) (badList list ∷ badKey (length key) ∷ []) e in
+      let q = arguments-none list key (p .1) in
+      (sym (call-key d w memory key (p .0)) ∙ q .1, list-long list (q .0), key-long key (q .1))
 
   -- an update through a list
   module _ (amount threshold : ℕ) where
@@ -156,30 +145,21 @@ module _ (d w : ℕ) (memory list key : List ℕ) where
 
 -- taking a key off
 module _ (list key : List ℕ) where
-  pub removal-list : (badList list ≡ 0 → ⊥) → badRemoval list key ≡ badList list
-  unfolding badRemoval
-  removal-list h = first-stop (badList list) (badKey (length key) ∷ brokenList list ∷ []) h
+  pub removed-bad : (s : ℕ) → s ≡ firstOf (badList list ∷ badKey (length key) ∷ []) → (s ≡ 0 → ⊥) → (answerOf s 0 ≡ removed list key .answer) × (list ≡ removed list key .memory)
+  unfolding removed badRemoval
+  removed-bad s e h =
+      refusing s (badRemoval list key) (encode (takenOff key (decode list))) list
+      (first-part (badList list ∷ badKey (length key) ∷ []) (brokenList list ∷ []) (omega arith) ∙ sym e) h
 
-  pub removal-key : badList list ≡ 0 → (badKey (length key) ≡ 0 → ⊥) → badRemoval list key ≡ badKey (length key)
-  unfolding badRemoval
-  removal-key e h = first-skip (badList list) (badKey (length key) ∷ brokenList list ∷ []) e ∙ first-stop (badKey (length key)) (brokenList list ∷ []) h
+  module _ (good : firstOf (badList list ∷ badKey (length key) ∷ []) ≡ 0) where
+    by-content : badRemoval list key ≡ brokenList list
+    unfolding badRemoval
+    by-content = first-rest (badList list ∷ badKey (length key) ∷ []) (brokenList list ∷ []) good ∙ first-one (brokenList list)
 
-  pub removal-broken : badList list ≡ 0 → badKey (length key) ≡ 0 → badRemoval list key ≡ brokenList list
-  unfolding badRemoval
-  removal-broken e f =
-      first-skip (badList list) (badKey (length key) ∷ brokenList list ∷ []) e ∙ first-skip (badKey (length key)) (brokenList list ∷ []) f ∙ first-one (brokenList list)
+    pub removed-broken : sound list ≡ false → (answerOf invalidContent 0 ≡ removed list key .answer) × (list ≡ removed list key .memory)
+    unfolding removed
+    removed-broken e = refusing invalidContent (badRemoval list key) (encode (takenOff key (decode list))) list (by-content ∙ rw e) (λ z. omega arith)
 
-  pub removal-good : badRemoval list key ≡ 0 → (badList list ≡ 0) × (badKey (length key) ≡ 0) × (brokenList list ≡ 0)
-  unfolding badRemoval
-  removal-good e =
-      let p = none-first (badList list) (badKey (length key) ∷ brokenList list ∷ []) e in
-      let q = none-first (badKey (length key)) (brokenList list ∷ []) (p .1) in
-      (p .0, q .0, sym (first-one (brokenList list)) ∙ q .1)
-
-  pub removed-bad : (s : ℕ) → s ≡ badRemoval list key → (s ≡ 0 → ⊥) → (answerOf s 0 ≡ removed list key .answer) × (list ≡ removed list key .memory)
-  unfolding removed
-  removed-bad s e h = refusing s (badRemoval list key) (encode (takenOff key (decode list))) list (sym e) h
-
-  pub removed-good : badRemoval list key ≡ 0 → (answerOf 0 0 ≡ removed list key .answer) × (encode (takenOff key (decode list)) ≡ removed list key .memory)
-  unfolding removed
-  removed-good e = accepting (badRemoval list key) (encode (takenOff key (decode list))) list e
+    pub removed-good : sound list ≡ true → (answerOf 0 0 ≡ removed list key .answer) × (encode (takenOff key (decode list)) ≡ removed list key .memory)
+    unfolding removed
+    removed-good e = accepting (badRemoval list key) (encode (takenOff key (decode list))) list (by-content ∙ rw e)

@@ -1,16 +1,15 @@
 -- What the calls of a watch list leave, by whether they are accepted.
 use mathlib.Core.Path.{_≡_, refl, sym, ap, _∙_}
-use mathlib.Core.Bool.{Bool, true, false}
+use mathlib.Core.Bool.{true, false}
 use mathlib.Core.List.{List, [], _∷_}
 use Prim.Native.Nat.{ℕ, zero, suc, _≤_}
-use native.Mathlib.Omega.{arith}
 use native.Mathlib.Decide.{ℕ-discrete}
-use borrow.Author.Tests.{eqb-true, eq-eqb, leb-true, le-leb}
-use lib.Dec.{eqb, leb}
+use borrow.Author.Tests.{eq-eqb, le-leb}
+use lib.Dec.{eqb}
 use lib.ListN.{length, replicate}
 use Rattle.answer.specs.declared.Answer.{Answer}
 use Rattle.answer.specs.Answers.{leaves, finish}
-use Rattle.answer.specs.Order.{unless, firstOf, earlier, earliest}
+use Rattle.answer.specs.Order.{firstOf, earlier, earliest}
 use Rattle.answer.proofs.Answers.{status-is, left-after, finish-kept}
 use Rattle.answer.proofs.Order.{first-one, first-stop, first-skip, none-first, earlier-none, none-earlier}
 use Rattle.geometry.specs.Checks.{badShape, badKey}
@@ -18,19 +17,8 @@ use Rattle.meter.specs.Meter.{badCall, updated}
 use Rattle.meter.proofs.Calls.{call-shape-bad, call-key, updated-bad}
 use Rattle.watch_list.specs.List.{takenOff}
 use Rattle.watch_list.specs.Layout.{listSize, sound, encode, decode}
+use Rattle.watch.proofs.Lines.{list-long as long-list, list-sound as sound-list, threshold-positive, arguments-none}
 use Rattle.watch.specs.Watch.{badList, brokenList, badThreshold, listCleared, badLines, watchStatus, notedIn, watched, badRemoval, removed}
-
--- what a test asks for holds where its line does not apply
-pub none-unless : (b : Bool) (n : ℕ) → unless b (suc n) ≡ 0 → b ≡ true
-none-unless true n e = refl
-none-unless false n e = absurd (omega arith)
-
--- a list that no line applies to
-good-list : (list : List ℕ) → badList list ≡ 0 → length list ≡ listSize
-good-list list e = eqb-true (length list) listSize (none-unless (eqb (length list) listSize) 2 e)
-
-sound-list : (list : List ℕ) → brokenList list ≡ 0 → sound list ≡ true
-sound-list list e = none-unless (sound list) 4 e
 
 -- a cleared list is what steps start from
 pub cleared-is : (list : List ℕ) → length list ≡ listSize → listCleared list .memory ≡ replicate listSize 0
@@ -60,17 +48,17 @@ module _ (d w : ℕ) (memory list key : List ℕ) (amount threshold : ℕ) where
       let rest = earliest (updated d w memory key amount .answer .status ∷ brokenList list ∷ badThreshold threshold ∷ []) in
       let p = none-first (badLines d w memory list key) (rest ∷ []) s in
       let q = none-first (badShape d w (length memory)) (badList list ∷ badKey (length key) ∷ []) (p .0) in
-      let r = none-first (badList list) (badKey (length key) ∷ []) (q .1) in
+      let r = arguments-none list key (q .1) in
       let t = none-earlier (updated d w memory key amount .answer .status) (earliest (brokenList list ∷ badThreshold threshold ∷ [])) (sym (first-one rest) ∙ p .1) in
       let u = none-earlier (brokenList list) (earliest (badThreshold threshold ∷ [])) (t .1) in
       let v = none-earlier (badThreshold threshold) 0 (u .1) in
       record {
         shape = q .0;
-        long = good-list list (r .0);
-        key-good = sym (first-one (badKey (length key))) ∙ r .1;
+        long = long-list list (r .0);
+        key-good = r .1;
         update = t .0;
         list-sound = sound-list list (u .0);
-        positive = leb-true 1 threshold (none-unless (leb 1 threshold) 10 (v .0));
+        positive = threshold-positive threshold (v .0);
         memory-is = left-after (watchStatus d w memory list key amount threshold) (updated d w memory key amount .memory) memory s;
         list-is = left-after (watchStatus d w memory list key amount threshold) (notedIn d w (updated d w memory key amount .memory) list key threshold) list s;
       }
@@ -123,7 +111,7 @@ module _ (list key : List ℕ) where
       let p = none-first (badList list) (badKey (length key) ∷ brokenList list ∷ []) s in
       let q = none-first (badKey (length key)) (brokenList list ∷ []) (p .1) in
       record {
-        long = good-list list (p .0);
+        long = long-list list (p .0);
         key-good = q .0;
         list-sound = sound-list list (sym (first-one (brokenList list)) ∙ q .1);
         list-is = left-after tests (encode (takenOff key (decode list))) list s;

@@ -5,12 +5,15 @@ use answer::answer_of;
 use answer::earlier;
 use geometry::bad_key;
 use geometry::bad_shape;
-use watch_find::in_use;
-use watch_find::is_sound;
+use watch_sound::usage_of;
 ghost use mathlib.Core.Path.{_≡_};
+ghost use mathlib.Core.List.{[], _∷_};
 ghost use lib.ListN.{length};
-ghost use Rattle.watch_list.specs.Layout.{listSize};
-ghost use Rattle.watch.specs.Watch.{badList, brokenList, badThreshold, listCleared, badLines, watched, badRemoval, removed};
+ghost use Rattle.answer.specs.Numbers.{invalidContent};
+ghost use Rattle.answer.specs.Order as order;
+ghost use Rattle.answer.specs.Order.{unless, firstOf};
+ghost use Rattle.geometry.specs.Checks.{badKey};
+ghost use Rattle.watch.specs.Watch.{badList, badThreshold, listCleared, badLines, watched, removed};
 
 // The bytes of a list.
 const LIST_SIZE: usize = 4673;
@@ -25,21 +28,13 @@ fn bad_list(list: &[u8]) -> u8
     0
 }
 
-// Line 5 of a list.
-fn broken_list(list: &[u8]) -> u8
-    requires { ⌜ length (now list) ≡ listSize ⌝ }
-    ensures { λ r. ⌜ r ≡ brokenList (now (list .entry)) ⌝ }
+// Lines 5 and 11: of a list, by whether it is sound, and of a threshold.
+fn bad_content(sound: bool, threshold: u64) -> u8
+    ensures { λ r. ⌜ r ≡ order.earlier (unless sound invalidContent) (badThreshold threshold) ⌝ }
 {
-    if is_sound(list) {
-        return 0;
+    if !sound {
+        return answer::INVALID_CONTENT;
     }
-    answer::INVALID_CONTENT
-}
-
-// Line 11.
-fn bad_threshold(threshold: u64) -> u8
-    ensures { λ r. ⌜ r ≡ badThreshold threshold ⌝ }
-{
     if threshold < 1 {
         return answer::ZERO_THRESHOLD;
     }
@@ -59,6 +54,17 @@ pub fn clear(list: &mut [u8]) -> Answer
     answer_of(0, 0)
 }
 
+// Lines 3 and 4 of a list and a key.
+fn bad_arguments(list: &[u8], key: &[u8]) -> u8
+    ensures { λ r. ⌜ r ≡ firstOf (badList (now (list .entry)) ∷ badKey (length (now (key .entry))) ∷ []) ⌝ }
+{
+    let long = bad_list(list);
+    if long != 0 {
+        return long;
+    }
+    bad_key(key.len())
+}
+
 // Lines 1 to 4 of an update through a list.
 fn bad_lines(d: usize, w: usize, memory: &[u8], list: &[u8], key: &[u8]) -> u8
     ensures { λ r. ⌜ r ≡ badLines d w (now (memory .entry)) (now (list .entry)) (now (key .entry)) ⌝ }
@@ -67,11 +73,7 @@ fn bad_lines(d: usize, w: usize, memory: &[u8], list: &[u8], key: &[u8]) -> u8
     if shape != 0 {
         return shape;
     }
-    let long = bad_list(list);
-    if long != 0 {
-        return long;
-    }
-    bad_key(key.len())
+    bad_arguments(list, key)
 }
 
 // Updates a meter, and notes the estimate that the update leaves in the list. Both are tested before either is written. Where the list is
@@ -93,7 +95,8 @@ pub fn update(
     if bad != 0 {
         return answer_of(bad, 0);
     }
-    let line = earlier(broken_list(list), bad_threshold(threshold));
+    let found = usage_of(list);
+    let line = bad_content(found.sound, threshold);
     if line != 0 {
         let asked = meter::estimate_checked(d, w, memory, key);
         return answer_of(earlier(asked.status, line), 0);
@@ -102,23 +105,8 @@ pub fn update(
     if left.status != 0 {
         return answer_of(left.status, 0);
     }
-    watch_places::note(list, in_use(list), key, left.value, threshold);
+    watch_places::note(list, found.places, key, left.value, threshold);
     answer_of(0, 0)
-}
-
-// Lines 3, 4 and 5 of taking a key off.
-fn bad_removal(list: &[u8], key: &[u8]) -> u8
-    ensures { λ r. ⌜ r ≡ badRemoval (now (list .entry)) (now (key .entry)) ⌝ }
-{
-    let long = bad_list(list);
-    if long != 0 {
-        return long;
-    }
-    let short = bad_key(key.len());
-    if short != 0 {
-        return short;
-    }
-    broken_list(list)
 }
 
 // Takes a key off a list.
@@ -126,10 +114,14 @@ pub fn remove(list: &mut [u8], key: &[u8]) -> Answer
     ensures { λ r. ⌜ r ≡ removed (now (list .entry)) (now (key .entry)) .answer ⌝ }
     ensures { λ r. ⌜ now (list .exit) ≡ removed (now (list .entry)) (now (key .entry)) .memory ⌝ }
 {
-    let bad = bad_removal(list, key);
+    let bad = bad_arguments(list, key);
     if bad != 0 {
         return answer_of(bad, 0);
     }
-    watch_places::take_off(list, in_use(list), key);
+    let found = usage_of(list);
+    if !found.sound {
+        return answer_of(answer::INVALID_CONTENT, 0);
+    }
+    watch_places::take_off(list, found.places, key);
     answer_of(0, 0)
 }

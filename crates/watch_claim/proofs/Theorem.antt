@@ -1,14 +1,13 @@
 -- The claim, proved of every list of updates through a watch list and takings off.
 use mathlib.Core.Path.{_≡_, refl, sym, ap, subst, _∙_}
-use mathlib.Core.Bool.{Bool, true, false, cond, not, _&&_, _||_, true≢false, and-eq-true-iff}
+use mathlib.Core.Bool.{Bool, true, false, cond, not, _&&_, _||_, true≢false}
 use mathlib.Core.List.{List, [], _∷_}
 use Prim.Native.Nat.{ℕ, zero, suc, _^_, _≤_, _<_}
 use native.Mathlib.Omega.{arith}
-use borrow.Author.Tests.{eqb-true, leb-true}
+use borrow.Author.Tests.{eqb-true}
 use lib.Dec.{eqb, leb}
 use lib.ListN.{length, replicate}
 use Rattle.geometry.specs.Geometry.{validDepth, validWidth}
-use Rattle.geometry.specs.Checks.{badKey}
 use Rattle.meter.specs.Meter.{updated, estimated}
 use Rattle.meter_keys.specs.Keys.{sameKey}
 use Rattle.meter_keys.proofs.Same.{key-same}
@@ -16,7 +15,8 @@ use Rattle.watch_list.specs.List.{Watch, listed, noted, clearPlace, takenOff}
 use Rattle.watch_list.specs.Layout.{listSize, sound, encode, decode}
 use Rattle.watch_list.proofs.Lists.{Each, same-sym, by-test, decode-encode, encode-long, encode-sound, cleared, cleared-bytes}
 use Rattle.watch.specs.Watch.{notedIn, watched}
-use Rattle.watch.proofs.Laws.{none-unless, Accepted, watched-accepted, watched-kept, removed-accepted, removed-kept}
+use Rattle.watch.proofs.Lines.{key-long}
+use Rattle.watch.proofs.Laws.{Accepted, watched-accepted, watched-kept, removed-accepted, removed-kept}
 use Rattle.traffic.specs.Traffic.{amountSum, keyTotal, lower}
 use Rattle.traffic.specs.Calls.{watch, traffic, after as afterCall, run, done, Faithful, Listed}
 use Rattle.traffic.proofs.Theorem.{answers, estimate-small}
@@ -24,12 +24,6 @@ use Rattle.watch_claim.specs.Steps.{Step, update, remove, keyOf, State, 
 use Rattle.watch_claim.specs.Claim.{takenOffSince, lastEstimate, Once, joins, joinOrder, findsFull, foundFull, Claim, WatchClaim, EqualBytes}
 use Rattle.watch_claim.proofs.Entrywise.{Entered, passes, changed, entered, passes-is}
 use Rattle.watch_claim.proofs.Holding.{Good, good-formed, good-canonical, Holding, orderNow, refused-holding, noted-holding, off-holding}
-
--- a key that line 4 does not apply to
-good-length : (n : ℕ) → badKey n ≡ 0 → (1 ≤ n) × (n ≤ 64)
-good-length n e =
-    let p = and-eq-true-iff (leb 1 n) (leb n 64) .0 (none-unless (leb 1 n && leb n 64) 3 e) in
-    (leb-true 1 n (p .0), leb-true n 64 (p .1))
 
 -- a refused step leaves memory and list
 kept-state : (step : Step) (s : State) → eqb (status step s) 0 ≡ false → stepped step s ≡ s
@@ -227,7 +221,7 @@ module _ (d w t : ℕ) (vd : validDepth d ≡ true) (vw : validWidth w ≡ true)
       noted-now : Holding t (noted key value t before) (total d w (step ∷ steps)) (Right (step ∷ steps)) (λ k. takenOffSince d w k (step ∷ steps))
           (orderNow key (before .entries) (noted key value t before .entries) (joinOrder d w steps)) (cond (findsFull d w t steps step) 1 (foundFull d w t steps))
       noted-now =
-          let n = good-length (length key) (passed .key-good) in
+          let n = key-long key (passed .key-good) in
           rw full-is
           (noted-holding t before (total d w steps) (Right steps) (λ k. takenOffSince d w k steps) (joinOrder d w steps) (foundFull d w t steps) (i .holding) key value (n .0) (n .1) small
           (total d w (step ∷ steps)) above others (Right (step ∷ steps)) (above, sym last-same) (λ k x n r. rw (others k n, last-other k n) r) (λ k. takenOffSince d w k (step ∷ steps)) kept)

@@ -1,29 +1,22 @@
--- What is counted of a list's key lengths. The code's own terms.
-use Prim.Native.Nat.{ℕ, _+_, _-_, _≤_, _<_}
+-- Places of a list in which a key is looked for. The code's own terms.
+use Prim.Native.Nat.{ℕ, _+_, _-_, _<_}
 use mathlib.Core.Path.{_≡_}
-use mathlib.Core.Bool.{true, false, cond}
-use mathlib.Core.List.{List, [], _∷_}
-use lib.Dec.{ltb}
-use lib.ListN.{length, getD}
+use mathlib.Core.Bool.{true, false}
+use mathlib.Core.List.{List}
+use lib.ListN.{length}
 use Rattle.meter_keys.specs.Keys.{sameKey}
 use Rattle.watch_list.specs.Layout.{listSize, sound, placeAt, placesFrom}
 use Rattle.watch_list.specs.Parts.{KeyLong, indexOf}
+use Rattle.watch_key.specs.Digest.{digestOf}
 
--- what f gives for each length, summed
-unfoldable pub sumOf : (ℕ → ℕ) → List ℕ → ℕ
-sumOf f [] = 0
-sumOf f (n ∷ lengths) = f n + sumOf f lengths
+-- a sound list, and a key that is looked for in it with its digest
+pub record Sought (list key : List ℕ) (sought : ℕ) : Type 0 where
+  pub long : length list ≡ listSize
+  pub is-sound : sound list ≡ true
+  pub key-long : KeyLong key
+  pub is-digest : sought ≡ digestOf key 0 (length key)
 
--- 1 where a length is above a bound
-unfoldable pub aboveAt : ℕ → ℕ → ℕ
-aboveAt bound n = cond (ltb bound n) 1 0
-
--- n places of a sound list, the first of which is place k, and a key with its length, its last and its first byte
-abbrev pub AllSought : List ℕ → ℕ → ℕ → List ℕ → ℕ → ℕ → ℕ → Type 0
-AllSought list k n key size last first =
-    (length list ≡ listSize) × (sound list ≡ true) × (k + n ≤ 64) × KeyLong key × (size ≡ length key) × (last ≡ getD key (length key - 1) 0) × (first ≡ getD key 0 0)
-
--- none of them has the key
+-- none of n places from place k on has the key
 abbrev pub AllDiffer : List ℕ → ℕ → ℕ → List ℕ → Type 0
 AllDiffer list k n key = (j : ℕ) → j < n → sameKey (placeAt list (k + j) .key) key ≡ false
 

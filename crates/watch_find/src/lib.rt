@@ -1,168 +1,50 @@
-// What a watch list holds: whether its bytes are sound, how many places are in use, and where a key is.
-use little_endian::number_of;
-use meter_memory::eight;
+// Where a key is in a watch list.
+use watch_key::digest;
+use watch_key::has_key;
 ghost use mathlib.Core.Path.{_≡_};
 ghost use mathlib.Core.Bool.{true};
-ghost use Prim.Native.Nat.{ℕ, _+_, _<_, _≤_};
-ghost use lib.ListN.{length, getD, take, drop};
-ghost use Rattle.little_endian.specs.Bytes.{number};
-ghost use Rattle.meter_keys.specs.Keys.{sameKey};
-ghost use Rattle.watch_list.specs.Layout.{listSize, allZero, soundLengths, sound, placeAt, placesFrom};
+ghost use Prim.Native.Nat.{_+_, _<_, _≤_};
+ghost use Rattle.watch_list.specs.Layout.{placesFrom};
 ghost use Rattle.watch_list.specs.Parts.{indexOf, Holds, KeyLong};
-ghost use Rattle.watch_find.specs.Scan.{sumOf, aboveAt, AllSought, AllDiffer, Past};
+ghost use Rattle.watch_find.specs.Scan.{Sought, AllDiffer, Past};
 
-// Whether a key length is above a bound: 1 or 0.
-fn above(n: u8, bound: u8) -> u8
-    ensures { λ r. ⌜ (r ≡ aboveAt bound n) × (r ≤ 1) ⌝ }
-{
-    if bound < n { 1 } else { 0 }
-}
-
-// How many of 64 key lengths are above a bound: those in use are above 0. Without a branch, so that the compiler takes many at once.
-fn count_above(lengths: &[u8], bound: u8) -> u8
-    requires { ⌜ length (now lengths) ≡ 64 ⌝ }
-    ensures { λ r. ⌜ (r ≡ sumOf (aboveAt bound) (now (lengths .entry))) × (r ≤ 64) ⌝ }
-{
-    let mut n = 0u8;
-    for k in 0..64 {
-        n = n + above(lengths[k], bound);
-    }
-    n
-}
-
-// Whether the lengths from one on are 0.
-fn zero_from(lengths: &[u8], first: usize) -> bool
-    requires { ⌜ length (now lengths) ≡ 64 ⌝ ∗ ⌜ first ≤ 64 ⌝ }
-    ensures { λ r. ⌜ r ≡ allZero (drop first (now (lengths .entry))) ⌝ }
-{
-    for k in first..64 {
-        if lengths[k] != 0 {
-            return false;
-        }
-    }
-    true
-}
-
-// Whether nothing breaks 64 key lengths: none is above 64, and after as many as are not 0 there are zeros.
-fn sound_lengths(lengths: &[u8]) -> bool
-    requires { ⌜ length (now lengths) ≡ 64 ⌝ }
-    ensures { λ r. ⌜ r ≡ soundLengths (now (lengths .entry)) ⌝ }
-{
-    if count_above(lengths, 64) != 0 {
-        return false;
-    }
-    zero_from(lengths, wide(count_above(lengths, 0)))
-}
-
-// Whether nothing breaks a list's layout.
-pub fn is_sound(list: &[u8]) -> bool
-    requires { ⌜ length (now list) ≡ listSize ⌝ }
-    ensures { λ r. ⌜ r ≡ sound (now (list .entry)) ⌝ }
-{
-    if !sound_lengths(&list[0..64]) {
-        return false;
-    }
-    list[64] <= 1
-}
-
-// How many places of a sound list are in use.
-pub fn in_use(list: &[u8]) -> usize
-    requires { ⌜ length (now list) ≡ listSize ⌝ ∗ ⌜ sound (now list) ≡ true ⌝ }
-    ensures { λ r. ⌜ Holds (now (list .entry)) r ⌝ }
-{
-    wide(count_above(&list[0..64], 0))
-}
-
-fn word_at(bytes: &[u8], at: usize) -> u64
-    requires { ⌜ at + 8 ≤ length (now bytes) ⌝ }
-    ensures { λ r. ⌜ r ≡ number (take 8 (drop at (now (bytes .entry)))) ⌝ }
-{
-    number_of(eight(bytes, at))
-}
-
-// Whether two keys of one length are the same: by words of eight bytes, then by the bytes that are left.
-fn same_bytes(a: &[u8], b: &[u8]) -> bool
-    requires { ⌜ length (now a) ≡ length (now b) ⌝ }
-    ensures { λ r. ⌜ r ≡ sameKey (now (a .entry)) (now (b .entry)) ⌝ }
-{
-    let words = a.len() / 8;
-    for i in 0..words {
-        if word_at(a, i * 8) != word_at(b, i * 8) {
-            return false;
-        }
-    }
-    for i in words * 8..a.len() {
-        if a[i] != b[i] {
-            return false;
-        }
-    }
-    true
-}
-
-// Whether a place in use has a key.
-fn has_key(list: &[u8], k: usize, key: &[u8]) -> bool
-    requires { ⌜ length (now list) ≡ listSize ⌝ ∗ ⌜ (k < 64) × (getD (now list) k 0 ≤ 64) ⌝ ∗ ⌜ KeyLong (now key) ⌝ }
-    ensures { λ r. ⌜ r ≡ sameKey (placeAt (now (list .entry)) k .key) (now (key .entry)) ⌝ }
-{
-    let size = key.len();
-    if wide(list[k]) != size {
-        return false;
-    }
-    let start = 65 + k * 64;
-    let end = start + size;
-    same_bytes(&list[start..end], key)
-}
-
-// What is looked at first of a key: its last byte, its length and its first byte.
-struct Probe {
-    size: u8,
-    last: u8,
-    first: u8,
-}
-
-// Whether a place cannot have a key, by these. Where the byte at its last differs, the place has another key or one of another length.
-fn differs(list: &[u8], k: usize, key: &[u8], p: Probe) -> bool
-    requires { ⌜ AllSought (now list) k 1 (now key) (p .size) (p .last) (p .first) ⌝ }
+// Whether a place cannot have a key, by the key's digest. Where it differs, the place has another key or one of another length.
+fn differs(list: &[u8], k: usize, key: &[u8], sought: u64) -> bool
+    requires { ⌜ Sought (now list) (now key) sought ⌝ ∗ ⌜ k + 1 ≤ 64 ⌝ }
     ensures { λ r. ⌜ (r ≡ true → AllDiffer (now (list .entry)) k 1 (now (key .entry))) ⌝ }
 {
-    if list[64 + k * 64 + key.len()] != p.last {
-        return true;
-    }
-    if list[k] != p.size {
-        return true;
-    }
-    list[65 + k * 64] != p.first
+    digest(list, 65 + k * 64, key.len()) != sought
 }
 
 // Whether none of two, four or eight places can have a key: eight to a turn of a loop, which the compiler goes through without a jump.
-fn two_differ(list: &[u8], k: usize, key: &[u8], p: Probe) -> bool
-    requires { ⌜ AllSought (now list) k 2 (now key) (p .size) (p .last) (p .first) ⌝ }
+fn two_differ(list: &[u8], k: usize, key: &[u8], sought: u64) -> bool
+    requires { ⌜ Sought (now list) (now key) sought ⌝ ∗ ⌜ k + 2 ≤ 64 ⌝ }
     ensures { λ r. ⌜ (r ≡ true → AllDiffer (now (list .entry)) k 2 (now (key .entry))) ⌝ }
 {
-    if !differs(list, k, key, p) {
+    if !differs(list, k, key, sought) {
         return false;
     }
-    differs(list, k + 1, key, p)
+    differs(list, k + 1, key, sought)
 }
 
-fn four_differ(list: &[u8], k: usize, key: &[u8], p: Probe) -> bool
-    requires { ⌜ AllSought (now list) k 4 (now key) (p .size) (p .last) (p .first) ⌝ }
+fn four_differ(list: &[u8], k: usize, key: &[u8], sought: u64) -> bool
+    requires { ⌜ Sought (now list) (now key) sought ⌝ ∗ ⌜ k + 4 ≤ 64 ⌝ }
     ensures { λ r. ⌜ (r ≡ true → AllDiffer (now (list .entry)) k 4 (now (key .entry))) ⌝ }
 {
-    if !two_differ(list, k, key, p) {
+    if !two_differ(list, k, key, sought) {
         return false;
     }
-    two_differ(list, k + 2, key, p)
+    two_differ(list, k + 2, key, sought)
 }
 
-fn eight_differ(list: &[u8], k: usize, key: &[u8], p: Probe) -> bool
-    requires { ⌜ AllSought (now list) k 8 (now key) (p .size) (p .last) (p .first) ⌝ }
+fn eight_differ(list: &[u8], k: usize, key: &[u8], sought: u64) -> bool
+    requires { ⌜ Sought (now list) (now key) sought ⌝ ∗ ⌜ k + 8 ≤ 64 ⌝ }
     ensures { λ r. ⌜ (r ≡ true → AllDiffer (now (list .entry)) k 8 (now (key .entry))) ⌝ }
 {
-    if !four_differ(list, k, key, p) {
+    if !four_differ(list, k, key, sought) {
         return false;
     }
-    four_differ(list, k + 4, key, p)
+    four_differ(list, k + 4, key, sought)
 }
 
 // A place in use before which none has a key: the first of eight of which one may have it, else where fewer than eight are left.
@@ -171,14 +53,10 @@ fn eights(list: &[u8], n: usize, key: &[u8]) -> usize
     ensures { λ r. ⌜ r ≤ n ⌝ }
     ensures { λ r. ⌜ Past (now (list .entry)) n (now (key .entry)) r ⌝ }
 {
-    let p = Probe {
-        size: key.len() as u8,
-        last: key[key.len() - 1],
-        first: key[0],
-    };
+    let sought = digest(key, 0, key.len());
     let mut k = 0;
     while k + 8 <= n {
-        if !eight_differ(list, k, key, p) {
+        if !eight_differ(list, k, key, sought) {
             return k;
         }
         k += 8;
@@ -198,10 +76,4 @@ pub fn find(list: &[u8], n: usize, key: &[u8]) -> usize
         }
     }
     n
-}
-
-fn wide(n: u8) -> usize
-    ensures { λ r. ⌜ r ≡ n ⌝ }
-{
-    n as usize
 }

@@ -1,17 +1,19 @@
-use mathlib.Core.Path.{_≡_, refl, sym, ap, ap₂, _∙_}
-use mathlib.Core.Bool.{true}
+use mathlib.Core.Path.{_≡_, sym, ap, _∙_}
+use mathlib.Core.Bool.{Bool}
 use mathlib.Core.List.{List}
 use Prim.Native.Nat.{ℕ}
-use lib.ListN.{length}
 use Rattle.meter.specs.Meter.{estimated}
 use Rattle.answer.specs.declared.Answer.{Answer}
+use Rattle.answer.specs.Numbers.{invalidContent}
 use Rattle.answer.specs.Answers.{answerOf}
-use Rattle.answer.specs.Order.{earlier}
+use Rattle.answer.specs.Order.{unless, earlier}
 use Rattle.answer.proofs.Order.{none-earlier}
 use Rattle.watch_list.specs.List.{noted}
-use Rattle.watch_list.specs.Layout.{listSize, sound, encode, decode}
+use Rattle.watch_list.specs.Layout.{encode, decode}
+use Rattle.watch_sound.proofs.Lengths.{usage-holds}
 use Rattle.watch.specs.Watch.{brokenList, badThreshold, badLines, notedIn}
-use Rattle.watch.proofs.Calls.{list-long, list-sound, key-long, lines-good, watched-bad, watched-line, watched-full, watched-done}
+use Rattle.watch.proofs.Lines.{list-sound}
+use Rattle.watch.proofs.Calls.{lines-good, watched-bad, watched-line, watched-full, watched-done}
 use borrow.Author.Needs.{needs}
 use Rattle.watch.proofs.update.Statement.{statement}
 use Rattle.watch.proofs.update.Tie as tie
@@ -40,30 +42,29 @@ passed : (c : tie.Else1)
     badLines (a .d) (a .w) (a .memory .now) (a .list .now) (a .key .now) ≡ 0
 passed c = sym (c .before .bad-lines .ensures) ∙ c .if1 .left
 
--- the list's own lines
-own-line : (c : tie.After-earlier)
-    → let a = c .before .before .before .before .before .before .before .before .before .before .before .args in
-    c .earlier .result ≡ earlier (brokenList (a .list .now)) (badThreshold (a .threshold))
-own-line c = c .earlier .ensures ∙ ap₂ earlier (c .before .before .broken-list .ensures) (c .before .bad-threshold .ensures)
+-- lines 5 and 11
+own-line : (c : tie.After-bad-content)
+    → let a = c .before .before .before .before .before .before .before .before .before .before .args in
+    c .bad-content .result ≡ earlier (brokenList (a .list .now)) (badThreshold (a .threshold))
+own-line c =
+    let a = c .before .before .before .before .before .before .before .before .before .before .args in
+    c .bad-content .ensures ∙ ap (λ (b : Bool). earlier (unless b invalidContent) (badThreshold (a .threshold))) (c .before .usage-of .ensures .0)
 
-broken-list-requires : tie.Need-broken-list-requires
-broken-list-requires c κs = let e = c .before in
+usage-of-requires : tie.Need-usage-of-requires
+usage-of-requires c κs = let e = c .before in
     let a = e .before .before .before .before .before .before .before .args in
-    list-long (a .list .now) (lines-good (a .d) (a .w) (a .memory .now) (a .list .now) (a .key .now) (passed e) .1)
+    lines-good (a .d) (a .w) (a .memory .now) (a .list .now) (a .key .now) (passed e) .1
 
-bad-threshold-requires : tie.Need-bad-threshold-requires
-bad-threshold-requires c κs = search needs
-
-earlier-requires : tie.Need-earlier-requires
-earlier-requires c κs = search needs
+bad-content-requires : tie.Need-bad-content-requires
+bad-content-requires c κs = search needs
 
 estimate-checked-requires : tie.Need-estimate-checked-requires
-estimate-checked-requires c κs = let e = c .before .before .before .before .before .before in
+estimate-checked-requires c κs = let e = c .before .before .before .before .before in
     let a = e .before .before .before .before .before .before .before .args in
     lines-good (a .d) (a .w) (a .memory .now) (a .list .now) (a .key .now) (passed e) .0
 
-earlier-requires-2 : tie.Need-earlier-requires-2
-earlier-requires-2 c κs = search needs
+earlier-requires : tie.Need-earlier-requires
+earlier-requires c κs = search needs
 
 answer-of-requires-2 : tie.Need-answer-of-requires-2
 answer-of-requires-2 c κs = search needs
@@ -78,13 +79,13 @@ returns-2 : tie.Need-returns-2
 returns-2 c = let u = c .before .before in
     let t = u .before .before in
     let l = t .before in
-    let e = l .before .before .before .before in
+    let e = l .before .before .before in
     let a = e .before .before .before .before .before .before .before .args in
-    let p = watched-line (a .d) (a .w) (a .memory .now) (a .list .now) (a .key .now) (a .amount) (a .threshold) (passed e) (l .earlier .result) (u .estimate-checked .result .status) (own-line l) (t .if2 .taken) (ap (λ (x : Answer). x .status) (u .estimate-checked .ensures)) in
-    (c .answer-of2 .ensures ∙ ap (λ (s : ℕ). answerOf s 0) (c .before .earlier2 .ensures) ∙ p .0, p .1)
+    let p = watched-line (a .d) (a .w) (a .memory .now) (a .list .now) (a .key .now) (a .amount) (a .threshold) (passed e) (l .bad-content .result) (u .estimate-checked .result .status) (own-line l) (t .if2 .taken) (ap (λ (x : Answer). x .status) (u .estimate-checked .ensures)) in
+    (c .answer-of2 .ensures ∙ ap (λ (s : ℕ). answerOf s 0) (c .before .earlier .ensures) ∙ p .0, p .1)
 
 update-reading-requires : tie.Need-update-reading-requires
-update-reading-requires c κs = let e = c .before .before .before .before .before .before in
+update-reading-requires c κs = let e = c .before .before .before .before .before in
     let a = e .before .before .before .before .before .before .before .args in
     lines-good (a .d) (a .w) (a .memory .now) (a .list .now) (a .key .now) (passed e) .0
 
@@ -101,30 +102,20 @@ returns-3 : tie.Need-returns-3
 returns-3 c = let u = c .before .before .before .before .before in
     let o = u .before .before in
     let l = o .before in
-    let e = l .before .before .before .before in
+    let e = l .before .before .before in
     let a = e .before .before .before .before .before .before .before .args in
     let p = watched-full (a .d) (a .w) (a .memory .now) (a .list .now) (a .key .now) (a .amount) (a .threshold) (passed e) (sym (own-line l) ∙ o .if2 .left) (u .update-reading .result .status) (u .update-reading .ensures .0) (c .before .if3 .taken) in
     (c .answer-of3 .ensures ∙ p .0, (u .update-reading .ensures .1 .0 ∙ p .1 .0, p .1 .1))
 
--- and so have those of the list
-sound-list : (c : tie.Else2)
-    → let a = c .before .before .before .before .before .before .before .before .before .before .before .before .args in
-    (length (a .list .now) ≡ listSize) × (sound (a .list .now) ≡ true)
-sound-list c =
-    let l = c .before in
-    let e = l .before .before .before .before in
-    let a = e .before .before .before .before .before .before .before .args in (
-      list-long (a .list .now) (lines-good (a .d) (a .w) (a .memory .now) (a .list .now) (a .key .now) (passed e) .1),
-      list-sound (a .list .now) (none-earlier _ _ (sym (own-line l) ∙ c .if2 .left) .0),
-    )
-
-in-use-requires : tie.Need-in-use-requires
-in-use-requires c κs = sound-list (c .before .before .before .before .before .before .before .before)
-
 note-requires : tie.Need-note-requires
-note-requires c κs = let e = c .before .before .before .before .before .before .before .before .before .before .before .before .before .before in
+note-requires c κs = let o = c .before .before .before .before .before .before .before in
+    let l = o .before in
+    let u = l .before in
+    let e = u .before .before in
     let a = e .before .before .before .before .before .before .before .args in
-    (c .in-use .ensures, key-long (a .key .now) (lines-good (a .d) (a .w) (a .memory .now) (a .list .now) (a .key .now) (passed e) .2))
+    let g = lines-good (a .d) (a .w) (a .memory .now) (a .list .now) (a .key .now) (passed e) in
+    let clean = none-earlier (brokenList (a .list .now)) (badThreshold (a .threshold)) (sym (own-line l) ∙ o .if2 .left) in
+    (usage-holds (g .1) (list-sound (a .list .now) (clean .0)) (u .usage-of .ensures .1), g .2)
 
 answer-of-requires-4 : tie.Need-answer-of-requires-4
 answer-of-requires-4 c κs = search needs
@@ -138,11 +129,11 @@ same-length-8 c = search needs
 returns-4 : tie.Need-returns-4
 unfolding notedIn
 returns-4 c = let n = c .before .before .before in
-    let t = n .before .before .before .before in
+    let t = n .before .before in
     let u = t .before .before .before .before in
     let o = u .before .before in
     let l = o .before in
-    let e = l .before .before .before .before in
+    let e = l .before .before .before in
     let a = e .before .before .before .before .before .before .before .args in
     let left = u .update-reading in
     let p = watched-done (a .d) (a .w) (a .memory .now) (a .list .now) (a .key .now) (a .amount) (a .threshold) (passed e) (sym (own-line l) ∙ o .if2 .left) (sym (left .ensures .0) ∙ t .if3 .left) in
@@ -161,11 +152,10 @@ update-spec =
     same-length
     same-length-2
     returns
-    broken-list-requires
-    bad-threshold-requires
-    earlier-requires
+    usage-of-requires
+    bad-content-requires
     estimate-checked-requires
-    earlier-requires-2
+    earlier-requires
     answer-of-requires-2
     same-length-3
     same-length-4
@@ -175,7 +165,6 @@ update-spec =
     same-length-5
     same-length-6
     returns-3
-    in-use-requires
     note-requires
     answer-of-requires-4
     same-length-7

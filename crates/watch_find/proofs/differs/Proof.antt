@@ -1,85 +1,32 @@
-use mathlib.Core.Path.{_≡_, sym, ap, _∙_}
-use Prim.Native.Nat.{ℕ, _+_, _-_, _*_}
+use mathlib.Core.Path.{_≡_, sym, _∙_}
+use Prim.Native.Nat.{_+_}
 use native.Mathlib.Omega.{arith}
 use borrow.Author.Tests.{not-true, eqb-false}
-use lib.ListN.{length, getD}
-use Rattle.watch_list.specs.Layout.{keysAt}
 use Rattle.watch_list.proofs.Places.{length-short}
-use Rattle.watch_find.proofs.Scanning.{other-length, other-byte, other-at}
+use Rattle.watch_key.proofs.Keys.{other-digest}
 use borrow.Author.Needs.{needs}
 use Rattle.watch_find.proofs.differs.Statement.{statement}
 use Rattle.watch_find.proofs.differs.Tie as tie
 
-mul-if1 : tie.Need-mul-if1
-mul-if1 c = search needs
+mul-digest : tie.Need-mul-digest
+mul-digest c = search needs
 
-add-if1 : tie.Need-add-if1
-add-if1 c = search needs
+add-digest : tie.Need-add-digest
+add-digest c = search needs
 
-add-if1-2 : tie.Need-add-if1-2
-add-if1-2 c = search needs
-
-shared-slice-read-if1 : tie.Need-shared-slice-read-if1
-shared-slice-read-if1 c = search needs
+digest-requires : tie.Need-digest-requires
+digest-requires c κs = let s = c .before .before in
+    (s .pre .0 .key-long .0, omega (arith, s .pre .0 .long, s .pre .0 .key-long .1))
 
 returns : tie.Need-returns
 returns c = let s = c .before .before .before in
     let a = s .args in
-    let h = s .pre in
-    let n = length (a .key .now) in
-    let short = length-short (a .list .now) (h .0) (h .1) (a .k) (omega arith) in
+    let h = s .pre .0 in
+    let short = length-short (a .list .now) (h .long) (h .is-sound) (a .k) (omega arith) in
     λ z j l.
     let e : a .k + j ≡ a .k = omega arith in
-    let at : keysAt + a .k * 64 + (n - 1) ≡ 64 + a .k * 64 + n = omega arith in
-    rw e
-    (other-at (a .list .now) (h .0) (a .k) (omega arith) (a .key .now) (n - 1) short (omega arith) (h .3 .1)
-    (λ q. c .if1 .taken (ap (λ (i : ℕ). getD (a .list .now) i 0) (sym at) ∙ q ∙ sym (h .5))))
-
-shared-slice-read-if2 : tie.Need-shared-slice-read-if2
-shared-slice-read-if2 c = search needs
-
-returns-2 : tie.Need-returns-2
-returns-2 c = let s = c .before .before .before .before .before .before in
-    let a = s .args in
-    let h = s .pre in
-    let short = length-short (a .list .now) (h .0) (h .1) (a .k) (omega arith) in
-    λ z j l.
-    let e : a .k + j ≡ a .k = omega arith in
-    rw e (other-length (a .list .now) (h .0) (a .k) (omega arith) (a .key .now) short (λ q. c .if2 .taken (q ∙ sym (h .4))))
-
-mul-result : tie.Need-mul-result
-mul-result c = search needs
-
-add-result : tie.Need-add-result
-add-result c = search needs
-
-shared-slice-read-result : tie.Need-shared-slice-read-result
-shared-slice-read-result c = search needs
-
-returns-3 : tie.Need-returns-3
-returns-3 c = let f = c .before .before in
-    let s = f .before .before .before .before .before .before in
-    let a = s .args in
-    let h = s .pre in
-    λ z j l.
-    let e : a .k + j ≡ a .k = omega arith in
-    let at : keysAt + a .k * 64 + 0 ≡ 65 + a .k * 64 = omega arith in
-    rw e
-    (other-byte (a .list .now) (h .0) (a .k) (omega arith) (a .key .now) 0 (f .if2 .left ∙ h .4) (h .3 .0) (h .3 .1)
-    (λ q. eqb-false _ _ (not-true _ z) (ap (λ (i : ℕ). getD (a .list .now) i 0) (sym at) ∙ q ∙ sym (h .6))))
+    rw e (other-digest (a .list .now) (h .long) (a .k) (omega arith) (a .key .now) short (h .key-long) (λ q. eqb-false _ _ (not-true _ z) (c .digest .ensures ∙ q ∙ sym (h .is-digest))))
 
 pub differs-spec : {M : Type 1} → statement M
 differs-spec =
-    tie.close
-    (tie.spec
-    mul-if1
-    add-if1
-    add-if1-2
-    shared-slice-read-if1
-    returns
-    shared-slice-read-if2
-    returns-2
-    mul-result
-    add-result
-    shared-slice-read-result
-    returns-3)
+    tie.close (tie.spec mul-digest add-digest digest-requires returns)

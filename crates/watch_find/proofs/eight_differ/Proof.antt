@@ -1,5 +1,6 @@
 use mathlib.Core.Path.{sym}
 use mathlib.Core.Bool.{true≢false}
+use native.Mathlib.Omega.{arith}
 use borrow.Author.Tests.{not-false}
 use Rattle.watch_find.proofs.Scanning.{both-differ}
 use borrow.Author.Needs.{needs}
@@ -7,7 +8,7 @@ use Rattle.watch_find.proofs.eight_differ.Statement.{statement}
 use Rattle.watch_find.proofs.eight_differ.Tie as tie
 
 four-differ-requires : tie.Need-four-differ-requires
-four-differ-requires c κs = search needs
+four-differ-requires c κs = (c .before .before .pre .0, omega arith)
 
 returns : tie.Need-returns
 returns c = λ z. absurd (true≢false (sym z))
@@ -16,7 +17,7 @@ add-four-differ : tie.Need-add-four-differ
 add-four-differ c = search needs
 
 four-differ-requires-2 : tie.Need-four-differ-requires-2
-four-differ-requires-2 c κs = search needs
+four-differ-requires-2 c κs = (c .before .before .before .before .pre .0, omega arith)
 
 returns-2 : tie.Need-returns-2
 returns-2 c = let f = c .before .before in

@@ -1,7 +1,6 @@
-use mathlib.Core.Path.{_≡_, refl, sym, ap, _∙_}
+use mathlib.Core.Path.{_≡_, sym, _∙_}
 use Prim.Native.Nat.{_+_, _-_, _≤_}
 use native.Mathlib.Omega.{arith}
-use lib.ListN.{length}
 use Rattle.watch_list.specs.Layout.{placesFrom}
 use Rattle.watch_list.specs.Parts.{Holds, KeyLong, indexOf}
 use Rattle.watch_list.proofs.Places.{in-use-most, length-short}

@@ -1,0 +1,39 @@
+-- What holds where a line does not apply.
+use mathlib.Core.Path.{_≡_, refl, sym, _∙_}
+use mathlib.Core.Bool.{Bool, true, false, _&&_, and-eq-true-iff}
+use mathlib.Core.List.{List, [], _∷_}
+use Prim.Native.Nat.{ℕ, suc, _≤_}
+use native.Mathlib.Omega.{arith}
+use borrow.Author.Tests.{eqb-true, leb-true}
+use lib.Dec.{eqb, leb}
+use lib.ListN.{length}
+use Rattle.answer.specs.Order.{unless, firstOf}
+use Rattle.answer.proofs.Order.{first-one, none-first}
+use Rattle.geometry.specs.Checks.{badKey}
+use Rattle.watch_list.specs.Layout.{listSize, sound}
+use Rattle.watch_list.specs.Parts.{KeyLong}
+use Rattle.watch.specs.Watch.{badList, brokenList, badThreshold}
+
+none-unless : (b : Bool) (n : ℕ) → unless b (suc n) ≡ 0 → b ≡ true
+none-unless true n e = refl
+none-unless false n e = absurd (omega arith)
+
+pub list-long : (list : List ℕ) → badList list ≡ 0 → length list ≡ listSize
+list-long list e = eqb-true (length list) listSize (none-unless (eqb (length list) listSize) 2 e)
+
+pub list-sound : (list : List ℕ) → brokenList list ≡ 0 → sound list ≡ true
+list-sound list e = none-unless (sound list) 4 e
+
+pub key-long : (key : List ℕ) → badKey (length key) ≡ 0 → KeyLong key
+key-long key e =
+    let p = and-eq-true-iff (leb 1 (length key)) (leb (length key) 64) .0 (none-unless (leb 1 (length key) && leb (length key) 64) 3 e) in
+    (leb-true 1 (length key) (p .0), leb-true (length key) 64 (p .1))
+
+pub threshold-positive : (threshold : ℕ) → badThreshold threshold ≡ 0 → 1 ≤ threshold
+threshold-positive threshold e = leb-true 1 threshold (none-unless (leb 1 threshold) 10 e)
+
+-- lines 3 and 4 of a list and a key
+pub arguments-none : (list key : List ℕ) → firstOf (badList list ∷ badKey (length key) ∷ []) ≡ 0 → (badList list ≡ 0) × (badKey (length key) ≡ 0)
+arguments-none list key e =
+    let p = none-first (badList list) (badKey (length key) ∷ []) e in
+    (p .0, sym (first-one (badKey (length key))) ∙ p .1)
