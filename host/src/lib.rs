@@ -94,8 +94,8 @@ pub fn clear(d: usize, w: usize, memory: &mut [u8]) -> Answer {
 }
 
 /// Adds an amount to the key's counter in each row.
-#[must_use = "the call may be refused"]
 #[inline]
+#[must_use = "the call may be refused"]
 pub fn update(d: usize, w: usize, memory: &mut [u8], key: &[u8], amount: u32) -> Answer {
     call(|place, figure| unsafe {
         ffi::meter_update(
@@ -113,8 +113,8 @@ pub fn update(d: usize, w: usize, memory: &mut [u8], key: &[u8], amount: u32) ->
 }
 
 /// The least figure of the key's counters.
-#[must_use = "the call may be refused"]
 #[inline]
+#[must_use = "the call may be refused"]
 pub fn estimate(d: usize, w: usize, memory: &[u8], key: &[u8]) -> Answer {
     call(|place, figure| unsafe {
         ffi::meter_estimate(d, w, memory.as_ptr(), memory.len(), key.as_ptr(), key.len(), place, figure)
@@ -202,8 +202,8 @@ pub fn feed_head(words: &[u32]) -> Answer {
 
 /// Carries out the record or the end of a feed that the words start with, after so many words of the feed. The figure of an asking
 /// record is the estimate.
-#[must_use = "the call may be refused"]
 #[inline]
+#[must_use = "the call may be refused"]
 pub fn feed_record(d: usize, w: usize, memory: &mut [u8], before: u64, words: &[u32]) -> Answer {
     call(|place, figure| unsafe {
         ffi::meter_feed_record(
@@ -222,8 +222,8 @@ pub fn feed_record(d: usize, w: usize, memory: &mut [u8], before: u64, words: &[
 
 /// How many words the record or the end takes that the words start with, so that the next record is found behind it. Of one with a
 /// faulty word it says nothing.
-#[must_use = "it does nothing else"]
 #[inline]
+#[must_use = "it does nothing else"]
 pub fn feed_taken(words: &[u32]) -> usize {
     unsafe { ffi::meter_feed_taken(words.as_ptr(), words.len()) }
 }
@@ -236,8 +236,8 @@ pub fn watch_clear(list: &mut [u8]) -> Answer {
 
 /// An update of a meter that a watch list takes note of, or no change of either: a listed key's estimate is renewed, and one that is
 /// not listed joins if its estimate is now at or above the threshold, or sets the mark where no place is free.
-#[must_use = "the call may be refused"]
 #[inline]
+#[must_use = "the call may be refused"]
 pub fn watch_update(d: usize, w: usize, memory: &mut [u8], list: &mut [u8], key: &[u8], amount: u32, threshold: u64) -> Answer {
     call(|place, figure| unsafe {
         ffi::meter_watch_update(
