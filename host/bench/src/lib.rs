@@ -75,6 +75,7 @@ mod ffi {
     }
 }
 
+#[inline]
 fn call(f: impl FnOnce(*mut u64, *mut u64) -> u32) -> Answer {
     let (mut place, mut figure) = (0, 0);
     let number = f(&mut place, &mut figure);
@@ -90,10 +91,12 @@ pub mod plain {
         call(|p, f| unsafe { ffi::salsa_clear(d, w, memory.as_mut_ptr(), memory.len(), p, f) })
     }
 
+    #[inline]
     pub fn update(d: usize, w: usize, memory: &mut [u8], key: &[u8], amount: u32) -> Answer {
         call(|p, f| unsafe { ffi::salsa_update(d, w, memory.as_mut_ptr(), memory.len(), key.as_ptr(), key.len(), amount, p, f) })
     }
 
+    #[inline]
     pub fn estimate(d: usize, w: usize, memory: &[u8], key: &[u8]) -> Answer {
         call(|p, f| unsafe { ffi::salsa_estimate(d, w, memory.as_ptr(), memory.len(), key.as_ptr(), key.len(), p, f) })
     }
@@ -110,6 +113,7 @@ pub mod plain {
         call(|p, f| unsafe { ffi::salsa_image_read(d, w, memory.as_mut_ptr(), memory.len(), words.as_ptr(), words.len(), p, f) })
     }
 
+    #[inline]
     pub fn feed_record(d: usize, w: usize, memory: &mut [u8], before: u64, words: &[u32]) -> Answer {
         call(|p, f| unsafe {
             ffi::salsa_feed_record(
@@ -136,12 +140,14 @@ pub mod hash {
     }
 
     /// As the plain C version does it: four rows side by side.
+    #[inline]
     pub fn lanes(slots: &mut [u32; 8], d: usize, w: usize, key: &[u8]) {
         assert!(valid(d, w));
         unsafe { ffi::hash_lanes(slots.as_mut_ptr(), d, w, key.as_ptr(), key.len()) };
     }
 
     /// By hand in SSE2: two rows to a vector register.
+    #[inline]
     pub fn pairs(slots: &mut [u32; 8], d: usize, w: usize, key: &[u8]) {
         assert!(valid(d, w));
         unsafe { ffi::hash_pairs(slots.as_mut_ptr(), d, w, key.as_ptr(), key.len()) };
@@ -214,10 +220,12 @@ impl CountMin {
         self.counters.fill(0);
     }
 
+    #[inline]
     pub fn update(&mut self, key: &[u8], amount: u32) {
         unsafe { ffi::countmin_update(self.d, self.w, self.counters.as_mut_ptr(), key.as_ptr(), key.len(), amount) }
     }
 
+    #[inline]
     pub fn estimate(&self, key: &[u8]) -> u64 {
         unsafe { ffi::countmin_estimate(self.d, self.w, self.counters.as_ptr(), key.as_ptr(), key.len()) }
     }
