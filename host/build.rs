@@ -1,4 +1,4 @@
-// Links the proved library. `rt staticlib meter_c` at the root of the repository writes it; METER_LIB_DIR names another folder.
+// Links the proved library. `./build` at the root of the repository writes it; METER_LIB_DIR names another folder.
 use std::env;
 use std::path::PathBuf;
 
@@ -11,7 +11,7 @@ fn main() {
     println!("cargo:rerun-if-env-changed=METER_LIB_DIR");
     println!("cargo:rerun-if-changed={}", library.display());
     if !library.exists() {
-        println!("cargo::error=libmeter_c.a is not there: run `rt staticlib meter_c` at the root of the repository");
+        println!("cargo::error=libmeter_c.a is not there: run `./build` at the root of the repository");
         return;
     }
     println!("cargo:rustc-link-search=native={}", folder.display());

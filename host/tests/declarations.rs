@@ -42,7 +42,10 @@ fn number(t: &str) -> String {
 
 /// `#[no_mangle] pub extern "C" fn name(a: T, ..) -> R`: a slice is passed as pointer and length.
 fn in_rattle() -> Vec<Call> {
-    let text = read("../crates/meter_c/src/lib.rt");
+    let text: String = ["group", "meter", "image", "feed", "watch"]
+        .iter()
+        .map(|family| read(&format!("../crates/c_{family}/src/lib.rt")))
+        .collect();
     let mut rest = text.as_str();
     let mut calls = Vec::new();
     while let Some((name, after)) = between(rest, "pub extern \"C\" fn ", "(") {
@@ -159,8 +162,8 @@ fn in_rust() -> Vec<Call> {
 fn declared_alike() {
     let rattle = in_rattle();
     assert_eq!(rattle.len(), 15);
-    assert_eq!(in_c(), rattle, "include/meter.h and crates/meter_c");
-    assert_eq!(in_rust(), rattle, "src/ffi.rs and crates/meter_c");
+    assert_eq!(in_c(), rattle, "include/meter.h and crates/c_*");
+    assert_eq!(in_rust(), rattle, "src/ffi.rs and crates/c_*");
 }
 
 /// `KeyLength` in C: `METER_KEY_LENGTH`.

@@ -64,7 +64,7 @@ pub fn update_reading(d: usize, w: usize, memory: &mut [u8], key: &[u8], amount:
     let bytes = whole(key);
     if d == 1 {
         let slot = row_slot(Hash::start(), w, bytes, 0);
-        let one = meter_update::update_one(memory, w, slot, amount);
+        let one = meter_row::update_one(memory, w, slot, amount);
         return answer_of(one.status, one.value);
     }
     let slots = key_slots(Hash::start(), w, bytes, d);

@@ -5,68 +5,18 @@ use answer::earlier;
 use group::Group;
 use meter_memory::load;
 use meter_memory::row_at;
-use meter_memory::store;
 use meter_row::smaller;
+use meter_row::update_row;
 ghost use mathlib.Core.Path.{_≡_};
-ghost use mathlib.Core.Bool.{true, cond};
-ghost use Prim.Native.Nat.{_/_, _<_, _≤_};
+ghost use mathlib.Core.Bool.{cond};
+ghost use Prim.Native.Nat.{_≤_};
 ghost use lib.Dec.{eqb};
 ghost use lib.ListN.{length};
-ghost use Rattle.group.specs.Group.{read};
-ghost use Rattle.geometry.specs.Geometry.{validWidth, RowsIn};
+ghost use Rattle.geometry.specs.Geometry.{RowsIn};
 ghost use Rattle.geometry.specs.Geometry as geometry;
 ghost use Rattle.answer.specs.Order.{earliest};
-ghost use Rattle.meter_memory.specs.Rows.{withGroup, ofRows, least};
-ghost use Rattle.meter_row.specs.Row.{addedIn, addedRow};
+ghost use Rattle.meter_memory.specs.Rows.{ofRows, least};
 ghost use Rattle.meter_row.specs.Slots.{SlotsIn, addedStatus, addedValue, Added, addedRows};
-
-// An update of a row: the group of a slot stored.
-fn update_row(row: &mut [u8], w: usize, slot: usize, x: Group)
-    requires { ⌜ validWidth w ≡ true ⌝ ∗ ⌜ length (now row) ≡ geometry.stride w ⌝ ∗ ⌜ slot < w ⌝ }
-    ensures { λ _. ⌜ now (row .exit) ≡ withGroup w (now (row .entry)) (slot / 8) x ⌝ }
-{
-    store(row, w, slot / 8, x);
-}
-
-// An amount added in the group of a slot, if the group takes it; the group's status, and the value of the counter that is left.
-pub fn update_one(row: &mut [u8], w: usize, slot: usize, amount: u32) -> Answer
-    requires { ⌜ validWidth w ≡ true ⌝ ∗ ⌜ length (now row) ≡ geometry.stride w ⌝ ∗ ⌜ slot < w ⌝ }
-    ensures { λ a. ⌜ a .status ≡ addedIn w (now (row .entry)) slot amount .status ⌝ }
-    ensures { λ a. ⌜ a .value ≡ read (addedIn w (now (row .entry)) slot amount .group) slot .value ⌝ }
-    ensures { λ a. ⌜ now (row .exit) ≡ cond (eqb (a .status) 0) (addedRow w (now (row .entry)) slot amount) (now (row .entry)) ⌝ }
-{
-    let x = load(row, w, slot / 8);
-    let k = group::add_in_place(x, slot, amount);
-    if k.held {
-        let counts = k.counts;
-        let kept = Group {
-            counts,
-            merge: x.merge,
-        };
-        update_row(row, w, slot, kept);
-        return Answer {
-            status: 0,
-            position: 0,
-            value: k.value,
-        };
-    }
-    let o = group::add_widening(x, slot, amount);
-    let g = o.group;
-    let c = group::counter(g, slot);
-    if o.status != 0 {
-        return Answer {
-            status: o.status,
-            position: 0,
-            value: c.value,
-        };
-    }
-    update_row(row, w, slot, g);
-    Answer {
-        status: 0,
-        position: 0,
-        value: c.value,
-    }
-}
 
 // The groups that an update leaves in the rows, the first status and the least value of the counters that are left.
 struct Trial {

@@ -60,7 +60,7 @@ fn outcome(o: Outcome) {
 fn update(g: Group, slot: usize, amount: u32) -> Outcome {
     let mut row = [0u8; 36];
     meter_memory::store(&mut row, 32, 0, g);
-    let a = meter_update::update_one(&mut row, 32, slot % 8, amount);
+    let a = meter_row::update_one(&mut row, 32, slot % 8, amount);
     Outcome {
         status: a.status,
         group: meter_memory::load(&row, 32, 0),
