@@ -18,11 +18,13 @@ use Rattle.feed_lines.specs.declared.Progress.{Progress}
 use Rattle.feed_lines.specs.Feed.{followed, afterEnd}
 use Rattle.feed_lines.specs.Step.{takenBy, progress, linesFrom, bytesNeeded, Enough}
 use Rattle.feed_lines.proofs.Feed.{first-needs, step-lines}
-use Rattle.feed_steps.specs.declared.State.{State}
+use Rattle.feed_state.specs.declared.State.{State}
 use Rattle.feed_io.specs.declared.input.Input.{Input}
 use Rattle.feed_io.specs.declared.output.Output.{Output}
 use Rattle.feed_io.specs.Buffers.{Within, unused, Held, advanced, Refilled, Cleared}
-use Rattle.feed_steps.specs.Run.{left, due, stateWith, Received, Ran, Stepped}
+use Rattle.feed_steps.specs.Run.{left, due, Ran, Stepped}
+use Rattle.feed_state.specs.State.{stateWith, Received}
+use Rattle.feed_state.proofs.Receiving.{received-due}
 use Rattle.feed_io.proofs.Buffers.{unused-length, advanced-is}
 
 -- nothing done
@@ -61,14 +63,6 @@ ran-then d w m₀ s₀ i₀ o₀ m₁ s₁ i₁ o₁ m₂ s₂ i₂ o₂ e f g =
 pub enough-held : (n : ℕ) (i : Input) (held rest : List ℕ) → (n ≤ length held) ⊎ (i .more ≡ false) → (i .more ≡ false → rest ≡ []) → Enough n held rest
 enough-held n i held rest h k = ⊎-elim (λ l. inl l) (λ m. inr (k m)) h
 
--- whatever is due for the bytes at hand and those to come, it is what is written and what is due for those at hand after a read
-pub received-due : (n : ℕ) (i : Input) (input : List ℕ) (j : Input) (input′ : List ℕ) (f : Refilled n i input j input′) (reads : Bool) (output : List ℕ) (at : ℕ) (o : Output)
-    (c : Cleared reads output at o) (due : List ℕ → List ℕ) (rest : List ℕ)
-    → take at output ++ due (unused i input ++ (f .read ++ rest)) ≡ c .sent ++ (take (o .at) output ++ due (unused j input′ ++ rest))
-received-due n i input j input′ f reads output at o c due rest =
-    ap₂ (λ (x y : List ℕ). x ++ due y) (c .kept) (sym (append-assoc (unused i input) (f .read) rest) ∙ ap (λ (x : List ℕ). x ++ rest) (sym (f .joined)))
-    ∙ append-assoc (c .sent) (take (o .at) output) (due (unused j input′ ++ rest))
-
 module _ (d w : ℕ) (memory : List ℕ) (n : ℕ) (s : State) (input output : List ℕ) where
   chosen : (i : Input) (o : Output) (input′ rest : List ℕ) → take (o .at) output ++ texts (left d w memory s (unused i input′ ++ rest))
       ≡ cond (o .failed) (take (o .at) output ++ texts (left d w memory s (unused i input′ ++ rest))) (due d w memory (stateWith s i o) input′ output rest)
@@ -99,50 +93,10 @@ module _ (d w : ℕ) (memory : List ℕ) (n : ℕ) (s : State) (input output : L
         counted = omega (arith, ap (λ (q : State). q .words) (c .state), ap length (f .joined), length-append (unused (s .input) input) (f .read));
       }
 
--- what the code finds: a write failed, and nothing is read; or what was due is read
-pub received-failed : (n : ℕ) (s : State) (input output : List ℕ) (reads : Bool) (o : Output) → Within (s .input) input → Cleared reads output (s .output .at) o → o .failed ≡ true
-    → Received n s input output (record { input = s .input; output = o; words = s .words; records = s .records; runs = false; ended = false }) input
-received-failed n s input output reads o h c t =
-    record {
-      filled = record { within = h; read = []; joined = sym (append-nil (unused (s .input) input)); spared = λ l. refl; closed = λ e. (refl, e) };
-      reads = reads;
-      cleared = c;
-      flushed = inl refl;
-      stopped = λ e. refl;
-      enough = λ e. absurd (true≢false (sym t ∙ e));
-      state = rw t;
-    }
-
-pub received-more : (n : ℕ) (s : State) (input output : List ℕ) (reads : Bool) (o : Output) (i : Input) (input′ : List ℕ) → Within (s .input) input
-    → (reads ≡ false → (n ≤ s .input .end - s .input .start) ⊎ (s .input .more ≡ false)) → Refilled n (s .input) input i input′ → Held n i input′
-    → Cleared reads output (s .output .at) o → o .failed ≡ false
-    → Received n s input output (record { input = i; output = o; words = s .words; records = s .records; runs = s .runs; ended = s .ended }) input′
-received-more n s input output reads o i input′ h spare f k c t =
-    record {
-      filled = f;
-      reads = reads;
-      cleared = c;
-      flushed =
-          cases reads (λ e. inr (c .empty e))
-          (λ e. inl (⊎-elim (λ l. f .spared (omega (arith, l, unused-length (s .input) input h))) (λ m. f .closed m .0) (spare e)));
-      stopped = λ e. absurd (true≢false (sym e ∙ t));
-      enough = λ e. k;
-      state = rw t;
-    }
-
 -- a run that goes on has lost nothing
 pub ran-runs : (d w : ℕ) (m₀ : List ℕ) (s₀ : State) (i₀ o₀ m₁ : List ℕ) (s₁ : State) (i₁ o₁ : List ℕ) → Ran d w m₀ s₀ i₀ o₀ m₁ s₁ i₁ o₁ → s₁ .runs ≡ true
     → s₁ .output .failed ≡ false
 ran-runs d w m₀ s₀ i₀ o₀ m₁ s₁ i₁ o₁ g e = cases (s₁ .output .failed) (λ t. absurd (true≢false (sym e ∙ g .failed t .2))) (λ t. t)
-
--- it changes no count, and the run goes on unless a write failed
-pub received-kept : (n : ℕ) (s : State) (input output : List ℕ) (r : State) (input′ : List ℕ) → Received n s input output r input′
-    → (r .words ≡ s .words) × (r .records ≡ s .records) × (r .output .failed ≡ false → r .runs ≡ s .runs)
-received-kept n s input output r input′ c = (
-  ap (λ (x : State). x .words) (c .state),
-  ap (λ (x : State). x .records) (c .state),
-  λ t. ap (λ (x : State). x .runs) (c .state) ∙ ap (λ (b : Bool). cond b false (s .runs)) t,
-)
 
 -- the first word is at hand, so what it calls for is what all bytes call for
 pub called-for : (n : ℕ) (a : State) (input output : List ℕ) (b : State) (input′ : List ℕ) → n ≡ bytesNeeded (unused (a .input) input) → Held 4 (a .input) input

@@ -2,7 +2,6 @@
 -- No contract can say what a read brings or where a written byte goes. So `read` and `sent` are some bytes: those that the part's reads
 -- brought and that it handed to writes. If a write failed, `sent` is all the same the start of what was due, and `lost` the rest.
 use Prim.Native.Nat.{ℕ, _+_, _*_, _≤_, _<_}
-use mathlib.Core.Logic.{_⊎_}
 use mathlib.Core.Path.{_≡_}
 use mathlib.Core.Bool.{Bool, true, false, cond}
 use mathlib.Core.List.{List, [], _++_}
@@ -11,10 +10,8 @@ use Rattle.feed_line.specs.declared.Line.{Line}
 use Rattle.feed_text.specs.Line.{texts}
 use Rattle.feed_lines.specs.Feed.{afterEnd}
 use Rattle.feed_lines.specs.Step.{linesFrom, bytesNeeded}
-use Rattle.feed_steps.specs.declared.State.{State}
-use Rattle.feed_io.specs.declared.input.Input.{Input}
-use Rattle.feed_io.specs.declared.output.Output.{Output}
-use Rattle.feed_io.specs.Buffers.{unused, Held, Refilled, Cleared}
+use Rattle.feed_state.specs.declared.State.{State}
+use Rattle.feed_io.specs.Buffers.{unused}
 
 -- the lines that are left to print, from the bytes not yet used and those still to come
 abbrev pub left : ℕ → ℕ → List ℕ → State → List ℕ → List Line
@@ -28,21 +25,6 @@ due d w memory s input output bytes = take (s .output .at) output ++ texts (left
 -- the bytes of the feed up to here
 abbrev pub seen : State → List ℕ → ℕ
 seen s input = 4 * s .words + length (unused (s .input) input)
-
--- the state with other bytes at hand; a failed write ends the run
-abbrev pub stateWith : State → Input → Output → State
-stateWith s i o =
-    record { input = i; output = o; words = s .words; records = s .records; runs = cond (o .failed) false (s .runs); ended = cond (o .failed) false (s .ended) }
-
--- At least n bytes at hand, or all, with space for a line. If any was read, no text was left unwritten; none is after a failed write.
-pub record Received (n : ℕ) (s : State) (input output : List ℕ) (r : State) (input′ : List ℕ) : Type 0 where
-  pub filled : Refilled n (s .input) input (r .input) input′
-  pub reads : Bool
-  pub cleared : Cleared reads output (s .output .at) (r .output)
-  pub flushed : (filled .read ≡ []) ⊎ (r .output .at ≡ 0)
-  pub stopped : r .output .failed ≡ true → filled .read ≡ []
-  pub enough : r .output .failed ≡ false → Held n (r .input) input′
-  pub state : r ≡ stateWith s (r .input) (r .output)
 
 -- From s to r nothing that is due is lost unless a write failed: what was due is what is written and what is now due. Nothing comes after the
 -- input's end, and a failed write ends the run.

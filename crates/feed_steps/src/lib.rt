@@ -1,7 +1,8 @@
 // One step of a run: bytes are received, a record is carried out, and its line is put behind those to be written.
-use feed_io::Input;
 use feed_io::Output;
 use feed_lines::Progress;
+use feed_state::State;
+use feed_state::receive;
 ghost use mathlib.Core.Path.{_≡_};
 ghost use mathlib.Core.Bool.{true, false};
 ghost use Prim.Native.Nat.{_+_, _*_, _^_, _≤_, _<_};
@@ -11,21 +12,10 @@ ghost use Rattle.feed.specs.Record.{recorded};
 ghost use Rattle.word_bytes.specs.Words.{wholeWords};
 ghost use Rattle.feed_lines.specs.Step.{progress, bytesNeeded};
 ghost use Rattle.feed_io.specs.Buffers.{Within, unused, Held};
-ghost use Rattle.feed_steps.specs.Run.{Received, Stepped};
+ghost use Rattle.feed_steps.specs.Run.{Stepped};
 
 // The words of the longest record.
 const WORDS: usize = 25;
-
-// Where the run is: the input and output at hand, the words and records before this point, and whether a record follows or the end was
-// read.
-pub struct State {
-    pub input: Input,
-    pub output: Output,
-    pub words: u64,
-    pub records: u64,
-    pub runs: bool,
-    pub ended: bool,
-}
 
 // One record or the end, from the bytes at hand.
 fn next(memory: &mut [u8], d: usize, w: usize, bytes: &[u8], before: u64, records: u64) -> Progress
@@ -50,35 +40,6 @@ fn needed(bytes: &[u8]) -> usize
     let mut words = [0u32; 1];
     let n = word_bytes::assemble(bytes, &mut words);
     4 * feed::words_needed(&words[..n])
-}
-
-// Reads on until n bytes are at hand or the input has ended. The lines at hand are written before a read, which may wait.
-pub fn receive(input: &mut [u8], output: &[u8], s: State, n: usize) -> State
-    requires { ⌜ Within (s .input) (now input) ⌝ ∗ ⌜ n ≤ 100 ⌝ ∗ ⌜ 100 ≤ length (now input) ⌝ }
-    requires { ⌜ s .output .at ≤ length (now output) ⌝ ∗ ⌜ 64 ≤ length (now output) ⌝ }
-    ensures { λ r. ⌜ Received n s (now (input .entry)) (now (output .entry)) r (now (input .exit)) ⌝ }
-{
-    let i = s.input;
-    let reads = feed_io::is_short(i, n);
-    let o = feed_io::make_room(output, s.output.at, reads);
-    if o.failed {
-        return State {
-            input: i,
-            output: o,
-            words: s.words,
-            records: s.records,
-            runs: false,
-            ended: false,
-        };
-    }
-    State {
-        input: feed_io::refill(input, i, n),
-        output: o,
-        words: s.words,
-        records: s.records,
-        runs: s.runs,
-        ended: s.ended,
-    }
 }
 
 // One record or the end whose bytes are at hand: carry it out, and put its line behind those at hand.

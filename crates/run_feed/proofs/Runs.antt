@@ -20,12 +20,14 @@ use Rattle.feed_lines.specs.Step.{linesFrom}
 use Rattle.word_bytes.proofs.Laws.{words-length}
 use Rattle.feed_lines.proofs.Heads.{accepted-some, head-geometry}
 use Rattle.feed_lines.proofs.Feed.{head-lines, head-stops}
-use Rattle.feed_steps.specs.declared.State.{State}
+use Rattle.feed_state.specs.declared.State.{State}
 use Rattle.feed_io.specs.declared.input.Input.{Input}
 use Rattle.feed_io.specs.declared.output.Output.{Output}
 use Rattle.feed_io.specs.Buffers.{Within, unused, Held, advanced, Refilled}
-use Rattle.feed_steps.specs.Run.{due, seen, Received, Ran}
-use Rattle.feed_steps.proofs.Runs.{enough-held, received-due}
+use Rattle.feed_state.specs.State.{Received}
+use Rattle.feed_steps.specs.Run.{due, seen, Ran}
+use Rattle.feed_state.proofs.Receiving.{received-due}
+use Rattle.feed_steps.proofs.Runs.{enough-held}
 use Rattle.run_feed.specs.Printed.{Printed, dueAfterEnd, dueAfterHead}
 use Rattle.feed_io.proofs.Buffers.{unused-length, advanced-is}
 

@@ -8,7 +8,7 @@ use Rattle.geometry.specs.Geometry.{size}
 use Rattle.feed_text.specs.Line.{texts}
 use Rattle.feed_lines.specs.Feed.{afterEnd}
 use Rattle.feed_lines.specs.Step.{linesFrom}
-use Rattle.feed_steps.specs.declared.State.{State}
+use Rattle.feed_state.specs.declared.State.{State}
 use Rattle.feed_io.specs.declared.input.Input.{Input}
 use Rattle.feed_io.specs.declared.output.Output.{Output}
 use Rattle.feed_io.specs.Buffers.{unused}

@@ -2,7 +2,7 @@
 use feed_io::Input;
 use feed_io::Output;
 use feed_line::Line;
-use feed_steps::State;
+use feed_state::State;
 ghost use mathlib.Core.Path.{_≡_};
 ghost use mathlib.Core.Bool.{true, false};
 ghost use Prim.Native.Nat.{_+_, _^_, _≤_, _<_};
@@ -60,7 +60,7 @@ fn after_end(input: &mut [u8], output: &mut [u8], s: State) -> Output
     ensures { λ r. ⌜ Printed (seen s (now (input .entry))) (s .input .more) (dueAfterEnd s (now (input .entry)) (now (output .entry)))
         r (now (output .exit)) ⌝ }
 {
-    let a = feed_steps::receive(input, output, s, 1);
+    let a = feed_state::receive(input, output, s, 1);
     let o = a.output;
     if o.failed {
         return o;

@@ -31,6 +31,7 @@ use Rattle.feed_records.specs.Words as records
 use Rattle.feed.specs.Record as carrying
 use Rattle.watch_list.specs.Layout as layout
 use Rattle.watch.specs.Watch as watch
+use Rattle.watch_checks.specs.Checks as checks
 use Rattle.traffic.specs.Traffic as totals
 use Rattle.traffic.specs.Calls as calls
 use Rattle.traffic.specs.Calls.{none, update, estimate, feed, run, done, Faithful}
@@ -119,7 +120,7 @@ unfolding numbers allRefuse allFit twice calls.recordPair calls.traffic calls.af
     records.keyPayload records.keyWord records.checkKey records.checkAmount records.keyByte records.keyFrom records.amountOf
     records.updateStep records.queryStep records.bodyOf records.updateBody records.queryBody carrying.outcomeOf carrying.updateOutcome
     carrying.queried carrying.openedOutcome carrying.recordOutcome carrying.updateMemory carrying.recordMemory carrying.finishRecord carrying.recorded
-    layout.allZero layout.soundLengths layout.sound watch.badLines watch.watchStatus watch.watched
+    layout.allZero layout.soundLengths layout.sound checks.badLines watch.watchStatus watch.watched
 computed =
     let other-is : Faithful 1 32 other = ((((tt, refl, took tt), refl, took tt), refl, took tt), refl, took (tt, refl, took tt)) in
     let mixed-is : Faithful 1 32 mixed

@@ -20,20 +20,9 @@ use Rattle.meter.proofs.Refusals.{refused-as-estimated}
 use Rattle.watch_list.specs.List.{takenOff}
 use Rattle.watch_list.specs.Layout.{listSize, sound, encode, decode}
 use Rattle.watch_list.specs.Parts.{KeyLong}
-use Rattle.watch.specs.Watch.{badList, brokenList, badThreshold, listCleared, badLines, watchStatus, notedIn, watched, badRemoval, removed}
-use Rattle.watch.proofs.Lines.{list-long, key-long, arguments-none}
-
--- 5 comes before 11, and one of the two is what a line other than 0 is
-pub five-first : (b : Bool) → earlier 5 (unless b 11) ≡ 5
-unfolding earlier placeIn
-five-first true = refl
-five-first false = refl
-
-own-lines : (a b : Bool) (line : ℕ) → line ≡ earlier (unless a 5) (unless b 11) → (line ≡ 0 → ⊥) → (line ≡ 5) ⊎ (line ≡ 11)
-unfolding earlier
-own-lines true true line e h = absurd (h e)
-own-lines true false line e h = inr e
-own-lines false b line e h = inl (e ∙ five-first b)
+use Rattle.watch_checks.specs.Checks.{badList, brokenList, badThreshold, badLines}
+use Rattle.watch_checks.proofs.Lines.{list-long, key-long, arguments-none, own-lines}
+use Rattle.watch.specs.Watch.{listCleared, watchStatus, notedIn, watched, badRemoval, removed}
 
 -- clearing
 module _ (list : List ℕ) where
@@ -45,23 +34,8 @@ module _ (list : List ℕ) where
   unfolding listCleared
   cleared-good e = accepting (badList list) (replicate (length list) 0) list e
 
--- lines 3 and 4, and with them 1 and 2
-module _ (list key : List ℕ) where
-  pub arguments-list : (badList list ≡ 0 → ⊥) → badList list ≡ firstOf (badList list ∷ badKey (length key) ∷ [])
-  arguments-list h = sym (first-stop (badList list) (badKey (length key) ∷ []) h)
-
-  pub arguments-key : badList list ≡ 0 → badKey (length key) ≡ firstOf (badList list ∷ badKey (length key) ∷ [])
-  arguments-key e = sym (first-skip (badList list) (badKey (length key) ∷ []) e ∙ first-one (badKey (length key)))
-
+-- lines 1 to 4
 module _ (d w : ℕ) (memory list key : List ℕ) where
-  pub lines-shape : (badShape d w (length memory) ≡ 0 → ⊥) → badShape d w (length memory) ≡ badLines d w memory list key
-  unfolding badLines
-  lines-shape h = sym (first-stop (badShape d w (length memory)) (badList list ∷ badKey (length key) ∷ []) h)
-
-  pub lines-arguments : badShape d w (length memory) ≡ 0 → firstOf (badList list ∷ badKey (length key) ∷ []) ≡ badLines d w memory list key
-  unfolding badLines
-  lines-arguments e = sym (first-skip (badShape d w (length memory)) (badList list ∷ badKey (length key) ∷ []) e)
-
   pub lines-good : badLines d w memory list key ≡ 0 → (badCall d w memory key ≡ 0) × (length list ≡ listSize) × KeyLong key
   unfolding badLines
   lines-good e =

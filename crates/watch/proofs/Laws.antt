@@ -17,8 +17,9 @@ use Rattle.meter.specs.Meter.{badCall, updated}
 use Rattle.meter.proofs.Calls.{call-shape-bad, call-key, updated-bad}
 use Rattle.watch_list.specs.List.{takenOff}
 use Rattle.watch_list.specs.Layout.{listSize, sound, encode, decode}
-use Rattle.watch.proofs.Lines.{list-long as long-list, list-sound as sound-list, threshold-positive, arguments-none}
-use Rattle.watch.specs.Watch.{badList, brokenList, badThreshold, listCleared, badLines, watchStatus, notedIn, watched, badRemoval, removed}
+use Rattle.watch_checks.proofs.Lines.{list-long as long-list, list-sound as sound-list, threshold-positive, arguments-none}
+use Rattle.watch_checks.specs.Checks.{badList, brokenList, badThreshold, badLines}
+use Rattle.watch.specs.Watch.{listCleared, watchStatus, notedIn, watched, badRemoval, removed}
 
 -- a cleared list is what steps start from
 pub cleared-is : (list : List ℕ) → length list ≡ listSize → listCleared list .memory ≡ replicate listSize 0

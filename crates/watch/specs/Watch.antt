@@ -1,26 +1,15 @@
 -- The calls of a watch list. Document 02, request 1. Cited by contracts and theorems.
 use Prim.Native.Nat.{ℕ}
 use mathlib.Core.List.{List, [], _∷_}
-use lib.Dec.{leb, eqb}
 use lib.ListN.{length, replicate}
 use Rattle.answer.specs.declared.Answer.{Answer}
-use Rattle.answer.specs.Numbers.{wrongLength, invalidContent, zeroThreshold}
-use Rattle.answer.specs.Order.{unless, firstOf, earliest}
+use Rattle.answer.specs.Order.{firstOf, earliest}
 use Rattle.answer.specs.Answers.{answerOf, leaves, Done, finish}
-use Rattle.geometry.specs.Checks.{badShape, badKey}
+use Rattle.geometry.specs.Checks.{badKey}
 use Rattle.meter.specs.Meter.{updated, estimated}
 use Rattle.watch_list.specs.List.{noted, takenOff}
-use Rattle.watch_list.specs.Layout.{listSize, sound, encode, decode}
-
--- lines 3 and 5 of a list, and line 11
-abbrev pub badList : List ℕ → ℕ
-badList list = unless (eqb (length list) listSize) wrongLength
-
-abbrev pub brokenList : List ℕ → ℕ
-brokenList list = unless (sound list) invalidContent
-
-abbrev pub badThreshold : ℕ → ℕ
-badThreshold threshold = unless (leb 1 threshold) zeroThreshold
+use Rattle.watch_list.specs.Layout.{encode, decode}
+use Rattle.watch_checks.specs.Checks.{badList, brokenList, badThreshold, badLines}
 
 -- Clearing a list tests its length alone and sets every byte to 0.
 unfoldable pub listCleared : List ℕ → Done
@@ -32,11 +21,7 @@ pub record Watched : Type 0 where
   pub memory : List ℕ
   pub list : List ℕ
 
--- lines 1 to 4, of the meter and of the list
-unfoldable pub badLines : ℕ → ℕ → List ℕ → List ℕ → List ℕ → ℕ
-badLines d w memory list key = firstOf (badShape d w (length memory) ∷ badList list ∷ badKey (length key) ∷ [])
-
--- these, then the first of 5, 11 and 6
+-- lines 1 to 4, then the first of 5, 11 and 6
 unfoldable pub watchStatus : ℕ → ℕ → List ℕ → List ℕ → List ℕ → ℕ → ℕ → ℕ
 watchStatus d w memory list key amount threshold =
     firstOf (badLines d w memory list key ∷ earliest (updated d w memory key amount .answer .status ∷ brokenList list ∷ badThreshold threshold ∷ []) ∷ [])

@@ -3,43 +3,13 @@
 use answer::Answer;
 use answer::answer_of;
 use answer::earlier;
-use geometry::bad_key;
-use geometry::bad_shape;
+use watch_checks::bad_arguments;
+use watch_checks::bad_content;
+use watch_checks::bad_lines;
+use watch_checks::bad_list;
 use watch_sound::usage_of;
 ghost use mathlib.Core.Path.{_≡_};
-ghost use mathlib.Core.List.{[], _∷_};
-ghost use lib.ListN.{length};
-ghost use Rattle.answer.specs.Numbers.{invalidContent};
-ghost use Rattle.answer.specs.Order as order;
-ghost use Rattle.answer.specs.Order.{unless, firstOf};
-ghost use Rattle.geometry.specs.Checks.{badKey};
-ghost use Rattle.watch.specs.Watch.{badList, badThreshold, listCleared, badLines, watched, removed};
-
-// The bytes of a list.
-const LIST_SIZE: usize = 4673;
-
-// Line 3 of a list.
-fn bad_list(list: &[u8]) -> u8
-    ensures { λ r. ⌜ r ≡ badList (now (list .entry)) ⌝ }
-{
-    if list.len() != LIST_SIZE {
-        return answer::WRONG_LENGTH;
-    }
-    0
-}
-
-// Lines 5 and 11: of a list, by whether it is sound, and of a threshold.
-fn bad_content(sound: bool, threshold: u64) -> u8
-    ensures { λ r. ⌜ r ≡ order.earlier (unless sound invalidContent) (badThreshold threshold) ⌝ }
-{
-    if !sound {
-        return answer::INVALID_CONTENT;
-    }
-    if threshold < 1 {
-        return answer::ZERO_THRESHOLD;
-    }
-    0
-}
+ghost use Rattle.watch.specs.Watch.{listCleared, watched, removed};
 
 // Clears a list. Reads no byte of it.
 pub fn clear(list: &mut [u8]) -> Answer
@@ -52,28 +22,6 @@ pub fn clear(list: &mut [u8]) -> Answer
     }
     meter::fill(list);
     answer_of(0, 0)
-}
-
-// Lines 3 and 4 of a list and a key.
-fn bad_arguments(list: &[u8], key: &[u8]) -> u8
-    ensures { λ r. ⌜ r ≡ firstOf (badList (now (list .entry)) ∷ badKey (length (now (key .entry))) ∷ []) ⌝ }
-{
-    let long = bad_list(list);
-    if long != 0 {
-        return long;
-    }
-    bad_key(key.len())
-}
-
-// Lines 1 to 4 of an update through a list.
-fn bad_lines(d: usize, w: usize, memory: &[u8], list: &[u8], key: &[u8]) -> u8
-    ensures { λ r. ⌜ r ≡ badLines d w (now (memory .entry)) (now (list .entry)) (now (key .entry)) ⌝ }
-{
-    let shape = bad_shape(d, w, memory.len());
-    if shape != 0 {
-        return shape;
-    }
-    bad_arguments(list, key)
 }
 
 // Updates a meter, and notes the estimate that the update leaves in the list. Both are tested before either is written. Where the list is

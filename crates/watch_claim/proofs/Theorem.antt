@@ -15,7 +15,7 @@ use Rattle.watch_list.specs.List.{Watch, listed, noted, clearPlace, takenOff}
 use Rattle.watch_list.specs.Layout.{listSize, sound, encode, decode}
 use Rattle.watch_list.proofs.Lists.{Each, same-sym, by-test, decode-encode, encode-long, encode-sound, cleared, cleared-bytes}
 use Rattle.watch.specs.Watch.{notedIn, watched}
-use Rattle.watch.proofs.Lines.{key-long}
+use Rattle.watch_checks.proofs.Lines.{key-long}
 use Rattle.watch.proofs.Laws.{Accepted, watched-accepted, watched-kept, removed-accepted, removed-kept}
 use Rattle.traffic.specs.Traffic.{amountSum, keyTotal, lower}
 use Rattle.traffic.specs.Calls.{watch, traffic, after as afterCall, run, done, Faithful, Listed}

@@ -2,7 +2,8 @@ use mathlib.Core.Path.{_≡_, sym, _∙_}
 use mathlib.Core.Bool.{true≢false}
 use native.Mathlib.Omega.{arith}
 use lib.ListN.{length}
-use Rattle.feed_steps.proofs.Runs.{received-kept, called-for, stepped-first, stepped-next, stepped-all}
+use Rattle.feed_state.proofs.Receiving.{received-kept}
+use Rattle.feed_steps.proofs.Runs.{called-for, stepped-first, stepped-next, stepped-all}
 use borrow.Author.Needs.{needs}
 use Rattle.feed_steps.proofs.receive_one.Statement.{statement}
 use Rattle.feed_steps.proofs.receive_one.Tie as tie

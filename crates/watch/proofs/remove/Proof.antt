@@ -5,8 +5,8 @@ use lib.ListN.{length}
 use Rattle.answer.specs.Order.{firstOf}
 use Rattle.geometry.specs.Checks.{badKey}
 use Rattle.watch_sound.proofs.Lengths.{usage-holds}
-use Rattle.watch.specs.Watch.{badList}
-use Rattle.watch.proofs.Lines.{list-long, key-long, arguments-none}
+use Rattle.watch_checks.specs.Checks.{badList}
+use Rattle.watch_checks.proofs.Lines.{list-long, key-long, arguments-none}
 use Rattle.watch.proofs.Calls.{removed-bad, removed-broken, removed-good}
 use borrow.Author.Needs.{needs}
 use Rattle.watch.proofs.remove.Statement.{statement}

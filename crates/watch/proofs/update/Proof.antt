@@ -11,8 +11,9 @@ use Rattle.answer.proofs.Order.{none-earlier}
 use Rattle.watch_list.specs.List.{noted}
 use Rattle.watch_list.specs.Layout.{encode, decode}
 use Rattle.watch_sound.proofs.Lengths.{usage-holds}
-use Rattle.watch.specs.Watch.{brokenList, badThreshold, badLines, notedIn}
-use Rattle.watch.proofs.Lines.{list-sound}
+use Rattle.watch_checks.specs.Checks.{brokenList, badThreshold, badLines}
+use Rattle.watch.specs.Watch.{notedIn}
+use Rattle.watch_checks.proofs.Lines.{list-sound}
 use Rattle.watch.proofs.Calls.{lines-good, watched-bad, watched-line, watched-full, watched-done}
 use borrow.Author.Needs.{needs}
 use Rattle.watch.proofs.update.Statement.{statement}

@@ -1,8 +1,8 @@
 use mathlib.Core.Path.{sym, _∙_}
-use Rattle.watch.proofs.Calls.{arguments-list, arguments-key}
+use Rattle.watch_checks.proofs.Lines.{arguments-list, arguments-key}
 use borrow.Author.Needs.{needs}
-use Rattle.watch.proofs.bad_arguments.Statement.{statement}
-use Rattle.watch.proofs.bad_arguments.Tie as tie
+use Rattle.watch_checks.proofs.bad_arguments.Statement.{statement}
+use Rattle.watch_checks.proofs.bad_arguments.Tie as tie
 
 bad-list-requires : tie.Need-bad-list-requires
 bad-list-requires c κs = search needs

@@ -1,8 +1,8 @@
 use mathlib.Core.Path.{sym, _∙_}
-use Rattle.watch.proofs.Calls.{lines-shape, lines-arguments}
+use Rattle.watch_checks.proofs.Lines.{lines-shape, lines-arguments}
 use borrow.Author.Needs.{needs}
-use Rattle.watch.proofs.bad_lines.Statement.{statement}
-use Rattle.watch.proofs.bad_lines.Tie as tie
+use Rattle.watch_checks.proofs.bad_lines.Statement.{statement}
+use Rattle.watch_checks.proofs.bad_lines.Tie as tie
 
 bad-shape-requires : tie.Need-bad-shape-requires
 bad-shape-requires c κs = search needs

@@ -1,6 +1,6 @@
 use borrow.Author.Tests.{eq-eqb, ne-eqb}
-use Rattle.watch.proofs.bad_list.Statement.{statement}
-use Rattle.watch.proofs.bad_list.Tie as tie
+use Rattle.watch_checks.proofs.bad_list.Statement.{statement}
+use Rattle.watch_checks.proofs.bad_list.Tie as tie
 
 returns : tie.Need-returns
 returns c = rw (ne-eqb _ _ (c .if1 .taken))

@@ -1,7 +1,7 @@
-use Rattle.feed_steps.proofs.Runs.{received-failed, received-more}
+use Rattle.feed_state.proofs.Receiving.{received-failed, received-more}
 use borrow.Author.Needs.{needs}
-use Rattle.feed_steps.proofs.receive.Statement.{statement}
-use Rattle.feed_steps.proofs.receive.Tie as tie
+use Rattle.feed_state.proofs.receive.Statement.{statement}
+use Rattle.feed_state.proofs.receive.Tie as tie
 
 is-short-requires : tie.Need-is-short-requires
 is-short-requires c κs = search needs

@@ -2,9 +2,9 @@ use mathlib.Core.Path.{sym}
 use borrow.Author.Tests.{not-true, not-false, le-leb, lt-leb}
 use lib.Dec.{leb}
 use Rattle.answer.specs.Order.{earlier}
-use Rattle.watch.proofs.Calls.{five-first}
-use Rattle.watch.proofs.bad_content.Statement.{statement}
-use Rattle.watch.proofs.bad_content.Tie as tie
+use Rattle.watch_checks.proofs.Lines.{five-first}
+use Rattle.watch_checks.proofs.bad_content.Statement.{statement}
+use Rattle.watch_checks.proofs.bad_content.Tie as tie
 
 returns : tie.Need-returns
 returns c = rw (not-true (c .before .args .sound) (c .if1 .taken)) (sym (five-first (leb 1 (c .before .args .threshold))))
