@@ -1,4 +1,4 @@
-// What an update through a watch list and a taking off test of their arguments, and of a list's content. Document 01's numbers 1 to 5, and 11.
+// What the calls of a watch list test of their arguments and of a list's content: numbers 1 to 5 and 11.
 use geometry::bad_key;
 use geometry::bad_shape;
 ghost use mathlib.Core.Path.{_≡_};
