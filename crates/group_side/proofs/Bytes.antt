@@ -1,17 +1,19 @@
 -- Laws of bytes tested and added side by side.
-use mathlib.Core.Path.{_≡_, refl, sym, ap, _∙_}
+use mathlib.Core.Path.{_≡_, refl, sym, ap, ap₂, _∙_}
 use mathlib.Core.Bool.{Bool, true, false, not, _&&_, _||_, and-assoc, or-assoc, and-true, or-false, and-eq-true-iff, true≢false}
 use mathlib.Core.List.{List, [], _∷_, _++_, append-nil}
 use Prim.Native.Nat.{ℕ, zero, suc, _+_, _/_, _≤_, _<_}
 use native.Mathlib.Decide.{decLt}
 use native.Mathlib.Numerals.{add-one}
 use native.Mathlib.Omega.{arith}
-use borrow.Author.Tests.{eq-eqb, ne-eqb, lt-ltb, le-ltb, ltb-true, eqb-true}
+use borrow.Author.Tests.{not-true, eq-eqb, ne-eqb, lt-ltb, le-ltb, ltb-true, eqb-true}
 use lib.Bits.{bitOr, or-add-and, and-le-l, and-le-r}
 use lib.Dec.{eqb, ltb}
 use lib.ListN.{length, getD, take, drop, set, drop-of-length-le}
 use lib.Seq.{take-all, drop-cons, take-suc-set, drop-set-lt, append-snoc}
 use Rattle.laws.proofs.Tests.{both-ways}
+use Rattle.little_endian.specs.Bytes.{number}
+use Rattle.little_endian.proofs.Bytes.{number-zero}
 use Rattle.group_side.specs.Side.{anyMerged, fit, sums}
 
 -- two numbers taken together are 0 where both are
@@ -50,6 +52,21 @@ none-merged (m ∷ ms) e i = go (eqb m 0) refl (none-merged ms) e i
     go true f rest e zero = eqb-true m 0 f
     go true f rest e (suc i) = rest e i
     go false f rest e i = absurd (true≢false e)
+
+zero-none : (ms : List ℕ) → ((i : ℕ) → getD ms i 0 ≡ 0) → anyMerged ms ≡ false
+unfolding anyMerged
+zero-none [] h = refl
+zero-none (m ∷ ms) h = rw (eq-eqb m 0 (h 0)) (zero-none ms (λ i. h (suc i)))
+
+-- merge bytes as one word: it is 0 exactly where none is merged, whatever their number
+word-none : (ms : List ℕ) → eqb (number ms) 0 ≡ not (anyMerged ms)
+word-none ms = both-ways (eqb (number ms) 0) (not (anyMerged ms))
+    (λ e. ap not (zero-none ms (number-zero ms .0 (eqb-true (number ms) 0 e))))
+    (λ e. eq-eqb (number ms) 0 (number-zero ms .1 (none-merged ms (not-true _ e))))
+
+-- and two words taken together
+pub words-none : (ms ns : List ℕ) → eqb (bitOr (number ms) (number ns)) 0 ≡ (not (anyMerged ms) && not (anyMerged ns))
+words-none ms ns = or-zero (number ms) (number ns) ∙ ap₂ _&&_ (word-none ms) (word-none ns)
 
 -- the sum of two bytes passes 255 where it carries
 carry-none : (a b : ℕ) → eqb ((a + b) / 256) 0 ≡ ltb (a + b) 256

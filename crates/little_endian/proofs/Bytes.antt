@@ -34,6 +34,21 @@ bytes-number (b ∷ bs) h =
     let high : (b + 256 * number bs) / 256 ≡ number bs = omega arith in
     rw (low, high) (ap (λ (l : List ℕ). b ∷ l) (bytes-number bs (λ i. h (suc i))))
 
+zero-bytes : (xs : List ℕ) → number xs ≡ 0 → (i : ℕ) → getD xs i 0 ≡ 0
+unfolding number
+zero-bytes [] e i = refl
+zero-bytes (b ∷ bs) e zero = omega arith
+zero-bytes (b ∷ bs) e (suc i) = zero-bytes bs (omega arith) i
+
+bytes-zero : (xs : List ℕ) → ((i : ℕ) → getD xs i 0 ≡ 0) → number xs ≡ 0
+unfolding number
+bytes-zero [] h = refl
+bytes-zero (b ∷ bs) h = omega (arith, h 0, bytes-zero bs (λ i. h (suc i)))
+
+-- the number is 0 exactly where every byte is, whatever the number of bytes
+pub number-zero : (xs : List ℕ) → (number xs ≡ 0 → (i : ℕ) → getD xs i 0 ≡ 0) × (((i : ℕ) → getD xs i 0 ≡ 0) → number xs ≡ 0)
+number-zero xs = (zero-bytes xs, bytes-zero xs)
+
 pub bytes-length : (n v : ℕ) → length (bytes n v) ≡ n
 unfolding bytes
 bytes-length zero v = refl

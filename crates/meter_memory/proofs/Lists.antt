@@ -131,6 +131,17 @@ status-start f n = rw (sub-zero n)
 pub level-start : (f : ℕ → ℕ) (n : ℕ) → max 0 (largest (ofGroups f (n - 0) 0)) ≡ largest (ofGroups f n 0)
 level-start f n = rw (sub-zero n) (omega arith)
 
+-- the answers of k groups, and of those after them
+pub status-run : (f : ℕ → ℕ) (k n g : ℕ) → g + k ≤ n → earlier (earliest (ofGroups f k g)) (earliest (ofGroups f (n - (g + k)) (g + k))) ≡ earliest (ofGroups f (n - g) g)
+unfolding earlier earliest ofGroups
+status-run f zero n g h =
+    let e : g + 0 ≡ g = omega arith in
+    rw e
+status-run f (suc k) n g h =
+    let e : g + suc k ≡ g + 1 + k = omega arith in
+    rw (e, groups-read f n g (omega arith))
+    (earlier-assoc (f g) (earliest (ofGroups f k (g + 1))) (earliest (ofGroups f (n - (g + 1 + k)) (g + 1 + k))) ∙ ap (earlier (f g)) (status-run f k n (g + 1) (omega arith)))
+
 module _ (f : ℕ → ℕ) (n g : ℕ) where
   pub status-turn : (s x : ℕ) → g < n → x ≡ f g → earlier (earlier s x) (earliest (ofGroups f (n - (g + 1)) (g + 1))) ≡ earlier s (earliest (ofGroups f (n - g) g))
   unfolding earliest

@@ -1,5 +1,5 @@
 -- Runs of unmerged groups in two rows: their unions are accepted, and where none is merged they are made side by side.
-use mathlib.Core.Path.{_≡_, refl, sym, ap, ap₂, _∙_}
+use mathlib.Core.Path.{_≡_, refl, sym, ap, _∙_}
 use mathlib.Core.Bool.{Bool, true, false, cond, not, and-eq-true-iff}
 use mathlib.Core.List.{List, _++_, append-assoc, append-nil}
 use Prim.Native.Nat.{ℕ, zero, suc, _+_, _-_, _*_, _/_, _≤_, _<_}
@@ -10,21 +10,20 @@ use lib.Dec.{eqb}
 use lib.ListN.{length, getD, take, drop, length-append, length-drop, take-append-drop}
 use lib.Seq.{length-take-le, take-at, drop-at, drop-drop, getD-take, getD-drop, take-take, take-add}
 use Rattle.laws.proofs.Lists.{Bytes, bytes-drop, bytes-take, drop-take}
-use Rattle.group.specs.declared.Group.{Group}
+use Rattle.group.specs.declared.Outcome.{Outcome}
 use Rattle.group.specs.Group.{unitedGroups}
 use Rattle.group.proofs.Laws.{Eight}
 use Rattle.group.proofs.Outcomes.{united-eight}
 use Rattle.group_side.specs.Side.{anyMerged, unmerged, unitedSide, stayUnmerged}
 use Rattle.group_side.proofs.Bytes.{none-merged}
 use Rattle.group_side.proofs.Unions.{unmerged-status}
-use Rattle.geometry.specs.Geometry.{validWidth, stride}
 use Rattle.answer.specs.Order.{earlier, earliest}
+use Rattle.answer.proofs.Order.{earlier-assoc, earlier-none}
 use Rattle.meter_memory.specs.Rows.{ofGroups, groupAt, withGroup}
-use Rattle.meter_memory.proofs.Lists.{same-from}
-use Rattle.geometry.proofs.Widths.{group-in, stride-is}
+use Rattle.meter_memory.proofs.Lists.{same-from, status-run}
 use Rattle.meter_memory.proofs.Groups.{eight-at, with-counts}
-use Rattle.meter_union.specs.Union.{unitedAt, unitedStatus, uniteStatus, uniteGroups}
-use Rattle.meter_union.specs.Runs.{mergesOf, countsOf, noneMerged, sideBySide}
+use Rattle.meter_union.specs.Union.{unitedAt, unitedStatus, uniteGroups}
+use Rattle.meter_union.specs.Runs.{mergesOf, countsOf, noneMerged, sideBySide, groupsStatus}
 
 -- the merge bytes of the groups are 0
 module _ (w n g : ℕ) (row source : List ℕ) (e : noneMerged w n g row source ≡ true) where
@@ -52,7 +51,12 @@ group-none : (w g : ℕ) (row : List ℕ) → getD row (w + g) 0 ≡ 0 → group
 unfolding groupAt
 group-none w g row e = rw e
 
--- a row of unmerged groups takes another
+pub united-none : (w g : ℕ) (row source : List ℕ) → getD row (w + g) 0 ≡ 0 → getD source (w + g) 0 ≡ 0
+    → unitedGroups (unmerged (take 8 (drop (8 * g) row))) (unmerged (take 8 (drop (8 * g) source))) ≡ unitedAt w source row g
+unfolding unitedAt
+united-none w g row source p q = rw (group-none w g row p, group-none w g source q)
+
+-- unmerged groups of a row take those of another
 groups-none : (f : ℕ → ℕ) (n g : ℕ) → ((i : ℕ) → g ≤ i → i < g + n → f i ≡ 0) → earliest (ofGroups f n g) ≡ 0
 unfolding earliest earlier ofGroups
 groups-none f zero g h = refl
@@ -62,17 +66,26 @@ eight-of : (w g : ℕ) (row : List ℕ) → Bytes row → 8 * g + 8 ≤ w → w 
 unfolding groupAt
 eight-of w g row b h l = record { long = eight-at w g row h l; small = bytes-take 8 (drop (8 * g) row) (bytes-drop (8 * g) row b) }
 
-pub status-none : (w : ℕ) (row source : List ℕ) → validWidth w ≡ true → length row ≡ stride w → length source ≡ stride w → Bytes row → Bytes source
-    → noneMerged w (w / 8) 0 row source ≡ true → uniteStatus w source row ≡ 0
-unfolding uniteStatus unitedStatus unitedAt
-status-none w row source v l m b c e =
-    groups-none (unitedStatus w source row) (w / 8) 0
-    (λ g h k.
-    let i = group-in w g v (omega arith) in
-    ap₂ (λ (x y : Group). unitedGroups x y .status) (group-none w g row (row-none w (w / 8) 0 row source e g h k))
-    (group-none w g source (source-none w (w / 8) 0 row source e g h k))
-    ∙ unmerged-status (take 8 (drop (8 * g) row)) (take 8 (drop (8 * g) source)) (eight-of w g row b (i .0) (omega (arith, stride-is w)))
-    (eight-of w g source c (i .0) (omega (arith, stride-is w))))
+pub status-none : (w n g : ℕ) (row source : List ℕ) → 8 * (g + n) ≤ w → w ≤ length row → w ≤ length source → Bytes row → Bytes source
+    → noneMerged w n g row source ≡ true → groupsStatus w source row n g ≡ 0
+unfolding groupsStatus unitedStatus
+status-none w n g row source h l m b c e =
+    groups-none (unitedStatus w source row) n g
+    (λ k p q.
+    ap (λ (o : Outcome). o .status) (sym (united-none w k row source (row-none w n g row source e k p q) (source-none w n g row source e k p q)))
+    ∙ unmerged-status (take 8 (drop (8 * k) row)) (take 8 (drop (8 * k) source)) (eight-of w k row b (omega arith) l) (eight-of w k source c (omega arith) m))
+
+-- the answer of k groups taken in, and those after them
+pub status-next : (w n g k : ℕ) (row source : List ℕ) (s x : ℕ) → g + k ≤ n → x ≡ groupsStatus w source row k g
+    → earlier (earlier s x) (groupsStatus w source row (n - (g + k)) (g + k)) ≡ earlier s (groupsStatus w source row (n - g) g)
+unfolding groupsStatus
+status-next w n g k row source s x h e =
+    earlier-assoc s x (groupsStatus w source row (n - (g + k)) (g + k)) ∙ ap (earlier s) (rw e (status-run (unitedStatus w source row) k n g h))
+
+pub status-skip : (w n g k : ℕ) (row source : List ℕ) (s : ℕ) → g + k ≤ n → groupsStatus w source row k g ≡ 0
+    → earlier s (groupsStatus w source row (n - (g + k)) (g + k)) ≡ earlier s (groupsStatus w source row (n - g) g)
+status-skip w n g k row source s h e =
+    ap (λ (t : ℕ). earlier t (groupsStatus w source row (n - (g + k)) (g + k))) (sym (earlier-none s)) ∙ status-next w n g k row source s 0 h (sym e)
 
 -- count bytes taken apart
 counts-first : (n g : ℕ) (row : List ℕ) → take 8 (countsOf (suc n) g row) ≡ take 8 (drop (8 * g) row)
@@ -103,9 +116,7 @@ module _ (w : ℕ) (source : List ℕ) where
   united-at : (g : ℕ) (row : List ℕ) → getD row (w + g) 0 ≡ 0 → getD source (w + g) 0 ≡ 0 → (zs : List ℕ)
       → unitedGroups (unmerged (take 8 (drop (8 * g) row))) (unmerged (take 8 (drop (8 * g) source))) .group ≡ unmerged zs → length zs ≡ 8
       → 8 * g + 8 ≤ w → w + g < length row → withGroup w row g (unitedAt w source row g .group) ≡ take (8 * g) row ++ zs ++ drop (8 * g + 8) row
-  unfolding unitedAt
-  united-at g row p q zs u eight h l =
-      rw (group-none w g row p, group-none w g source q, u) (with-counts w row g (unmerged zs) eight h l (sym p))
+  united-at g row p q zs u eight h l = rw (← united-none w g row source p q, u) (with-counts w row g (unmerged zs) eight h l (sym p))
 
   pub unite-side : (n g : ℕ) (row : List ℕ) → 8 * (g + n) ≤ w → w + (g + n) ≤ length row → w + (g + n) ≤ length source
       → Unmerged n g row → Unmerged n g source → stayUnmerged n (countsOf n g row) (countsOf n g source) ≡ true

@@ -4,7 +4,7 @@ use mathlib.Core.List.{List}
 use Prim.Native.Nat.{ℕ, zero, suc, _+_, _-_, _*_, _≤_, _<_}
 use native.Mathlib.Decide.{decLt}
 use native.Mathlib.Omega.{arith}
-use lib.ListN.{length}
+use lib.ListN.{length, getD}
 use Rattle.group.specs.declared.Group.{Group}
 use Rattle.group.specs.Group.{unitedGroups}
 use Rattle.group.proofs.Outcomes.{united-eight}
@@ -38,6 +38,12 @@ module _ (w : ℕ) (source : List ℕ) where
   united-eights : (row : List ℕ) (g : ℕ) → 8 * g + 8 ≤ w → w ≤ length row → length (unitedAt w source row g .group .counts) ≡ 8
   unfolding unitedAt
   united-eights row g h l = united-eight (groupAt w row g) (groupAt w source g) (eight-at w g row h l)
+
+  -- a union of one group leaves the merge bytes of the others
+  pub merge-kept : (row : List ℕ) (g : ℕ) → 8 * g + 8 ≤ w → w + g < length row → (k : ℕ) → 8 * k + 8 ≤ w → (k ≡ g → ⊥)
+      → getD (withGroup w row g (unitedAt w source row g .group)) (w + k) 0 ≡ getD row (w + k) 0
+  unfolding groupAt
+  merge-kept row g h l k m n = ap (λ (x : Group). x .merge) (group-other w row g (unitedAt w source row g .group) (united-eights row g h (omega arith)) h l k m n)
 
   pub length-united : (n g : ℕ) (row : List ℕ) → 8 * (g + n) ≤ w → w + (g + n) ≤ length row → length (uniteGroups w source n g row) ≡ length row
   unfolding uniteGroups

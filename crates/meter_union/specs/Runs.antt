@@ -4,6 +4,9 @@ use mathlib.Core.Bool.{Bool, not, _&&_}
 use mathlib.Core.List.{List}
 use lib.ListN.{take, drop}
 use Rattle.group_side.specs.Side.{anyMerged, stayUnmerged}
+use Rattle.answer.specs.Order.{earliest}
+use Rattle.meter_memory.specs.Rows.{ofGroups}
+use Rattle.meter_union.specs.Union.{unitedStatus}
 
 -- their merge bytes and their count bytes
 abbrev pub mergesOf : ℕ → ℕ → ℕ → List ℕ → List ℕ
@@ -19,3 +22,7 @@ noneMerged w n g row source = not (anyMerged (mergesOf w n g row)) && not (anyMe
 -- whether their unions are made side by side: none is merged in either row, and none of the unions is
 unfoldable pub sideBySide : ℕ → ℕ → ℕ → List ℕ → List ℕ → Bool
 sideBySide w n g row source = noneMerged w n g row source && stayUnmerged n (countsOf n g row) (countsOf n g source)
+
+-- what their unions answer together
+unfoldable pub groupsStatus : ℕ → List ℕ → List ℕ → ℕ → ℕ → ℕ
+groupsStatus w source row n g = earliest (ofGroups (unitedStatus w source row) n g)

@@ -1,6 +1,7 @@
 // The union of one row with a source row.
 use answer::earlier;
 use group::Outcome;
+use meter_memory::eight;
 use meter_memory::load;
 use meter_memory::store;
 ghost use mathlib.Core.Path.{_≡_};
@@ -9,7 +10,7 @@ ghost use Prim.Native.Nat.{_+_, _*_, _<_, _≤_};
 ghost use lib.ListN.{length};
 ghost use Rattle.geometry.specs.Geometry.{validWidth};
 ghost use Rattle.geometry.specs.Geometry as geometry;
-ghost use Rattle.meter_union.specs.Runs.{noneMerged, sideBySide};
+ghost use Rattle.meter_union.specs.Runs.{noneMerged, sideBySide, groupsStatus};
 ghost use Rattle.meter_union.specs.Union.{unitedAt, uniteStatus, uniteGroups, uniteRow};
 
 // Group g of a row united with that of a source row.
@@ -33,27 +34,47 @@ fn none_merged(row: &[u8], source: &[u8], w: usize, first: usize, n: usize) -> b
     !group_side::any_merged(&source[start..end])
 }
 
-// Whether a row takes a source row. Unmerged groups do.
-pub fn unite_status(row: &[u8], source: &[u8], w: usize) -> u8
-    requires { ⌜ validWidth w ≡ true ⌝ ∗ ⌜ length (now row) ≡ geometry.stride w ⌝ ∗ ⌜ length (now source) ≡ geometry.stride w ⌝ }
-    ensures { λ r. ⌜ r ≡ uniteStatus w (now (source .entry)) (now (row .entry)) ⌝ }
+// The same of eight groups, by one word of merge bytes of each row.
+fn eight_unmerged(row: &[u8], source: &[u8], w: usize, first: usize) -> bool
+    requires { ⌜ w + (first + 8) ≤ length (now row) ⌝ ∗ ⌜ w + (first + 8) ≤ length (now source) ⌝ }
+    ensures { λ r. ⌜ r ≡ noneMerged w 8 first (now (row .entry)) (now (source .entry)) ⌝ }
 {
-    if none_merged(row, source, w, 0, w / 8) {
-        return 0;
-    }
-    merged_status(row, source, w)
+    let start = w + first;
+    let end = start + 8;
+    group_side::none_merged(&row[start..end], &source[start..end])
 }
 
-fn merged_status(row: &[u8], source: &[u8], w: usize) -> u8
-    requires { ⌜ validWidth w ≡ true ⌝ ∗ ⌜ length (now row) ≡ geometry.stride w ⌝ ∗ ⌜ length (now source) ≡ geometry.stride w ⌝ }
-    ensures { λ r. ⌜ r ≡ uniteStatus w (now (source .entry)) (now (row .entry)) ⌝ }
+// Whether n groups of a row take those of a source row, the first of which is group `first`.
+fn groups_status(row: &[u8], source: &[u8], w: usize, first: usize, n: usize) -> u8
+    requires { ⌜ 8 * (first + n) ≤ w ⌝ ∗ ⌜ w + (first + n) ≤ length (now row) ⌝ ∗ ⌜ w + (first + n) ≤ length (now source) ⌝ }
+    ensures { λ r. ⌜ r ≡ groupsStatus w (now (source .entry)) (now (row .entry)) n first ⌝ }
 {
     let mut status = 0u8;
-    for g in 0..w / 8 {
+    for g in first..first + n {
         let s = group::unite_status(load(row, w, g), load(source, w, g));
         status = earlier(status, s);
     }
     status
+}
+
+// Whether a row takes a source row. Unmerged groups do. Only a row of 32 slots has groups left after its eights.
+pub fn unite_status(row: &[u8], source: &[u8], w: usize) -> u8
+    requires { ⌜ validWidth w ≡ true ⌝ ∗ ⌜ length (now row) ≡ geometry.stride w ⌝ ∗ ⌜ length (now source) ≡ geometry.stride w ⌝ }
+    ensures { λ r. ⌜ r ≡ uniteStatus w (now (source .entry)) (now (row .entry)) ⌝ }
+{
+    let mut status = 0u8;
+    for e in 0..w / 64 {
+        let first = 8 * e;
+        if !eight_unmerged(row, source, w, first) {
+            status = earlier(status, groups_status(row, source, w, first, 8));
+        }
+    }
+    let first = w / 64 * 8;
+    let n = w / 8 % 8;
+    if none_merged(row, source, w, first, n) {
+        return status;
+    }
+    earlier(status, groups_status(row, source, w, first, n))
 }
 
 // n groups of a source row added into a row one by one, the first of which is group `first`.
@@ -68,18 +89,26 @@ fn unite_groups(row: &mut [u8], source: &[u8], w: usize, first: usize, n: usize)
     }
 }
 
-// Eight groups of a source row added into a row side by side, if none is merged in either row and none of the unions is.
+// Eight groups of a source row added into a row side by side, if none of the unions is merged. None of the groups is, in either row.
 fn unite_side(row: &mut [u8], source: &[u8], w: usize, first: usize) -> bool
-    requires { ⌜ 8 * (first + 8) ≤ w ⌝ ∗ ⌜ w + (first + 8) ≤ length (now row) ⌝ ∗ ⌜ w + (first + 8) ≤ length (now source) ⌝ }
+    requires { ⌜ 8 * (first + 8) ≤ w ⌝ ∗ ⌜ w + (first + 8) ≤ length (now row) ⌝ ∗ ⌜ w + (first + 8) ≤ length (now source) ⌝ ∗ ⌜ noneMerged w 8 first (now row) (now source) ≡ true ⌝ }
     ensures { λ r. ⌜ r ≡ sideBySide w 8 first (now (row .entry)) (now (source .entry)) ⌝ }
     ensures { λ r. ⌜ now (row .exit) ≡ cond r (uniteGroups w (now (source .entry)) 8 first (now (row .entry))) (now (row .entry)) ⌝ }
 {
-    if !none_merged(row, source, w, first, 8) {
-        return false;
-    }
     let start = 8 * first;
     let end = start + 64;
     group_side::unite(&mut row[start..end], &source[start..end])
+}
+
+// The same one by one, whatever the unions are. No merge byte is read.
+fn unite_unmerged(row: &mut [u8], source: &[u8], w: usize, first: usize)
+    requires { ⌜ 8 * (first + 8) ≤ w ⌝ ∗ ⌜ w + (first + 8) ≤ length (now row) ⌝ ∗ ⌜ w + (first + 8) ≤ length (now source) ⌝ ∗ ⌜ noneMerged w 8 first (now row) (now source) ≡ true ⌝ }
+    ensures { λ _. ⌜ now (row .exit) ≡ uniteGroups w (now (source .entry)) 8 first (now (row .entry)) ⌝ }
+{
+    for g in first..first + 8 {
+        let x = group_side::unite_unmerged(eight(row, 8 * g), eight(source, 8 * g));
+        store(row, w, g, x);
+    }
 }
 
 // Eight groups of a source row added into a row.
@@ -87,10 +116,14 @@ fn unite_eight(row: &mut [u8], source: &[u8], w: usize, first: usize)
     requires { ⌜ 8 * (first + 8) ≤ w ⌝ ∗ ⌜ w + (first + 8) ≤ length (now row) ⌝ ∗ ⌜ w + (first + 8) ≤ length (now source) ⌝ }
     ensures { λ _. ⌜ now (row .exit) ≡ uniteGroups w (now (source .entry)) 8 first (now (row .entry)) ⌝ }
 {
+    if !eight_unmerged(row, source, w, first) {
+        unite_groups(row, source, w, first, 8);
+        return;
+    }
     if unite_side(row, source, w, first) {
         return;
     }
-    unite_groups(row, source, w, first, 8);
+    unite_unmerged(row, source, w, first);
 }
 
 // A source row added into a row. Only a row of 32 slots has groups left after its eights.
