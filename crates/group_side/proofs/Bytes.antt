@@ -2,7 +2,7 @@
 use mathlib.Core.Path.{_≡_, refl, sym, ap, ap₂, _∙_}
 use mathlib.Core.Bool.{Bool, true, false, not, _&&_, _||_, and-assoc, or-assoc, and-true, or-false, and-eq-true-iff, true≢false}
 use mathlib.Core.List.{List, [], _∷_, _++_, append-nil}
-use Prim.Native.Nat.{ℕ, zero, suc, _+_, _/_, _≤_, _<_}
+use Prim.Native.Nat.{ℕ, zero, suc, _+_, _/_, _%_, _≤_, _<_}
 use native.Mathlib.Decide.{decLt}
 use native.Mathlib.Numerals.{add-one}
 use native.Mathlib.Omega.{arith}
@@ -14,7 +14,7 @@ use lib.Seq.{take-all, drop-cons, take-suc-set, drop-set-lt, append-snoc}
 use Rattle.laws.proofs.Tests.{both-ways}
 use Rattle.little_endian.specs.Bytes.{number}
 use Rattle.little_endian.proofs.Bytes.{number-zero}
-use Rattle.group_side.specs.Side.{anyMerged, fit, sums}
+use Rattle.group_side.specs.Side.{anyMerged, fit, sums, wrappedSums}
 
 -- two numbers taken together are 0 where both are
 or-zero : (a b : ℕ) → eqb (bitOr a b) 0 ≡ (eqb a 0 && eqb b 0)
@@ -87,28 +87,33 @@ module _ (xs ys : List ℕ) (i : ℕ) (h : i < length xs) (k : i < length ys) wh
       rw (or-zero carries ((getD xs i 0 + getD ys i 0) / 256), carry-none (getD xs i 0) (getD ys i 0), fit-cons)
       (and-assoc (eqb carries 0) (ltb (getD xs i 0 + getD ys i 0) 256) (fit (drop (i + 1) xs) (drop (i + 1) ys)))
 
-  -- the first sum passes, and the rest
-  pub fit-first : fit (drop i xs) (drop i ys) ≡ true → (getD xs i 0 + getD ys i 0 < 256) × (fit (drop (i + 1) xs) (drop (i + 1) ys) ≡ true)
-  fit-first e =
-      let p = and-eq-true-iff (ltb (getD xs i 0 + getD ys i 0) 256) (fit (drop (i + 1) xs) (drop (i + 1) ys)) .0 (sym fit-cons ∙ e) in
-      (ltb-true _ _ (p .0), p .1)
-
-  -- sums stored one by one
-  pub sums-turn : take (i + 1) (set xs i (getD xs i 0 + getD ys i 0)) ++ sums (drop (i + 1) (set xs i (getD xs i 0 + getD ys i 0))) (drop (i + 1) ys)
-      ≡ take i xs ++ sums (drop i xs) (drop i ys)
-  unfolding sums
-  sums-turn =
-      let s = getD xs i 0 + getD ys i 0 in
-      rw (add-one i, take-suc-set xs i s h, drop-set-lt (suc i) xs i s (omega arith), drop-cons xs i 0 h, drop-cons ys i 0 k)
-      (append-snoc (take i xs) s (sums (drop (suc i) xs) (drop (suc i) ys)))
-
 pub fit-end : (xs ys : List ℕ) (i carries : ℕ) → length xs ≤ i → (eqb carries 0 && fit (drop i xs) (drop i ys)) ≡ eqb carries 0
 unfolding fit
 fit-end xs ys i carries h = rw (drop-of-length-le xs h) (and-true (eqb carries 0))
 
-pub sums-end : (xs ys : List ℕ) (i : ℕ) → length xs ≤ i → take i xs ++ sums (drop i xs) (drop i ys) ≡ xs
-unfolding sums
-sums-end xs ys i h = rw (drop-of-length-le xs h, take-all i xs h) (append-nil xs)
+-- sums made one by one
+pub length-wrapped : (xs ys : List ℕ) → length (wrappedSums xs ys) ≡ length xs
+unfolding wrappedSums
+length-wrapped [] ys = refl
+length-wrapped (x ∷ xs) [] = refl
+length-wrapped (x ∷ xs) (y ∷ ys) = ap suc (length-wrapped xs ys)
+
+pub wrapped-at : (xs ys : List ℕ) (i : ℕ) → i < length xs → i < length ys → getD (wrappedSums xs ys) i 0 ≡ (getD xs i 0 + getD ys i 0) % 256
+unfolding wrappedSums
+wrapped-at [] ys i h k = absurd (omega arith)
+wrapped-at (x ∷ xs) [] i h k = absurd (omega arith)
+wrapped-at (x ∷ xs) (y ∷ ys) zero h k = refl
+wrapped-at (x ∷ xs) (y ∷ ys) (suc i) h k = wrapped-at xs ys i (omega arith) (omega arith)
+
+-- none passes 255: they are the sums
+pub wrapped-fit : (xs ys : List ℕ) → fit xs ys ≡ true → wrappedSums xs ys ≡ sums xs ys
+unfolding fit sums wrappedSums
+wrapped-fit [] ys e = refl
+wrapped-fit (x ∷ xs) [] e = refl
+wrapped-fit (x ∷ xs) (y ∷ ys) e =
+    let p = and-eq-true-iff (ltb (x + y) 256) (fit xs ys) .0 e in
+    let small : (x + y) % 256 ≡ x + y = omega (arith, ltb-true (x + y) 256 (p .0)) in
+    rw small (ap (λ (zs : List ℕ). (x + y) ∷ zs) (wrapped-fit xs ys (p .1)))
 
 -- bytes tested in two parts
 fit-none : (xs : List ℕ) → fit xs [] ≡ true

@@ -1,5 +1,5 @@
 -- Unmerged groups side by side, by their count bytes and their merge bytes. The code's own terms: no call of the product cites them.
-use Prim.Native.Nat.{ℕ, zero, suc, _+_}
+use Prim.Native.Nat.{ℕ, zero, suc, _+_, _%_}
 use mathlib.Core.Bool.{Bool, true, false, not, _&&_, _||_}
 use mathlib.Core.List.{List, [], _∷_, _++_}
 use lib.Dec.{eqb, ltb}
@@ -23,6 +23,12 @@ unfoldable pub sums : List ℕ → List ℕ → List ℕ
 sums [] ys = []
 sums (x ∷ xs) [] = x ∷ xs
 sums (x ∷ xs) (y ∷ ys) = (x + y) ∷ sums xs ys
+
+-- and the sums modulo 256
+unfoldable pub wrappedSums : List ℕ → List ℕ → List ℕ
+wrappedSums [] ys = []
+wrappedSums (x ∷ xs) [] = x ∷ xs
+wrappedSums (x ∷ xs) (y ∷ ys) = (x + y) % 256 ∷ wrappedSums xs ys
 
 -- the unmerged group of eight count bytes
 abbrev pub unmerged : List ℕ → Group

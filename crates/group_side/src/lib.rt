@@ -1,14 +1,15 @@
 // Unmerged groups side by side: the count bytes of eight of them united at once, and merge bytes tested together. Of loops with no test
 // on the way, and of 64 turns where they go over count bytes, the compiler makes vector code.
 use group::Group;
+use std::num::wrapping_add_u8;
 ghost use mathlib.Core.Path.{_≡_};
-ghost use mathlib.Core.Bool.{true, cond, not, _&&_};
+ghost use mathlib.Core.Bool.{cond, not, _&&_};
 ghost use Prim.Native.Nat.{_+_, _/_};
+ghost use lib.Dec.{eqb};
 ghost use lib.ListN.{length};
 ghost use Rattle.little_endian.specs.Bytes.{number};
 ghost use Rattle.group.specs.Group.{unitedGroups};
-ghost use Rattle.group_side.specs.Side.{anyMerged, sums, unmerged, unitedSide, stayUnmerged};
-ghost use Rattle.group_side.specs.Side as spec;
+ghost use Rattle.group_side.specs.Side.{anyMerged, fit, wrappedSums, unmerged, unitedSide, stayUnmerged};
 
 // Whether some of these groups is merged, by their merge bytes.
 pub fn any_merged(merges: &[u8]) -> bool
@@ -53,25 +54,33 @@ fn carry(a: u8, b: u8) -> u8
     if 255 - a < b { 1 } else { 0 }
 }
 
-// Whether no sum of two bytes passes 255.
-fn fit(counts: &[u8], source: &[u8]) -> bool
-    requires { ⌜ length (now counts) ≡ 64 ⌝ ∗ ⌜ length (now source) ≡ 64 ⌝ }
-    ensures { λ r. ⌜ r ≡ spec.fit (now (counts .entry)) (now (source .entry)) ⌝ }
-{
-    let mut carries = 0u8;
-    for i in 0..64 {
-        carries = carries | carry(counts[i], source[i]);
-    }
-    carries == 0
+// The sums of 64 bytes and those of a source modulo 256, and 0 where no sum passes 255.
+struct Sums {
+    bytes: [u8; 64],
+    carries: u8,
 }
 
-// The bytes of a source added.
-fn add(counts: &mut [u8], source: &[u8])
-    requires { ⌜ length (now counts) ≡ 64 ⌝ ∗ ⌜ length (now source) ≡ 64 ⌝ ∗ ⌜ spec.fit (now counts) (now source) ≡ true ⌝ }
-    ensures { λ _. ⌜ now (counts .exit) ≡ sums (now (counts .entry)) (now (source .entry)) ⌝ }
+// They are made apart from the bytes that they are to replace, so that the compiler need not ask whether those overlap the source.
+fn sums_of(counts: &[u8], source: &[u8]) -> Sums
+    requires { ⌜ length (now counts) ≡ 64 ⌝ ∗ ⌜ length (now source) ≡ 64 ⌝ }
+    ensures { λ r. ⌜ r .bytes ≡ wrappedSums (now (counts .entry)) (now (source .entry)) ⌝ }
+    ensures { λ r. ⌜ eqb (r .carries) 0 ≡ fit (now (counts .entry)) (now (source .entry)) ⌝ }
+{
+    let mut bytes = [0u8; 64];
+    let mut carries = 0u8;
+    for i in 0..64 {
+        bytes[i] = wrapping_add_u8(counts[i], source[i]);
+        carries = carries | carry(counts[i], source[i]);
+    }
+    Sums { bytes, carries }
+}
+
+fn put(counts: &mut [u8], bytes: [u8; 64])
+    requires { ⌜ length (now counts) ≡ 64 ⌝ }
+    ensures { λ _. ⌜ now (counts .exit) ≡ bytes ⌝ }
 {
     for i in 0..64 {
-        counts[i] = counts[i] + source[i];
+        counts[i] = bytes[i];
     }
 }
 
@@ -81,11 +90,13 @@ pub fn unite(counts: &mut [u8], source: &[u8]) -> bool
     ensures { λ r. ⌜ r ≡ stayUnmerged 8 (now (counts .entry)) (now (source .entry)) ⌝ }
     ensures { λ r. ⌜ now (counts .exit) ≡ cond r (unitedSide 8 (now (counts .entry)) (now (source .entry))) (now (counts .entry)) ⌝ }
 {
-    if fit(counts, source) {
-        add(counts, source);
-        return true;
+    let s = sums_of(counts, source);
+    if s.carries != 0 {
+        return false;
     }
-    false
+    let bytes = s.bytes;
+    put(counts, bytes);
+    true
 }
 
 // A group united with one of a source, both of which are unmerged. No merge byte is read.

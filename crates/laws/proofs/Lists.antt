@@ -1,12 +1,12 @@
 -- Lists of bytes, and copies.
 use mathlib.Core.Path.{_≡_, sym, ap, _∙_}
-use mathlib.Core.List.{List, [], _∷_, _++_}
-use Prim.Native.Nat.{ℕ, zero, suc, _+_, _<_}
+use mathlib.Core.List.{List, [], _∷_, _++_, append-nil}
+use Prim.Native.Nat.{ℕ, zero, suc, _+_, _≤_, _<_}
 use native.Mathlib.Nat.{zero-add, add-zero}
 use native.Mathlib.Numerals.{add-one}
 use native.Mathlib.Decide.{decLt}
 use native.Mathlib.Omega.{arith}
-use lib.ListN.{length, getD, take, drop, set, length-take, List·getD-eq-default}
+use lib.ListN.{length, getD, take, drop, set, length-take, drop-of-length-le, List·getD-eq-default}
 use lib.Seq.{take-nil, getD-drop, getD-take, paste-suc}
 
 -- every element is a byte
@@ -35,3 +35,7 @@ pub copy-more : (s d : List ℕ) (i : ℕ) → i < length s → i < length d →
 copy-more s d i h k =
     let k0 : 0 + i < length d = omega arith in
     rw add-one (simp zero-add at (paste-suc d 0 s i 0 k0 h))
+
+-- a copy from the front that has all
+pub copy-all : (s d : List ℕ) (i : ℕ) → length d ≤ i → take i s ++ drop i d ≡ take i s
+copy-all s d i h = rw (drop-of-length-le d h, append-nil)

@@ -1,21 +1,17 @@
 -- Laws of copies and of rows lent out.
 use mathlib.Core.Path.{_≡_, sym, ap, _∙_}
-use mathlib.Core.List.{List, [], _∷_, _++_, append-nil, append-assoc}
+use mathlib.Core.List.{List, [], _∷_, _++_, append-assoc}
 use Prim.Native.Nat.{ℕ, zero, suc, _+_, _-_, _*_, _≤_, _<_, max}
 use native.Mathlib.Nat.{max-zero, zero-mul, add-mul, one-mul, sub-zero}
 use native.Mathlib.Numerals.{sub-one}
 use native.Mathlib.Decide.{decLt}
 use native.Mathlib.Omega.{arith}
 use borrow.Rule.Slice.PartMut.{putMid, post-is}
-use lib.ListN.{length, getD, take, drop, set, length-append, length-drop, take-append-drop, drop-of-length-le}
+use lib.ListN.{length, getD, take, drop, set, length-append, length-drop, take-append-drop}
 use lib.Seq.{length-take-le, take-at, drop-at, drop-drop, getD-drop, getD-set-same, getD-set-other}
 use Rattle.meter_memory.specs.Rows.{mapRows, ofRows, ofGroups, largest}
 use Rattle.answer.specs.Order.{earlier, earliest}
 use Rattle.answer.proofs.Order.{earlier-none, earlier-assoc}
-
--- a copy from the front that has all
-pub copy-all : (s d : List ℕ) (i : ℕ) → length d ≤ i → take i s ++ drop i d ≡ take i s
-copy-all s d i h = rw (drop-of-length-le d h, append-nil)
 
 -- lists that are the same from place k on
 pub same-from : (k : ℕ) (xs ys : List ℕ) → drop k xs ≡ drop k ys → getD xs k 0 ≡ getD ys k 0

@@ -5,8 +5,7 @@ use borrow.Author.Needs.{needs}
 use mathlib.Core.List.{_++_}
 use lib.ListN.{take, drop, length-drop, replicate}
 use lib.Seq.{getD-drop}
-use Rattle.laws.proofs.Lists.{copy-more}
-use Rattle.meter_memory.proofs.Lists.{copy-all}
+use Rattle.laws.proofs.Lists.{copy-more, copy-all}
 use Rattle.meter_memory.proofs.eight.Statement.{statement}
 use Rattle.meter_memory.proofs.eight.Tie as tie
 
