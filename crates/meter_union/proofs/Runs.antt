@@ -18,12 +18,12 @@ use Rattle.group_side.specs.Side.{anyMerged, unmerged, unitedSide, stayUnmerged
 use Rattle.group_side.proofs.Bytes.{none-merged}
 use Rattle.group_side.proofs.Unions.{unmerged-status}
 use Rattle.answer.specs.Order.{earlier, earliest}
-use Rattle.answer.proofs.Order.{earlier-assoc, earlier-none}
+use Rattle.answer.proofs.Order.{earlier-assoc}
 use Rattle.meter_memory.specs.Rows.{ofGroups, groupAt, withGroup}
 use Rattle.meter_memory.proofs.Lists.{same-from, status-run}
 use Rattle.meter_memory.proofs.Groups.{eight-at, with-counts}
 use Rattle.meter_union.specs.Union.{unitedAt, unitedStatus, uniteGroups}
-use Rattle.meter_union.specs.Runs.{mergesOf, countsOf, noneMerged, sideBySide, groupsStatus}
+use Rattle.meter_union.specs.Runs.{mergesOf, countsOf, noneMerged, nextMerged, sideBySide, groupsStatus}
 
 -- the merge bytes of the groups are 0
 module _ (w n g : ℕ) (row source : List ℕ) (e : noneMerged w n g row source ≡ true) where
@@ -82,10 +82,52 @@ unfolding groupsStatus
 status-next w n g k row source s x h e =
     earlier-assoc s x (groupsStatus w source row (n - (g + k)) (g + k)) ∙ ap (earlier s) (rw e (status-run (unitedStatus w source row) k n g h))
 
-pub status-skip : (w n g k : ℕ) (row source : List ℕ) (s : ℕ) → g + k ≤ n → groupsStatus w source row k g ≡ 0
-    → earlier s (groupsStatus w source row (n - (g + k)) (g + k)) ≡ earlier s (groupsStatus w source row (n - g) g)
-status-skip w n g k row source s h e =
-    ap (λ (t : ℕ). earlier t (groupsStatus w source row (n - (g + k)) (g + k))) (sym (earlier-none s)) ∙ status-next w n g k row source s 0 h (sym e)
+pub status-skip : (w n g k : ℕ) (row source : List ℕ) → g + k ≤ n → groupsStatus w source row k g ≡ 0
+    → groupsStatus w source row (n - (g + k)) (g + k) ≡ groupsStatus w source row (n - g) g
+unfolding earlier groupsStatus
+status-skip w n g k row source h e = ap (λ (s : ℕ). earlier s (groupsStatus w source row (n - (g + k)) (g + k))) (sym e) ∙ status-run (unitedStatus w source row) k n g h
+
+-- eights of unmerged groups, passed over one by one
+module _ (w : ℕ) (row source : List ℕ) where
+  pub next-turn : (n e : ℕ) (b : Bool) → e < n → noneMerged w 8 (8 * e) row source ≡ b
+      → nextMerged w row source (n - e) e ≡ cond b (nextMerged w row source (n - (e + 1)) (e + 1)) e
+  unfolding nextMerged
+  next-turn n e b h f =
+      let k : n - e ≡ suc (n - (e + 1)) = omega arith in
+      rw (k, f)
+
+  pub next-end : (n e : ℕ) → n ≤ e → nextMerged w row source (n - e) e ≡ e
+  unfolding nextMerged
+  next-end n e h =
+      let k : n - e ≡ 0 = omega arith in
+      rw k
+
+  pub next-in : (n e : ℕ) → (e ≤ nextMerged w row source n e) × (nextMerged w row source n e ≤ e + n)
+  unfolding nextMerged
+  next-in zero e = (omega arith, omega arith)
+  next-in (suc n) e = go (noneMerged w 8 (8 * e) row source) (next-in n (e + 1))
+    where
+      go : (b : Bool) → (e + 1 ≤ nextMerged w row source n (e + 1)) × (nextMerged w row source n (e + 1) ≤ e + 1 + n)
+          → (e ≤ cond b (nextMerged w row source n (e + 1)) e) × (cond b (nextMerged w row source n (e + 1)) e ≤ e + suc n)
+      go true p = (omega (arith, p .0), omega (arith, p .1))
+      go false p = (omega arith, omega arith)
+
+  -- they answer nothing
+  module _ (l : w ≤ length row) (m : w ≤ length source) (b : Bytes row) (c : Bytes source) (k : ℕ) where
+    abbrev From : ℕ → ℕ
+    From e = groupsStatus w source row (k - 8 * e) (8 * e)
+
+    pub next-status : (n e : ℕ) → 64 * (e + n) ≤ w → 8 * (e + n) ≤ k → From (nextMerged w row source n e) ≡ From e
+    unfolding nextMerged
+    next-status zero e h i = refl
+    next-status (suc n) e h i = go (noneMerged w 8 (8 * e) row source) refl (next-status n (e + 1) (omega arith) (omega arith))
+      where
+        go : (q : Bool) → noneMerged w 8 (8 * e) row source ≡ q → From (nextMerged w row source n (e + 1)) ≡ From (e + 1)
+            → From (cond q (nextMerged w row source n (e + 1)) e) ≡ From e
+        go true f p =
+            let at : 8 * (e + 1) ≡ 8 * e + 8 = omega arith in
+            p ∙ rw at (status-skip w k (8 * e) 8 row source (omega arith) (status-none w 8 (8 * e) row source (omega arith) l m b c f))
+        go false f p = refl
 
 -- count bytes taken apart
 counts-first : (n g : ℕ) (row : List ℕ) → take 8 (countsOf (suc n) g row) ≡ take 8 (drop (8 * g) row)

@@ -1,6 +1,6 @@
 -- Runs of groups in a row of w slots: n of them, the first of which is group g. The code's own terms.
-use Prim.Native.Nat.{ℕ, _+_, _*_}
-use mathlib.Core.Bool.{Bool, not, _&&_}
+use Prim.Native.Nat.{ℕ, zero, suc, _+_, _*_}
+use mathlib.Core.Bool.{Bool, cond, not, _&&_}
 use mathlib.Core.List.{List}
 use lib.ListN.{take, drop}
 use Rattle.group_side.specs.Side.{anyMerged, stayUnmerged}
@@ -18,6 +18,11 @@ countsOf n g row = take (8 * n) (drop (8 * g) row)
 -- whether none is merged in either of two rows
 unfoldable pub noneMerged : ℕ → ℕ → ℕ → List ℕ → List ℕ → Bool
 noneMerged w n g row source = not (anyMerged (mergesOf w n g row)) && not (anyMerged (mergesOf w n g source))
+
+-- The first eight groups of a row, by number, some of which is merged in either row: of n eights, the first of which is eight e; if there are none, the one after them.
+unfoldable pub nextMerged : ℕ → List ℕ → List ℕ → ℕ → ℕ → ℕ
+nextMerged w row source zero e = e
+nextMerged w row source (suc n) e = cond (noneMerged w 8 (8 * e) row source) (nextMerged w row source n (e + 1)) e
 
 -- whether their unions are made side by side: none is merged in either row, and none of the unions is
 unfoldable pub sideBySide : ℕ → ℕ → ℕ → List ℕ → List ℕ → Bool

@@ -6,11 +6,11 @@ use meter_memory::load;
 use meter_memory::store;
 ghost use mathlib.Core.Path.{_≡_};
 ghost use mathlib.Core.Bool.{true, cond};
-ghost use Prim.Native.Nat.{_+_, _*_, _<_, _≤_};
+ghost use Prim.Native.Nat.{_+_, _-_, _*_, _/_, _<_, _≤_};
 ghost use lib.ListN.{length};
 ghost use Rattle.geometry.specs.Geometry.{validWidth};
 ghost use Rattle.geometry.specs.Geometry as geometry;
-ghost use Rattle.meter_union.specs.Runs.{noneMerged, sideBySide, groupsStatus};
+ghost use Rattle.meter_union.specs.Runs.{noneMerged, nextMerged, sideBySide, groupsStatus};
 ghost use Rattle.meter_union.specs.Union.{unitedAt, uniteStatus, uniteGroups, uniteRow};
 
 // Group g of a row united with that of a source row.
@@ -44,6 +44,19 @@ fn eight_unmerged(row: &[u8], source: &[u8], w: usize, first: usize) -> bool
     group_side::none_merged(&row[start..end], &source[start..end])
 }
 
+// The first eight groups, by number and from eight `from` on, some of which is merged in either row; w / 64 if there are none.
+fn next_merged(row: &[u8], source: &[u8], w: usize, from: usize) -> usize
+    requires { ⌜ length (now row) ≡ geometry.stride w ⌝ ∗ ⌜ length (now source) ≡ geometry.stride w ⌝ ∗ ⌜ from ≤ w / 64 ⌝ }
+    ensures { λ r. ⌜ r ≡ nextMerged w (now (row .entry)) (now (source .entry)) (w / 64 - from) from ⌝ }
+{
+    for e in from..w / 64 {
+        if !eight_unmerged(row, source, w, 8 * e) {
+            return e;
+        }
+    }
+    w / 64
+}
+
 // Whether n groups of a row take those of a source row, the first of which is group `first`.
 fn groups_status(row: &[u8], source: &[u8], w: usize, first: usize, n: usize) -> u8
     requires { ⌜ 8 * (first + n) ≤ w ⌝ ∗ ⌜ w + (first + n) ≤ length (now row) ⌝ ∗ ⌜ w + (first + n) ≤ length (now source) ⌝ }
@@ -63,11 +76,10 @@ pub fn unite_status(row: &[u8], source: &[u8], w: usize) -> u8
     ensures { λ r. ⌜ r ≡ uniteStatus w (now (source .entry)) (now (row .entry)) ⌝ }
 {
     let mut status = 0u8;
-    for e in 0..w / 64 {
-        let first = 8 * e;
-        if !eight_unmerged(row, source, w, first) {
-            status = earlier(status, groups_status(row, source, w, first, 8));
-        }
+    let mut e = next_merged(row, source, w, 0);
+    while e < w / 64 {
+        status = earlier(status, groups_status(row, source, w, 8 * e, 8));
+        e = next_merged(row, source, w, e + 1);
     }
     let first = w / 64 * 8;
     let n = w / 8 % 8;
