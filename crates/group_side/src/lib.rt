@@ -9,7 +9,8 @@ ghost use lib.Dec.{eqb};
 ghost use lib.ListN.{length};
 ghost use Rattle.little_endian.specs.Bytes.{number};
 ghost use Rattle.group.specs.Group.{unitedGroups};
-ghost use Rattle.group_side.specs.Side.{anyMerged, fit, wrappedSums, unmerged, unitedSide, stayUnmerged};
+ghost use Rattle.group_side.specs.Side.{anyMerged, fit, wrappedSums, unitedSide, stayUnmerged};
+ghost use Rattle.group_side.specs.Side as spec;
 
 // Whether some of these groups is merged, by their merge bytes.
 pub fn any_merged(merges: &[u8]) -> bool
@@ -99,16 +100,17 @@ pub fn unite(counts: &mut [u8], source: &[u8]) -> bool
     true
 }
 
-// A group united with one of a source, both of which are unmerged. No merge byte is read.
-pub fn unite_unmerged(counts: [u8; 8], source: [u8; 8]) -> Group
-    ensures { λ r. ⌜ r ≡ unitedGroups (unmerged counts) (unmerged source) .group ⌝ }
+// The unmerged group of eight count bytes.
+fn unmerged(counts: [u8; 8]) -> Group
+    ensures { λ r. ⌜ r ≡ spec.unmerged counts ⌝ }
 {
-    let o = group::unite(
-        Group { counts, merge: 0 },
-        Group {
-            counts: source,
-            merge: 0,
-        },
-    );
+    Group { counts, merge: 0 }
+}
+
+// An unmerged group united with an unmerged one of a source, whatever the sums are. No merge byte is read.
+pub fn unite_unmerged(counts: [u8; 8], source: [u8; 8]) -> Group
+    ensures { λ r. ⌜ r ≡ unitedGroups (spec.unmerged counts) (spec.unmerged source) .group ⌝ }
+{
+    let o = group::unite(unmerged(counts), unmerged(source));
     o.group
 }
