@@ -598,6 +598,81 @@ fn all_layout_codes() {
     }
 }
 
+/// Two rows of w slots with nothing merged, whose counters are below a limit.
+fn unmerged(rng: &mut Rng, w: usize, limit: usize) -> Vec<u8> {
+    let mut bytes = vec![0; 2 * (w / 8 * 9)];
+    for row in bytes.chunks_mut(w / 8 * 9) {
+        row[..w].fill_with(|| rng.below(limit) as u8);
+    }
+    bytes
+}
+
+/// Unions of meters with nothing merged but one group: every merge byte at every place, in the target, in the source and in both. Of the
+/// other sums none passes 255, or some do, or in every group.
+#[test]
+fn unions_with_one_merge_byte() {
+    let mut list = List {
+        rng: Rng::new(seed("unions_with_one_merge_byte")),
+        tally: Tally::default(),
+    };
+    for w in [32, 64, 128] {
+        for g in 0..w / 8 {
+            let at = g % 2 * (w / 8 * 9) + w + g;
+            for merge in 0..=255 {
+                for merged in [[true, false], [false, true], [true, true]] {
+                    for limit in [128, 130, 256] {
+                        let [mut target, mut source] = merged.map(|merged| {
+                            let mut bytes = unmerged(&mut list.rng, w, limit);
+                            if merged {
+                                bytes[at] = merge;
+                            }
+                            Pair::new(&bytes)
+                        });
+                        list.unite(2, w, &mut target, &mut source);
+                    }
+                }
+            }
+        }
+    }
+    println!("{:?}", list.tally.given);
+    for number in [0, 5, 6] {
+        assert!(list.tally.given.contains_key(&("unite", number)), "number {number}");
+    }
+}
+
+/// Unions of meters with nothing merged: at every slot a sum of 255 or less, and one past it.
+#[test]
+fn unions_around_255() {
+    let mut list = List {
+        rng: Rng::new(seed("unions_around_255")),
+        tally: Tally::default(),
+    };
+    for w in [32, 64, 128] {
+        for slot in 0..w {
+            let at = slot % 2 * (w / 8 * 9) + slot;
+            for (a, b, stays) in [
+                (0, 255, true),
+                (255, 0, true),
+                (127, 128, true),
+                (128, 128, false),
+                (255, 1, false),
+                (1, 255, false),
+                (255, 255, false),
+            ] {
+                let [mut target, mut source] = [a, b].map(|counter| {
+                    let mut bytes = unmerged(&mut list.rng, w, 128);
+                    bytes[at] = counter;
+                    Pair::new(&bytes)
+                });
+                list.unite(2, w, &mut target, &mut source);
+                let united = target.proved.get();
+                let merged = united.chunks(w / 8 * 9).any(|row| row[w..].iter().any(|merge| *merge != 0));
+                assert_eq!(merged, !stays, "w {w}, slot {slot}: {a} and {b}");
+            }
+        }
+    }
+}
+
 /// Lent slices may be empty.
 #[test]
 fn nothing_lent() {
