@@ -23,7 +23,7 @@ use Rattle.meter_memory.specs.Rows.{ofGroups, groupAt, withGroup}
 use Rattle.meter_memory.proofs.Lists.{same-from, status-run}
 use Rattle.meter_memory.proofs.Groups.{eight-at, with-counts}
 use Rattle.meter_union.specs.Union.{unitedAt, unitedStatus, uniteGroups}
-use Rattle.meter_union.specs.Runs.{mergesOf, countsOf, noneMerged, nextMerged, sideBySide, groupsStatus}
+use Rattle.meter_union.specs.Runs.{InRows, mergesOf, countsOf, noneMerged, nextMerged, groupsStatus}
 
 -- the merge bytes of the groups are 0
 module _ (w n g : ℕ) (row source : List ℕ) (e : noneMerged w n g row source ≡ true) where
@@ -204,19 +204,15 @@ put-back a e xs ys h = ap (λ (zs : List ℕ). take a xs ++ (ys ++ zs)) (post-is
 put-same : (a : ℕ) (xs : List ℕ) → take a xs ++ take 64 (drop a xs) ++ drop (a + 64) xs ≡ xs
 put-same a xs = rw (← take-add a 64 xs) (take-append-drop (a + 64) xs)
 
-module _ (w g : ℕ) (row source : List ℕ) (h : 8 * (g + 8) ≤ w) (l : w + (g + 8) ≤ length row) (m : w + (g + 8) ≤ length source)
-    (none : noneMerged w 8 g row source ≡ true) where
+module _ (w g : ℕ) (row source : List ℕ) (h : InRows w 8 g row source) (none : noneMerged w 8 g row source ≡ true) where
   after : 8 * g + 64 ≡ 8 * (g + 8)
   after = omega arith
 
   pub side-back : (r : Bool) (last : List ℕ) → r ≡ stayUnmerged 8 (countsOf 8 g row) (countsOf 8 g source)
       → last ≡ cond r (unitedSide 8 (countsOf 8 g row) (countsOf 8 g source)) (countsOf 8 g row)
-      → (r ≡ sideBySide w 8 g row source) × (putMid (8 * g) (8 * g + 64 - 8 * g) row last ≡ cond r (uniteGroups w source 8 g row) row)
-  unfolding sideBySide
-  side-back true last e f = (
-    rw (none, ← e),
-    put-back (8 * g) (8 * g + 64) row last (omega arith)
-        ∙ rw f (ap (λ (i : ℕ). take (8 * g) row ++ unitedSide 8 (countsOf 8 g row) (countsOf 8 g source) ++ drop i row) after
-        ∙ unite-side w source 8 g row h l m (row-none w 8 g row source none) (source-none w 8 g row source none) (sym e)),
-  )
-  side-back false last e f = (rw (none, ← e), put-back (8 * g) (8 * g + 64) row last (omega arith) ∙ rw f (put-same (8 * g) row))
+      → putMid (8 * g) (8 * g + 64 - 8 * g) row last ≡ cond r (uniteGroups w source 8 g row) row
+  side-back true last e f =
+      put-back (8 * g) (8 * g + 64) row last (omega arith)
+      ∙ rw f (ap (λ (i : ℕ). take (8 * g) row ++ unitedSide 8 (countsOf 8 g row) (countsOf 8 g source) ++ drop i row) after
+      ∙ unite-side w source 8 g row (h .0) (h .1) (h .2) (row-none w 8 g row source none) (source-none w 8 g row source none) (sym e))
+  side-back false last e f = put-back (8 * g) (8 * g + 64) row last (omega arith) ∙ rw f (put-same (8 * g) row)

@@ -1,12 +1,16 @@
 -- Runs of groups in a row of w slots: n of them, the first of which is group g. The code's own terms.
-use Prim.Native.Nat.{ℕ, zero, suc, _+_, _*_}
+use Prim.Native.Nat.{ℕ, zero, suc, _+_, _*_, _≤_}
 use mathlib.Core.Bool.{Bool, cond, not, _&&_}
 use mathlib.Core.List.{List}
-use lib.ListN.{take, drop}
-use Rattle.group_side.specs.Side.{anyMerged, stayUnmerged}
+use lib.ListN.{length, take, drop}
+use Rattle.group_side.specs.Side.{anyMerged}
 use Rattle.answer.specs.Order.{earliest}
 use Rattle.meter_memory.specs.Rows.{ofGroups}
 use Rattle.meter_union.specs.Union.{unitedStatus}
+
+-- they lie in both of two rows
+abbrev pub InRows : ℕ → ℕ → ℕ → List ℕ → List ℕ → Type 0
+InRows w n g row source = (8 * (g + n) ≤ w) × (w + (g + n) ≤ length row) × (w + (g + n) ≤ length source)
 
 -- their merge bytes and their count bytes
 abbrev pub mergesOf : ℕ → ℕ → ℕ → List ℕ → List ℕ
@@ -23,10 +27,6 @@ noneMerged w n g row source = not (anyMerged (mergesOf w n g row)) && not (anyMe
 unfoldable pub nextMerged : ℕ → List ℕ → List ℕ → ℕ → ℕ → ℕ
 nextMerged w row source zero e = e
 nextMerged w row source (suc n) e = cond (noneMerged w 8 (8 * e) row source) (nextMerged w row source n (e + 1)) e
-
--- whether their unions are made side by side: none is merged in either row, and none of the unions is
-unfoldable pub sideBySide : ℕ → ℕ → ℕ → List ℕ → List ℕ → Bool
-sideBySide w n g row source = noneMerged w n g row source && stayUnmerged n (countsOf n g row) (countsOf n g source)
 
 -- what their unions answer together
 unfoldable pub groupsStatus : ℕ → List ℕ → List ℕ → ℕ → ℕ → ℕ

@@ -10,7 +10,8 @@ ghost use Prim.Native.Nat.{_+_, _-_, _*_, _/_, _<_, _≤_};
 ghost use lib.ListN.{length};
 ghost use Rattle.geometry.specs.Geometry.{validWidth};
 ghost use Rattle.geometry.specs.Geometry as geometry;
-ghost use Rattle.meter_union.specs.Runs.{noneMerged, nextMerged, sideBySide, groupsStatus};
+ghost use Rattle.group_side.specs.Side.{stayUnmerged};
+ghost use Rattle.meter_union.specs.Runs.{InRows, countsOf, noneMerged, nextMerged, groupsStatus};
 ghost use Rattle.meter_union.specs.Union.{unitedAt, uniteStatus, uniteGroups, uniteRow};
 
 // Group g of a row united with that of a source row.
@@ -23,7 +24,7 @@ fn united_at(row: &[u8], source: &[u8], w: usize, g: usize) -> Outcome
 
 // Whether none of n groups is merged in either of two rows, the first of which is group `first`.
 fn none_merged(row: &[u8], source: &[u8], w: usize, first: usize, n: usize) -> bool
-    requires { ⌜ w + (first + n) ≤ length (now row) ⌝ ∗ ⌜ w + (first + n) ≤ length (now source) ⌝ }
+    requires { ⌜ InRows w n first (now row) (now source) ⌝ }
     ensures { λ r. ⌜ r ≡ noneMerged w n first (now (row .entry)) (now (source .entry)) ⌝ }
 {
     let start = w + first;
@@ -36,7 +37,7 @@ fn none_merged(row: &[u8], source: &[u8], w: usize, first: usize, n: usize) -> b
 
 // The same of eight groups, by one word of merge bytes of each row.
 fn eight_unmerged(row: &[u8], source: &[u8], w: usize, first: usize) -> bool
-    requires { ⌜ w + (first + 8) ≤ length (now row) ⌝ ∗ ⌜ w + (first + 8) ≤ length (now source) ⌝ }
+    requires { ⌜ InRows w 8 first (now row) (now source) ⌝ }
     ensures { λ r. ⌜ r ≡ noneMerged w 8 first (now (row .entry)) (now (source .entry)) ⌝ }
 {
     let start = w + first;
@@ -59,7 +60,7 @@ fn next_merged(row: &[u8], source: &[u8], w: usize, from: usize) -> usize
 
 // Whether n groups of a row take those of a source row, the first of which is group `first`.
 fn groups_status(row: &[u8], source: &[u8], w: usize, first: usize, n: usize) -> u8
-    requires { ⌜ 8 * (first + n) ≤ w ⌝ ∗ ⌜ w + (first + n) ≤ length (now row) ⌝ ∗ ⌜ w + (first + n) ≤ length (now source) ⌝ }
+    requires { ⌜ InRows w n first (now row) (now source) ⌝ }
     ensures { λ r. ⌜ r ≡ groupsStatus w (now (source .entry)) (now (row .entry)) n first ⌝ }
 {
     let mut status = 0u8;
@@ -91,7 +92,7 @@ pub fn unite_status(row: &[u8], source: &[u8], w: usize) -> u8
 
 // n groups of a source row added into a row one by one, the first of which is group `first`.
 fn unite_groups(row: &mut [u8], source: &[u8], w: usize, first: usize, n: usize)
-    requires { ⌜ 8 * (first + n) ≤ w ⌝ ∗ ⌜ w + (first + n) ≤ length (now row) ⌝ ∗ ⌜ w + (first + n) ≤ length (now source) ⌝ }
+    requires { ⌜ InRows w n first (now row) (now source) ⌝ }
     ensures { λ _. ⌜ now (row .exit) ≡ uniteGroups w (now (source .entry)) n first (now (row .entry)) ⌝ }
 {
     for g in first..first + n {
@@ -103,8 +104,8 @@ fn unite_groups(row: &mut [u8], source: &[u8], w: usize, first: usize, n: usize)
 
 // Eight groups of a source row added into a row side by side, if none of the unions is merged. None of the groups is, in either row.
 fn unite_side(row: &mut [u8], source: &[u8], w: usize, first: usize) -> bool
-    requires { ⌜ 8 * (first + 8) ≤ w ⌝ ∗ ⌜ w + (first + 8) ≤ length (now row) ⌝ ∗ ⌜ w + (first + 8) ≤ length (now source) ⌝ ∗ ⌜ noneMerged w 8 first (now row) (now source) ≡ true ⌝ }
-    ensures { λ r. ⌜ r ≡ sideBySide w 8 first (now (row .entry)) (now (source .entry)) ⌝ }
+    requires { ⌜ InRows w 8 first (now row) (now source) ⌝ ∗ ⌜ noneMerged w 8 first (now row) (now source) ≡ true ⌝ }
+    ensures { λ r. ⌜ r ≡ stayUnmerged 8 (countsOf 8 first (now (row .entry))) (countsOf 8 first (now (source .entry))) ⌝ }
     ensures { λ r. ⌜ now (row .exit) ≡ cond r (uniteGroups w (now (source .entry)) 8 first (now (row .entry))) (now (row .entry)) ⌝ }
 {
     let start = 8 * first;
@@ -114,7 +115,7 @@ fn unite_side(row: &mut [u8], source: &[u8], w: usize, first: usize) -> bool
 
 // The same one by one, whatever the unions are. No merge byte is read.
 fn unite_unmerged(row: &mut [u8], source: &[u8], w: usize, first: usize)
-    requires { ⌜ 8 * (first + 8) ≤ w ⌝ ∗ ⌜ w + (first + 8) ≤ length (now row) ⌝ ∗ ⌜ w + (first + 8) ≤ length (now source) ⌝ ∗ ⌜ noneMerged w 8 first (now row) (now source) ≡ true ⌝ }
+    requires { ⌜ InRows w 8 first (now row) (now source) ⌝ ∗ ⌜ noneMerged w 8 first (now row) (now source) ≡ true ⌝ }
     ensures { λ _. ⌜ now (row .exit) ≡ uniteGroups w (now (source .entry)) 8 first (now (row .entry)) ⌝ }
 {
     for g in first..first + 8 {
@@ -125,7 +126,7 @@ fn unite_unmerged(row: &mut [u8], source: &[u8], w: usize, first: usize)
 
 // Eight groups of a source row added into a row.
 fn unite_eight(row: &mut [u8], source: &[u8], w: usize, first: usize)
-    requires { ⌜ 8 * (first + 8) ≤ w ⌝ ∗ ⌜ w + (first + 8) ≤ length (now row) ⌝ ∗ ⌜ w + (first + 8) ≤ length (now source) ⌝ }
+    requires { ⌜ InRows w 8 first (now row) (now source) ⌝ }
     ensures { λ _. ⌜ now (row .exit) ≡ uniteGroups w (now (source .entry)) 8 first (now (row .entry)) ⌝ }
 {
     if !eight_unmerged(row, source, w, first) {

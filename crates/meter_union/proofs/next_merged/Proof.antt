@@ -24,7 +24,7 @@ mul-eight-unmerged c = search needs
 
 eight-unmerged-requires : tie.Need-eight-unmerged-requires Inv-loop μ-loop
 eight-unmerged-requires c κs = let w = c .before .before .before .before .args .w in
-    (omega (arith, stride-is w), omega (arith, stride-is w))
+    (omega arith, omega (arith, stride-is w), omega (arith, stride-is w))
 
 returns : tie.Need-returns Inv-loop μ-loop
 returns c = let a = c .before .before .before .before .before .before .args in

@@ -30,8 +30,7 @@ returns : tie.Need-returns
 returns c = search needs
 
 unite-side-requires : tie.Need-unite-side-requires
-unite-side-requires c κs = let p = c .before .before .before .before .before .before .pre in
-    (p .0, (p .1 .0, (p .1 .1, none c)))
+unite-side-requires c κs = (c .before .before .before .before .before .before .pre, none c)
 
 same-length-2 : tie.Need-same-length-2
 same-length-2 c = search needs
@@ -42,7 +41,7 @@ returns-2 c = c .before .before .before .unite-side .ensures .1 ∙ rw (c .if2 .
 unite-unmerged-requires : tie.Need-unite-unmerged-requires
 unite-unmerged-requires c κs = let k = c .before .before .before .before .before in
     let s = k .before .before .before .before .before .before in
-    (s .pre .0, (omega arith, (s .pre .1 .1, rw (same c) (none k))))
+    ((s .pre .0, omega arith, s .pre .2), rw (same c) (none k))
 
 same-length-3 : tie.Need-same-length-3
 same-length-3 c = search needs

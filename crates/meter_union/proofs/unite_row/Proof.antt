@@ -25,7 +25,7 @@ mul-unite-eight c = search needs
 
 unite-eight-requires : tie.Need-unite-eight-requires Inv-loop μ-loop
 unite-eight-requires c κs = let a = c .before .before .before .before .before .args in
-    (omega arith, (omega (arith, stride-is (a .w)), omega (arith, stride-is (a .w))))
+    (omega arith, omega (arith, stride-is (a .w)), omega (arith, stride-is (a .w)))
 
 add-e : tie.Need-add-e Inv-loop μ-loop
 add-e c = search needs
@@ -48,7 +48,7 @@ mul-unite-groups c = search needs
 
 unite-groups-requires : tie.Need-unite-groups-requires Inv-loop μ-loop
 unite-groups-requires c κs = let a = c .before .before .before .before .before .args in
-    (omega arith, (omega (arith, stride-is (a .w)), omega (arith, stride-is (a .w))))
+    (omega arith, omega (arith, stride-is (a .w)), omega (arith, stride-is (a .w)))
 
 same-length : tie.Need-same-length Inv-loop μ-loop
 same-length c = search needs

@@ -41,8 +41,8 @@ returns c = let u = c .before .before .unite in
     let a = s .args in
     let lent-row = lent (8 * a .first) 64 (a .row .now) in
     let lent-source = lent (8 * a .first) 64 (a .source .now) in
-    side-back (a .w) (a .first) (a .row .now) (a .source .now) (s .pre .0) (s .pre .1 .0) (s .pre .1 .1 .0) (s .pre .1 .1 .1) (u .result) (u .last .0)
-    (rw (lent-row, lent-source) at (u .ensures .0)) (rw (lent-row, lent-source) at (u .ensures .1))
+    let stays = rw (lent-row, lent-source) at (u .ensures .0) in
+    (stays, side-back (a .w) (a .first) (a .row .now) (a .source .now) (s .pre .0) (s .pre .1) (u .result) (u .last .0) stays (rw (lent-row, lent-source) at (u .ensures .1)))
 
 pub unite-side-spec : {M : Type 1} → statement M
 unite-side-spec =

@@ -50,7 +50,7 @@ mul-groups-status c = search needs
 
 groups-status-requires : tie.Need-groups-status-requires Inv-loop μ-loop
 groups-status-requires c κs = let w = c .before .before .before .before .before .args .w in
-    (omega arith, (omega (arith, stride-is w), omega (arith, stride-is w)))
+    (omega arith, omega (arith, stride-is w), omega (arith, stride-is w))
 
 earlier-requires : tie.Need-earlier-requires Inv-loop μ-loop
 earlier-requires c κs = search needs
@@ -82,7 +82,7 @@ mul-first c = search needs
 
 none-merged-requires : tie.Need-none-merged-requires Inv-loop μ-loop
 none-merged-requires c κs = let w = c .before .before .before .before .before .args .w in
-    (omega (arith, stride-is w), omega (arith, stride-is w))
+    (omega arith, omega (arith, stride-is w), omega (arith, stride-is w))
 
 returns : tie.Need-returns Inv-loop μ-loop
 returns c = let k = c .before .before .before .before .before in
@@ -98,7 +98,7 @@ returns c = let k = c .before .before .before .before .before in
 
 groups-status-requires-2 : tie.Need-groups-status-requires-2 Inv-loop μ-loop
 groups-status-requires-2 c κs = let w = c .before .before .before .before .before .before .before .args .w in
-    (omega arith, (omega (arith, stride-is w), omega (arith, stride-is w)))
+    (omega arith, omega (arith, stride-is w), omega (arith, stride-is w))
 
 earlier-requires-2 : tie.Need-earlier-requires-2 Inv-loop μ-loop
 earlier-requires-2 c κs = search needs

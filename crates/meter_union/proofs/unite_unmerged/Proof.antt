@@ -30,7 +30,7 @@ loop-holds c = let s = c .before .before in
       refl,
       ap (λ (k : ℕ). uniteGroups (a .w) (a .source .now) k (a .first) (a .row .now)) (omega arith),
       refl,
-      row-none (a .w) 8 (a .first) (a .row .now) (a .source .now) (s .pre .1 .1 .1),
+      row-none (a .w) 8 (a .first) (a .row .now) (a .source .now) (s .pre .1),
     )
 
 mul-eight : tie.Need-mul-eight Inv-loop μ-loop
@@ -61,7 +61,7 @@ loop-again : tie.Need-loop-again Inv-loop μ-loop
 loop-again c = let s = c .before .before .before .before .before .before .before .before .before .before .before .before in
     let a = s .args in
     let l = c .before .before .before .before .before .before .before .before .before .loop in
-    let z = source-none (a .w) 8 (a .first) (a .row .now) (a .source .now) (s .pre .1 .1 .1) in
+    let z = source-none (a .w) 8 (a .first) (a .row .now) (a .source .now) (s .pre .1) in
     let x = c .before .before .before .before in
     let none = united-none (a .w) (l .g) (l .row) (a .source .now) (l .inv .5 (l .g) (omega arith) (omega arith)) (z (l .g) (omega arith) (omega arith)) in
     let u : x .unite-unmerged .result ≡ unitedAt (a .w) (a .source .now) (l .row) (l .g) .group =
