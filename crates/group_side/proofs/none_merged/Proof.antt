@@ -1,4 +1,3 @@
-use lib.Dec.{eqb}
 use Rattle.group_side.proofs.Bytes.{words-none}
 use borrow.Author.Needs.{needs}
 use Rattle.group_side.proofs.none_merged.Statement.{statement}

@@ -1,4 +1,3 @@
-use mathlib.Core.Path.{_∙_}
 use Prim.Native.Nat.{_+_}
 use Rattle.meter_memory.proofs.Lists.{lent}
 use Rattle.meter_union.specs.Runs.{noneMerged}
