@@ -182,6 +182,22 @@ static void unite(uint8_t *counts, uint8_t *merge, const uint8_t *source, unsign
     *merge = (uint8_t)m;
 }
 
+/* Eight groups of each of two rows, by their merge bytes taken as one word: whether none is merged. */
+static inline int none_merged(const uint8_t *ma, const uint8_t *mb) { return (load(ma) | load(mb)) == 0; }
+
+/* The 64 sums of eight unmerged groups at once, if none carries out of its byte. */
+static int unite_eight(uint8_t *counts, const uint8_t *source) {
+    uint8_t sums[64], carries = 0;
+    for (unsigned i = 0; i < 64; i++) {
+        sums[i] = (uint8_t)(counts[i] + source[i]);
+        carries |= sums[i] < source[i];
+    }
+    if (carries)
+        return 0;
+    memcpy(counts, sums, 64);
+    return 1;
+}
+
 uint32_t salsa_unite(size_t d, size_t w, uint8_t *memory, size_t memory_len, const uint8_t *source, size_t source_len,
                      uint64_t *place, uint64_t *figure) {
     *place = *figure = 0;
@@ -195,6 +211,10 @@ uint32_t salsa_unite(size_t d, size_t w, uint8_t *memory, size_t memory_len, con
     for (size_t at = 0; at < memory_len; at += stride) {
         const uint8_t *ma = memory + at + w, *mb = source + at + w;
         for (size_t g = 0; g < w / 8; g++) {
+            if (w >= 64 && g % 8 == 0 && none_merged(ma + g, mb + g)) {
+                g += 7;
+                continue;
+            }
             if (!code_and_one[ma[g]] || !code_and_one[mb[g]])
                 return 5;
             /* Only a group that is one counter can be full. */
@@ -204,9 +224,16 @@ uint32_t salsa_unite(size_t d, size_t w, uint8_t *memory, size_t memory_len, con
     }
     if (full)
         return 6;
-    for (size_t at = 0; at < memory_len; at += stride)
-        for (size_t g = 0; g < w / 8; g++)
-            unite(memory + at + 8 * g, memory + at + w + g, source + at + 8 * g, source[at + w + g]);
+    for (size_t at = 0; at < memory_len; at += stride) {
+        uint8_t *counts = memory + at, *ma = counts + w;
+        const uint8_t *others = source + at, *mb = others + w;
+        for (size_t g = 0; g < w / 8; g++) {
+            if (w >= 64 && g % 8 == 0 && none_merged(ma + g, mb + g) && unite_eight(counts + 8 * g, others + 8 * g))
+                g += 7;
+            else
+                unite(counts + 8 * g, ma + g, others + 8 * g, mb[g]);
+        }
+    }
     return 0;
 }
 

@@ -4,7 +4,8 @@
 mod common;
 
 use common::{
-    amount, break_list, damage, key, lend_bytes, lend_words, list, memory, record, seed, some_image, valid_keys, Lent, Rng,
+    amount, break_list, damage, key, lend_bytes, lend_words, list, memory, record, seed, some_image, unmerged, valid_keys, Lent,
+    Rng,
 };
 use reference::{Memory, Record, Watch, WATCH_SIZE};
 use std::collections::BTreeMap;
@@ -598,15 +599,6 @@ fn all_layout_codes() {
     }
 }
 
-/// Two rows of w slots with nothing merged, whose counters are below a limit.
-fn unmerged(rng: &mut Rng, w: usize, limit: usize) -> Vec<u8> {
-    let mut bytes = vec![0; 2 * (w / 8 * 9)];
-    for row in bytes.chunks_mut(w / 8 * 9) {
-        row[..w].fill_with(|| rng.below(limit) as u8);
-    }
-    bytes
-}
-
 /// Unions of meters with nothing merged but one group: every merge byte at every place, in the target, in the source and in both. Of the
 /// other sums none passes 255, or some do, or in every group.
 #[test]
@@ -622,7 +614,7 @@ fn unions_with_one_merge_byte() {
                 for merged in [[true, false], [false, true], [true, true]] {
                     for limit in [128, 130, 256] {
                         let [mut target, mut source] = merged.map(|merged| {
-                            let mut bytes = unmerged(&mut list.rng, w, limit);
+                            let mut bytes = unmerged(&mut list.rng, 2, w, limit);
                             if merged {
                                 bytes[at] = merge;
                             }
@@ -660,7 +652,7 @@ fn unions_around_255() {
                 (255, 255, false),
             ] {
                 let [mut target, mut source] = [a, b].map(|counter| {
-                    let mut bytes = unmerged(&mut list.rng, w, 128);
+                    let mut bytes = unmerged(&mut list.rng, 2, w, 128);
                     bytes[at] = counter;
                     Pair::new(&bytes)
                 });

@@ -17,7 +17,6 @@ use Rattle.little_endian.proofs.Bytes.{number-lt, bytes-number}
 use Rattle.group_layout.specs.Layout.{Layout, merged, halves, bit, ones, layout, valid}
 use Rattle.group_block.specs.Block.{Block, cap, Fits, fill, block, total}
 use Rattle.group_block.specs.Sum.{fits, held, join, unite}
-use Rattle.group_block.specs.Passed.{summed}
 use Rattle.group_block.proofs.Laws.{fill-fits, total-lt}
 use Rattle.group.specs.declared.Group.{Group}
 use Rattle.group.specs.declared.Outcome.{Outcome}
@@ -60,16 +59,13 @@ below-64 : cap 2 + cap 2 + (cap 2 + cap 2) ≤ 2 ^ 64
 unfolding cap
 below-64 = omega arith
 
-module _ (counts source : List ℕ) (h : number counts < cap 3) (k : number source < cap 3) where
-  pub small-sum : total (decode (unmerged counts)) + total (decode (unmerged source)) < 2 ^ 64
-  small-sum = omega (arith, small-total counts h, small-total source k, below-64)
-
-  pub unmerged-stored : unitedGroups (unmerged counts) (unmerged source) ≡ stored (summed (unite (decode (unmerged counts)) (decode (unmerged source))))
-  unmerged-stored = united-stored (unmerged counts) (unmerged source) h k unmerged-valid unmerged-valid small-sum
-
 pub unmerged-status : (counts source : List ℕ) → Eight counts → Eight source → unitedGroups (unmerged counts) (unmerged source) .status ≡ 0
 unfolding stored
-unmerged-status counts source e f = ap (λ (o : Outcome). o .status) (unmerged-stored counts source (number-in counts e) (number-in source f))
+unmerged-status counts source e f =
+    let h = number-in counts e in
+    let k = number-in source f in
+    ap (λ (o : Outcome). o .status)
+    (united-stored (unmerged counts) (unmerged source) h k unmerged-valid unmerged-valid (omega (arith, small-total counts h, small-total source k, below-64)))
 
 -- the sums of two lists of bytes, which are bytes again
 data Sums : List ℕ → List ℕ → List ℕ → Type 0 where

@@ -1,8 +1,6 @@
 // Unmerged groups side by side: the count bytes of eight of them united at once, and merge bytes tested together. Of loops with no test
 // on the way, and of 64 turns where they go over count bytes, the compiler makes vector code.
 use group::Group;
-use little_endian::bytes_of;
-use little_endian::number_of;
 use std::num::wrapping_add_u8;
 ghost use mathlib.Core.Path.{_≡_};
 ghost use mathlib.Core.Bool.{cond, not, _&&_};
@@ -11,7 +9,8 @@ ghost use lib.Dec.{eqb};
 ghost use lib.ListN.{length};
 ghost use Rattle.little_endian.specs.Bytes.{number};
 ghost use Rattle.group.specs.Group.{unitedGroups};
-ghost use Rattle.group_side.specs.Side.{anyMerged, fit, wrappedSums, unmerged, unitedSide, stayUnmerged};
+ghost use Rattle.group_side.specs.Side.{anyMerged, fit, wrappedSums, unitedSide, stayUnmerged};
+ghost use Rattle.group_side.specs.Side as spec;
 
 // Whether some of these groups is merged, by their merge bytes.
 pub fn any_merged(merges: &[u8]) -> bool
@@ -29,7 +28,7 @@ fn word(merges: &[u8]) -> u64
     requires { ⌜ length (now merges) ≡ 8 ⌝ }
     ensures { λ r. ⌜ r ≡ number (now (merges .entry)) ⌝ }
 {
-    number_of([
+    little_endian::number_of([
         merges[0],
         merges[1],
         merges[2],
@@ -101,14 +100,17 @@ pub fn unite(counts: &mut [u8], source: &[u8]) -> bool
     true
 }
 
-// An unmerged group united with an unmerged one of a source, whatever the sums are. No merge byte is read, and none is tested: such groups
-// are valid, and not full.
-pub fn unite_unmerged(counts: [u8; 8], source: [u8; 8]) -> Group
-    ensures { λ r. ⌜ r ≡ unitedGroups (unmerged counts) (unmerged source) .group ⌝ }
+// The unmerged group of eight count bytes.
+fn unmerged(counts: [u8; 8]) -> Group
+    ensures { λ r. ⌜ r ≡ spec.unmerged counts ⌝ }
 {
-    let s = group_union::unite(3, number_of(counts), 0, number_of(source), 0);
-    Group {
-        counts: bytes_of(s.word),
-        merge: s.merge,
-    }
+    Group { counts, merge: 0 }
+}
+
+// An unmerged group united with an unmerged one of a source, whatever the sums are. No merge byte is read.
+pub fn unite_unmerged(counts: [u8; 8], source: [u8; 8]) -> Group
+    ensures { λ r. ⌜ r ≡ unitedGroups (spec.unmerged counts) (spec.unmerged source) .group ⌝ }
+{
+    let o = group::unite(unmerged(counts), unmerged(source));
+    o.group
 }

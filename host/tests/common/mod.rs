@@ -197,13 +197,28 @@ fn counts(rng: &mut Rng) -> [u8; 8] {
     x
 }
 
-/// A memory of d rows of w slots: clear, valid with random counters, mostly merged and full, with a damaged merge byte, or random.
+/// A memory of d rows of w slots with nothing merged, whose counters are below a limit.
+pub fn unmerged(rng: &mut Rng, d: usize, w: usize, limit: usize) -> Vec<u8> {
+    let mut bytes = vec![0; d * (w / 8 * 9)];
+    for row in bytes.chunks_mut(w / 8 * 9) {
+        row[..w].fill_with(|| rng.below(limit) as u8);
+    }
+    bytes
+}
+
+/// A memory of d rows of w slots: clear, with nothing merged, valid with random counters, mostly merged and full, with a damaged merge byte,
+/// or random.
 pub fn memory(rng: &mut Rng, d: usize, w: usize) -> Vec<u8> {
     let stride = w / 8 * 9;
     let mut bytes = vec![0; d * stride];
-    let kind = rng.below(10);
+    let kind = rng.below(11);
     if kind == 0 {
         return bytes;
+    }
+    if kind == 10 {
+        // Of the sums of two such meters none passes 255, or few do, or many.
+        let limit = rng.pick(&[128, 130, 256]);
+        return unmerged(rng, d, w, limit);
     }
     if kind == 1 {
         return rng.bytes(d * stride);
