@@ -15,6 +15,7 @@ ghost use mathlib.Core.Path.{_≡_};
 ghost use Prim.Native.Nat.{ℕ, _+_, _/_, _%_, _<_, _≤_};
 ghost use Rattle.group_layout.specs.Layout.{merged, halves, marks};
 ghost use Rattle.group_block.specs.Block.{cap, block};
+ghost use Rattle.group_block.specs.Block as spec;
 ghost use Rattle.group_block.specs.Sum as sum_spec;
 ghost use Rattle.group_block.specs.Passed.{summed, Sane};
 ghost use Rattle.group_union.specs.Passed.{SumFits, addsInPlace};
@@ -52,6 +53,21 @@ fn pair_sum(half: u32, word: u64) -> u64
     low_word(half, word) + high_word(half, word)
 }
 
+// The sum of a block's counters, made at once where they are one or two.
+fn block_total(level: u32, word: u64, merge: u8) -> u64
+    requires { ⌜ level ≤ 3 ⌝ ∗ ⌜ word < cap level ⌝ }
+    ensures { λ r. ⌜ r ≡ spec.total (block level word merge) ⌝ }
+{
+    if is_merged(level, merge) {
+        return word;
+    }
+    let half = level - 1;
+    if merge == pair_bits(half) {
+        return pair_sum(half, word);
+    }
+    total(level, word, merge)
+}
+
 // Two blocks united. Where both have the same layout and each counter holds its sum, the layout stays. Where both are two counters
 // and one does not hold its sum, they become one counter.
 pub fn unite(level: u32, word: u64, merge: u8, other_word: u64, other_merge: u8) -> Summed
@@ -66,10 +82,10 @@ pub fn unite(level: u32, word: u64, merge: u8, other_word: u64, other_merge: u8)
         };
     }
     if is_merged(level, merge) {
-        return held(level, word + total(level, other_word, other_merge));
+        return held(level, word + block_total(level, other_word, other_merge));
     }
     if is_merged(level, other_merge) {
-        return held(level, total(level, word, merge) + other_word);
+        return held(level, block_total(level, word, merge) + other_word);
     }
     let half = level - 1;
     let pair = pair_bits(half);

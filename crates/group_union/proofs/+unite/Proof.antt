@@ -33,8 +33,8 @@ use Rattle.group_union.proofs.pair_sum.Kinds as pair-sum-kinds
 use Rattle.group_union.proofs.pair_sum.Reads as pair-sum-reads
 use Rattle.group_block.proofs.right_half.Kinds as right-half-kinds
 use Rattle.group_block.proofs.right_half.Reads as right-half-reads
-use Rattle.group_block.proofs.total.Kinds as total-kinds
-use Rattle.group_block.proofs.total.Reads as total-reads
+use Rattle.group_union.proofs.block_total.Kinds as block-total-kinds
+use Rattle.group_union.proofs.block_total.Reads as block-total-reads
 use Rattle.group_layout.proofs.is_merged.Kinds as is-merged-kinds
 use Rattle.group_layout.proofs.is_merged.Reads as is-merged-reads
 use Rattle.group_union.proofs.+unite.{statement}
@@ -50,14 +50,14 @@ abbrev unite-below : ℕ → In 0 unite-kinds.ps
 unite-below t = and 0 unite-kinds.ps (falls 0 unite-kinds.ps _<_ μ-unite t) unite.Pre
 
 -- what is known of the functions that are called
-abbrev K : ℕ → In 0 may-add-kinds.ps × Out 0 may-add-kinds.ps may-add-kinds.r × In 0 is-merged-kinds.ps × Out 0 is-merged-kinds.ps is-merged-kinds.r × In 0 total-kinds.ps × Out 0 total-kinds.ps total-kinds.r × In 0 held-kinds.ps × Out 0 held-kinds.ps held-kinds.r × In 0 pair-bits-kinds.ps × Out 0 pair-bits-kinds.ps pair-bits-kinds.r × In 0 pair-sum-kinds.ps × Out 0 pair-sum-kinds.ps pair-sum-kinds.r × In 0 left-half-kinds.ps × Out 0 left-half-kinds.ps left-half-kinds.r × In 0 right-half-kinds.ps × Out 0 right-half-kinds.ps right-half-kinds.r × In 0 unite-kinds.ps × Out 0 unite-kinds.ps unite-kinds.r × In 0 join-kinds.ps × Out 0 join-kinds.ps join-kinds.r
+abbrev K : ℕ → In 0 may-add-kinds.ps × Out 0 may-add-kinds.ps may-add-kinds.r × In 0 is-merged-kinds.ps × Out 0 is-merged-kinds.ps is-merged-kinds.r × In 0 block-total-kinds.ps × Out 0 block-total-kinds.ps block-total-kinds.r × In 0 held-kinds.ps × Out 0 held-kinds.ps held-kinds.r × In 0 pair-bits-kinds.ps × Out 0 pair-bits-kinds.ps pair-bits-kinds.r × In 0 pair-sum-kinds.ps × Out 0 pair-sum-kinds.ps pair-sum-kinds.r × In 0 left-half-kinds.ps × Out 0 left-half-kinds.ps left-half-kinds.r × In 0 right-half-kinds.ps × Out 0 right-half-kinds.ps right-half-kinds.r × In 0 unite-kinds.ps × Out 0 unite-kinds.ps unite-kinds.r × In 0 join-kinds.ps × Out 0 join-kinds.ps join-kinds.r
 K t = (
   may-add-reads.Asked,
   may-add-reads.Learnt,
   is-merged-reads.Asked,
   is-merged-reads.Learnt,
-  total-reads.Asked,
-  total-reads.Learnt,
+  block-total-reads.Asked,
+  block-total-reads.Learnt,
   held-reads.Asked,
   held-reads.Learnt,
   pair-bits-reads.Asked,
@@ -152,14 +152,14 @@ unite-returns t c = let s = c .before .before in
 unite-is-merged-requires : (t : ℕ) → unite-lts.Need-is-merged-requires (K t) (unite-at t) unite.Post
 unite-is-merged-requires t c κs = omega arith
 
-unite-total-requires : (t : ℕ) → unite-lts.Need-total-requires (K t) (unite-at t) unite.Post
-unite-total-requires t c κs = omega arith
+unite-block-total-requires : (t : ℕ) → unite-lts.Need-block-total-requires (K t) (unite-at t) unite.Post
+unite-block-total-requires t c κs = omega arith
 
 unite-add-held : (t : ℕ) → unite-lts.Need-add-held (K t) (unite-at t) unite.Post
 unfolding total-of
 unite-add-held t c = let s = c .before .before .before .before .before in
     let a = s .args in
-    record { fits = rw (c .total .ensures) (rw (block-merged (a .level) (a .word) (a .merge) (sym (c .before .before .is-merged .ensures) ∙ c .before .if2 .taken)) at (s .pre .1 .1 .1 .1)) }
+    record { fits = rw (c .block-total .ensures) (rw (block-merged (a .level) (a .word) (a .merge) (sym (c .before .before .is-merged .ensures) ∙ c .before .if2 .taken)) at (s .pre .1 .1 .1 .1)) }
 
 unite-held-requires : (t : ℕ) → unite-lts.Need-held-requires (K t) (unite-at t) unite.Post
 unite-held-requires t c κs = omega arith
@@ -168,19 +168,19 @@ unite-returns-2 : (t : ℕ) → unite-lts.Need-returns-2 (K t) (unite-at t) unit
 unfolding unite-of
 unite-returns-2 t c = let a = c .before .before .before .before .before .before .args in
     rw (block-merged (a .level) (a .word) (a .merge) (sym (c .before .before .before .is-merged .ensures) ∙ c .before .before .if2 .taken))
-    (c .held .ensures ∙ ap (λ (y : ℕ). summed (held-of (a .level) (a .word + y))) (c .before .total .ensures))
+    (c .held .ensures ∙ ap (λ (y : ℕ). summed (held-of (a .level) (a .word + y))) (c .before .block-total .ensures))
 
 unite-is-merged-requires-2 : (t : ℕ) → unite-lts.Need-is-merged-requires-2 (K t) (unite-at t) unite.Post
 unite-is-merged-requires-2 t c κs = omega arith
 
-unite-total-requires-2 : (t : ℕ) → unite-lts.Need-total-requires-2 (K t) (unite-at t) unite.Post
-unite-total-requires-2 t c κs = omega arith
+unite-block-total-requires-2 : (t : ℕ) → unite-lts.Need-block-total-requires-2 (K t) (unite-at t) unite.Post
+unite-block-total-requires-2 t c κs = omega arith
 
 unite-add-held-2 : (t : ℕ) → unite-lts.Need-add-held-2 (K t) (unite-at t) unite.Post
 unfolding total-of
 unite-add-held-2 t c = let s = c .before .before .before .before .before .before .before in
     let a = s .args in
-    record { fits = rw (c .total2 .ensures) (rw (block-merged (a .level) (a .other-word) (a .other-merge) (sym (c .before .before .is-merged2 .ensures) ∙ c .before .if3 .taken)) at (s .pre .1 .1 .1 .1)) }
+    record { fits = rw (c .block-total2 .ensures) (rw (block-merged (a .level) (a .other-word) (a .other-merge) (sym (c .before .before .is-merged2 .ensures) ∙ c .before .if3 .taken)) at (s .pre .1 .1 .1 .1)) }
 
 unite-held-requires-2 : (t : ℕ) → unite-lts.Need-held-requires-2 (K t) (unite-at t) unite.Post
 unite-held-requires-2 t c κs = omega arith
@@ -191,7 +191,7 @@ unite-returns-3 t c = let a = c .before .before .before .before .before .before 
       block-merged (a .level) (a .other-word) (a .other-merge) (sym (c .before .before .before .is-merged2 .ensures) ∙ c .before .before .if3 .taken),
       unite-counter (block (a .level) (a .word) (a .merge)) (a .other-word),
     )
-    (c .held2 .ensures ∙ ap (λ (x : ℕ). summed (held-of (a .level) (x + a .other-word))) (c .before .total2 .ensures))
+    (c .held2 .ensures ∙ ap (λ (x : ℕ). summed (held-of (a .level) (x + a .other-word))) (c .before .block-total2 .ensures))
 
 unite-sub-half : (t : ℕ) → unite-lts.Need-sub-half (K t) (unite-at t) unite.Post
 unite-sub-half t c = omega (arith, above c)
@@ -253,12 +253,12 @@ pub +unite-spec : {M : Type 1} → statement M
     (unite-add-t14 t)
     (unite-returns t)
     (unite-is-merged-requires t)
-    (unite-total-requires t)
+    (unite-block-total-requires t)
     (unite-add-held t)
     (unite-held-requires t)
     (unite-returns-2 t)
     (unite-is-merged-requires-2 t)
-    (unite-total-requires-2 t)
+    (unite-block-total-requires-2 t)
     (unite-add-held-2 t)
     (unite-held-requires-2 t)
     (unite-returns-3 t)
