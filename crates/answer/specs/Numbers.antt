@@ -36,14 +36,23 @@ otherMeter = 10
 abbrev pub zeroThreshold : ℕ
 zeroThreshold = 11
 
+abbrev pub evenDepth : ℕ
+evenDepth = 12
+
+-- a counter of a signed meter that holds minus zero
+abbrev pub minusZero : ℕ
+minusZero = 13
+
 -- The list. A number's line comes before another's where it stands before it here, whatever their sizes.
 abbrev pub order : List ℕ
 order =
     invalidDepth
     ∷ invalidWidth
+    ∷ evenDepth
     ∷ wrongLength
     ∷ invalidKeyLength
     ∷ invalidContent
+    ∷ minusZero
     ∷ zeroThreshold
     ∷ counterFull
     ∷ tooFewWords

@@ -29,13 +29,20 @@ pub const OTHER_METER: u8 = 10;
 
 pub const ZERO_THRESHOLD: u8 = 11;
 
+pub const EVEN_DEPTH: u8 = 12;
+
+// A counter of a signed meter that holds minus zero.
+pub const MINUS_ZERO: u8 = 13;
+
 // The list, in checking order.
-const ORDER: [u8; 11] = [
+const ORDER: [u8; 13] = [
     INVALID_DEPTH,
     INVALID_WIDTH,
+    EVEN_DEPTH,
     WRONG_LENGTH,
     INVALID_KEY_LENGTH,
     INVALID_CONTENT,
+    MINUS_ZERO,
     ZERO_THRESHOLD,
     COUNTER_FULL,
     TOO_FEW_WORDS,

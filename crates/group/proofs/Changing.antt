@@ -8,7 +8,7 @@ use lib.ListN.{getD, replicate}
 use Rattle.little_endian.specs.Bytes.{number, bytes}
 use Rattle.little_endian.proofs.Bytes.{number-bytes, bytes-length}
 use Rattle.group_layout.specs.Layout.{layout, valid}
-use Rattle.group_block.specs.Block.{Block, cap, Fits, shape, numberOf, block, counterAt}
+use Rattle.group_block.specs.Block.{Block, cap, Fits, shape, numberOf, block, counterAt, blockAs}
 use Rattle.group_block.specs.Change.{change}
 use Rattle.group_block.proofs.Laws.{word-lt, shape-fill, fill-word, block-fits}
 use Rattle.group_slots.proofs.Changing.{change-fits, change-shape}
@@ -36,7 +36,7 @@ unfolding decode
 good-fits g o = block-fits 3 (number (g .counts)) (g .merge) (number-in (g .counts) (o .eight))
 
 pub shape-decode : (g : Group) → shape (decode g) ≡ layout 3 (g .merge)
-unfolding decode block
+unfolding decode blockAs
 shape-decode g = shape-fill (layout 3 (g .merge)) (number (g .counts))
 
 -- another value in a counter
@@ -48,7 +48,7 @@ pub good-changed : (g : Group) (k v : ℕ) → Good g → Good (changed g k v .g
 good-changed g k v o = rw (changed-is g k v o) (record { merges = o .merges; eight = eight-bytes (numberOf (change (decode g) (k % 8) v)) })
 
 block-again : (b : Block 3) (m : ℕ) → Fits b → shape b ≡ layout 3 m → decode (record { counts = bytes 8 (numberOf b); merge = m }) ≡ b
-unfolding decode block cap
+unfolding decode blockAs cap
 block-again b m f e = rw (number-bytes 8 (numberOf b) (word-lt b f), ← e) (fill-word b f)
 
 pub decode-changed : (g : Group) (k v : ℕ) → Good g → decode (changed g k v .group) ≡ change (decode g) (k % 8) v

@@ -16,9 +16,9 @@ use Rattle.group_layout.proofs.Laws.{valid-marks}
 use Rattle.group_block.specs.declared.Summed.{Summed}
 use Rattle.group_block.specs.Block.{Block, cap, Fits, shape, numberOf, block, counterAt, total}
 use Rattle.group_block.specs.Sum.{Sum, fits, over, add, unite, sumTotal}
-use Rattle.group_block.specs.Passed.{summed}
-use Rattle.group_block.proofs.Adding.{Sound}
-use Rattle.group_block.proofs.Laws.{word-lt, word-block, marks-block, block-is, block-fits, total-lt}
+use Rattle.group_block.specs.Passed.{summed, summedAs}
+use Rattle.group_block.proofs.Adding.{Sound, total-lt}
+use Rattle.group_block.proofs.Laws.{word-lt, word-block, marks-block, block-is, block-fits}
 use Rattle.group_block.proofs.Adding.{add-total, add-sound, unite-total, unite-sound}
 use Rattle.group_slots.proofs.Places.{add-in-place}
 use Rattle.group.specs.declared.Group.{Group}
@@ -60,13 +60,13 @@ encode-valid b = valid-marks (shape b)
 
 -- the code's answer, by what an addition or a union left
 settle-summed : (g : Group) (x : Sum 3) → summed x .over ≡ false → settle g x ≡ stored (summed x)
-unfolding settle stored summed encode
+unfolding settle stored summedAs encode
 settle-summed g (fits b) e = refl
 settle-summed g (over s) e = absurd (true≢false e)
 
 -- by the sum's total
 pub settle-fits : (g : Group) (x : Sum 3) → Sound x → sumTotal x < 2 ^ 64 → settle g x ≡ stored (summed x)
-unfolding settle stored summed Sound sumTotal encode cap
+unfolding settle stored summedAs Sound sumTotal encode cap
 settle-fits g (fits b) f h = refl
 settle-fits g (over s) f h = absurd (omega arith)
 

@@ -6,9 +6,10 @@ use Rattle.little_endian.specs.Bytes.{number, bytes}
 use Rattle.group_layout.specs.Layout.{marks, layout, valid}
 use Rattle.group_layout.specs.Layout as layout-spec
 use Rattle.group_block.specs.declared.Counter.{Counter}
-use Rattle.group_block.specs.Block.{Block, cap, shape, numberOf, block, counterAt}
+use Rattle.group_block.specs.Kind.{Kind}
+use Rattle.group_block.specs.Block.{BlockOf, Block, cap, shape, numberOf, block, counterAt}
 use Rattle.group_block.specs.Change.{change}
-use Rattle.group_block.specs.Sum.{Sum, fits, over}
+use Rattle.group_block.specs.Sum.{SumOf, fits, over}
 use Rattle.group_block.specs.Sum as sum
 use Rattle.answer.specs.declared.Answer.{Answer}
 use Rattle.group.specs.declared.Group.{Group}
@@ -21,11 +22,11 @@ use Rattle.answer.specs.Numbers.{invalidContent, counterFull}
 abbrev pub validMerge : ℕ → Bool
 validMerge m = valid 3 m
 
--- the block of level 3 that a group stands for, and the group of such a block
+-- the block of level 3 that a group stands for, and the group of such a block, of any kind
 unfoldable pub decode : Group → Block 3
 decode g = block 3 (number (g .counts)) (g .merge)
 
-unfoldable pub encode : Block 3 → Group
+unfoldable pub encode : {K : Kind} → BlockOf K 3 → Group
 encode b = record { counts = bytes 8 (numberOf b); merge = marks (shape b) }
 
 -- the counter of a slot; a slot number counts by its remainder by 8
@@ -39,7 +40,7 @@ read g slot = cond (valid 3 (g .merge)) (reading (counterAt (decode g) (slot % 8
 abbrev pub unchanged : ℕ → Group → Outcome
 unchanged s g = record { status = s; group = g }
 
-unfoldable pub settle : Group → Sum 3 → Outcome
+unfoldable pub settle : {K : Kind} → Group → SumOf K 3 → Outcome
 settle g (fits b) = record { status = 0; group = encode b }
 settle g (over s) = unchanged counterFull g
 

@@ -6,7 +6,7 @@ use native.Mathlib.Omega.{arith}
 use borrow.Author.Tests.{ltb-true, ltb-false}
 use lib.Dec.{ltb}
 use Rattle.group_block.specs.Kind.{Kind}
-use Rattle.group_block.specs.Block.{BlockOf, Block, counter, split, Fits, total}
+use Rattle.group_block.specs.Block.{BlockOf, Block, counter, split, cap, Fits, total}
 use Rattle.group_block.specs.Sum.{SumOf, fits, over, held, join, add, unite, sumTotal}
 use Rattle.group_block.proofs.Sums.{Sums, ordinary-sums, swap, cross}
 
@@ -101,3 +101,12 @@ pub no-over : {K : Kind} {n : ℕ} (x : SumOf K n) → Sound x → K .size (sumT
 unfolding Sound sumTotal
 no-over (fits b) f h = (b, refl)
 no-over (over s) f h = absurd (omega arith)
+
+-- a block's total fits one counter of its level
+pub total-size : {K : Kind} (S : Sums K) {n : ℕ} (b : BlockOf K n) → Fits b → K .size (total b) < K .bound n
+unfolding total Fits
+total-size S (counter v) f = f
+total-size S (split {n} l r) f = omega (arith, S .double n, S .triangle (total l) (total r), total-size S l (f .0), total-size S r (f .1))
+
+pub total-lt : {n : ℕ} (b : Block n) → Fits b → total b < cap n
+total-lt b f = total-size ordinary-sums b f

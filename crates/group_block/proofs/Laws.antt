@@ -1,6 +1,6 @@
 -- Laws of blocks, for any level.
 use mathlib.Core.Path.{_≡_, refl, ap, ap₂, _∙_}
-use mathlib.Core.Bool.{true, false}
+use mathlib.Core.Bool.{true, false, and-eq-true-iff}
 use Prim.Native.Nat.{ℕ, suc, _+_, _*_, _/_, _%_, _^_, _≤_, _<_}
 use native.Mathlib.Nat.{mod-lt, div-eq-of-lt, le-div-iff-mul-le, div-lt-iff-lt-mul, div-add-mod', mul-le-mul-left}
 use native.Mathlib.Omega.{arith}
@@ -14,7 +14,7 @@ use Rattle.group_layout.specs.Merged.{isMerged}
 use Rattle.group_layout.proofs.Laws.{layout-marks, marks-layout, is-merged, layout-suc}
 use Rattle.group_block.specs.Kind.{Kind, ordinary}
 use Rattle.group_block.proofs.Codes.{Codes, ordinary-codes}
-use Rattle.group_block.specs.Block.{BlockOf, Block, Clean, counter, split, cap, Fits, shape, numberOf, fill, block, total}
+use Rattle.group_block.specs.Block.{BlockOf, Block, counter, split, cap, Fits, shape, numberOf, fill, allClean, blockAs, block}
 
 pub cap-pos : (n : ℕ) → 0 < cap n
 unfolding cap
@@ -52,16 +52,18 @@ fill-fits-of C (halves {n} l r) w h = (fill-fits-of C l (w % cap n) (mod-lt w (c
 pub fill-fits : {n : ℕ} (L : Layout n) (w : ℕ) → w < cap n → Fits (fill {K = ordinary} L w)
 fill-fits L w h = fill-fits-of ordinary-codes L w h
 
-pub word-fill-of : {K : Kind} (C : Codes K) {n : ℕ} (L : Layout n) (w : ℕ) → w < cap n → Clean K L w → numberOf (fill {K = K} L w) ≡ w
-unfolding fill numberOf Clean
+pub word-fill-of : {K : Kind} (C : Codes K) {n : ℕ} (L : Layout n) (w : ℕ) → w < cap n → allClean K L w ≡ true → numberOf (fill {K = K} L w) ≡ w
+unfolding fill numberOf allClean
 word-fill-of C {n} merged w h c = C .bits-read n w h c
-word-fill-of C (halves {n} l r) w h c =
-    rw (word-fill-of C l (w % cap n) (mod-lt w (cap-pos n)) (c .0), word-fill-of C r (w / cap n) (high-lt n w h) (c .1)) (div-add-mod' w (cap n))
+word-fill-of {K} C (halves {n} l r) w h c =
+    let p = and-eq-true-iff (allClean K l (w % cap n)) (allClean K r (w / cap n)) .0 c in
+    rw (word-fill-of C l (w % cap n) (mod-lt w (cap-pos n)) (p .0), word-fill-of C r (w / cap n) (high-lt n w h) (p .1)) (div-add-mod' w (cap n))
 
-all-clean : {n : ℕ} (L : Layout n) (w : ℕ) → Clean ordinary L w
-unfolding Clean
+-- every number is one of an ordinary meter
+pub all-clean : {n : ℕ} (L : Layout n) (w : ℕ) → allClean ordinary L w ≡ true
+unfolding allClean
 all-clean merged w = refl
-all-clean (halves {n} l r) w = (all-clean l (w % cap n), all-clean r (w / cap n))
+all-clean (halves {n} l r) w = rw (all-clean l (w % cap n), all-clean r (w / cap n))
 
 pub word-fill : {n : ℕ} (L : Layout n) (w : ℕ) → w < cap n → numberOf (fill {K = ordinary} L w) ≡ w
 word-fill L w h = word-fill-of ordinary-codes L w h (all-clean L w)
@@ -97,33 +99,45 @@ pub fill-word : {n : ℕ} (b : Block n) → Fits b → fill (shape b) (numberOf 
 fill-word b f = fill-word-of ordinary-codes b f
 
 -- a block whose counters hold their values has clean bits
-pub word-clean : {K : Kind} (C : Codes K) {n : ℕ} (b : BlockOf K n) → Fits b → Clean K (shape b) (numberOf b)
-unfolding Clean shape numberOf Fits
+pub word-clean : {K : Kind} (C : Codes K) {n : ℕ} (b : BlockOf K n) → Fits b → allClean K (shape b) (numberOf b) ≡ true
+unfolding allClean shape numberOf Fits
 word-clean C {n} (counter v) f = C .bits-clean n v f
-word-clean {K} C (split {n} l r) f =
-    (rw (digits-mod (numberOf r) (word-lt-of C l (f .0))) (word-clean C l (f .0)), rw (digits-div (numberOf r) (word-lt-of C l (f .0))) (word-clean C r (f .1)))
+word-clean C (split {n} l r) f =
+    rw (
+      digits-mod (numberOf r) (word-lt-of C l (f .0)),
+      digits-div (numberOf r) (word-lt-of C l (f .0)),
+      word-clean C l (f .0),
+      word-clean C r (f .1),
+    )
 
 -- count bytes and merge bits are those of the block that they stand for, and a block is the one that its bytes and bits stand for
+pub block-is-of : {K : Kind} (C : Codes K) {n : ℕ} (b : BlockOf K n) → Fits b → blockAs K n (numberOf b) (marks (shape b)) ≡ b
+unfolding blockAs
+block-is-of C b f = rw (layout-marks (shape b)) (fill-word-of C b f)
+
 pub block-is : {n : ℕ} (b : Block n) → Fits b → block n (numberOf b) (marks (shape b)) ≡ b
-unfolding block
-block-is b f = rw (layout-marks (shape b)) (fill-word b f)
+block-is b f = block-is-of ordinary-codes b f
+
+pub word-block-of : {K : Kind} (C : Codes K) (n w m : ℕ) → w < cap n → allClean K (layout n m) w ≡ true → numberOf (blockAs K n w m) ≡ w
+unfolding blockAs
+word-block-of C n w m h c = word-fill-of C (layout n m) w h c
 
 pub word-block : (n w m : ℕ) → w < cap n → numberOf (block n w m) ≡ w
-unfolding block
-word-block n w m h = word-fill (layout n m) w h
+word-block n w m h = word-block-of ordinary-codes n w m h (all-clean (layout n m) w)
+
+pub marks-block-of : (K : Kind) (n w m : ℕ) → valid n m ≡ true → marks (shape (blockAs K n w m)) ≡ m
+unfolding blockAs
+marks-block-of K n w m v = rw (shape-fill-of K (layout n m) w) (marks-layout n m v)
 
 pub marks-block : (n w m : ℕ) → valid n m ≡ true → marks (shape (block n w m)) ≡ m
-unfolding block
-marks-block n w m v = rw (shape-fill (layout n m) w) (marks-layout n m v)
+marks-block n w m v = marks-block-of ordinary n w m v
+
+pub block-fits-of : {K : Kind} (C : Codes K) (n w m : ℕ) → w < cap n → Fits (blockAs K n w m)
+unfolding blockAs
+block-fits-of C n w m h = fill-fits-of C (layout n m) w h
 
 pub block-fits : (n w m : ℕ) → w < cap n → Fits (block n w m)
-unfolding block
-block-fits n w m h = fill-fits (layout n m) w h
-
-pub total-lt : {n : ℕ} (b : Block n) → Fits b → total b < cap n
-unfolding total Fits
-total-lt (counter v) f = f
-total-lt (split {n} l r) f = omega (arith, cap-double n, total-lt l (f .0), total-lt r (f .1))
+block-fits n w m h = block-fits-of ordinary-codes n w m h
 
 -- a number is below the cap where nothing is above it
 pub zero-high : (n w : ℕ) → eqb (w / cap n) 0 ≡ ltb w (cap n)
@@ -133,14 +147,17 @@ zero-high n w = elim (decLt w (cap n)) [
 ]
 
 -- what the recursions on the level meet
-pub block-merged : (n w m : ℕ) → isMerged (layout n m) ≡ true → block n w m ≡ counter w
-unfolding block fill
-block-merged n w m e = rw (is-merged (layout n m) e)
+pub block-merged-of : (K : Kind) (n w m : ℕ) → isMerged (layout n m) ≡ true → blockAs K n w m ≡ counter (K .read n w)
+unfolding blockAs fill
+block-merged-of K n w m e = rw (is-merged (layout n m) e)
 
-pub block-suc : (n w m : ℕ) → isMerged (layout (suc n) m) ≡ false
-    → block (suc n) w m ≡ split (block n (w % cap n) (m % 2 ^ (2 ^ n))) (block n (w / cap n) (m / 2 ^ (2 ^ n)))
-unfolding block fill
-block-suc n w m e = rw (layout-suc n m e)
+pub block-merged : (n w m : ℕ) → isMerged (layout n m) ≡ true → block n w m ≡ counter w
+block-merged n w m e = block-merged-of ordinary n w m e
+
+pub block-suc : (K : Kind) (n w m : ℕ) → isMerged (layout (suc n) m) ≡ false
+    → blockAs K (suc n) w m ≡ split (blockAs K n (w % cap n) (m % 2 ^ (2 ^ n))) (blockAs K n (w / cap n) (m / 2 ^ (2 ^ n)))
+unfolding blockAs fill
+block-suc K n w m e = rw (layout-suc n m e)
 
 -- the cap of a half of a group
 pub cap-below : (n : ℕ) → n ≤ 2 → cap n ≤ 2 ^ 32

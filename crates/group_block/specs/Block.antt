@@ -2,8 +2,7 @@
 use Prim.Native.Nat.{ℕ, suc, _+_, _-_, _*_, _/_, _%_, _^_, _<_}
 unfoldable pub use Rattle.group_block.specs.Kind.{cap}
 use Rattle.group_block.specs.Kind.{Kind, ordinary}
-use mathlib.Core.Path.{_≡_}
-use mathlib.Core.Bool.{true, cond}
+use mathlib.Core.Bool.{Bool, cond, _&&_}
 use lib.Dec.{ltb}
 use Rattle.group_layout.specs.Layout.{Layout, merged, halves, layout}
 use Rattle.group_block.specs.declared.Counter.{Counter}
@@ -37,14 +36,17 @@ unfoldable pub fill : {K : Kind} {n : ℕ} → Layout n → ℕ → BlockOf K n
 fill {K} {n} merged w = counter (K .read n w)
 fill (halves {n} l r) w = split (fill l (w % cap n)) (fill r (w / cap n))
 
--- every counter's bits are those of a value
-unfoldable pub Clean : (K : Kind) {n : ℕ} → Layout n → ℕ → Type 0
-Clean K {n} merged w = K .clean n w ≡ true
-Clean K (halves {n} l r) w = Clean K l (w % cap n) × Clean K r (w / cap n)
+-- whether every counter's bits are those of a value
+unfoldable pub allClean : (K : Kind) {n : ℕ} → Layout n → ℕ → Bool
+allClean K {n} merged w = K .clean n w
+allClean K (halves {n} l r) w = allClean K l (w % cap n) && allClean K r (w / cap n)
 
 -- the block of level n that count bytes, taken as one number, and merge bits stand for
-unfoldable pub block : (n : ℕ) → ℕ → ℕ → Block n
-block n w m = fill (layout n m) w
+unfoldable pub blockAs : (K : Kind) (n : ℕ) → ℕ → ℕ → BlockOf K n
+blockAs K n w m = fill (layout n m) w
+
+abbrev pub block : (n : ℕ) → ℕ → ℕ → Block n
+block n w m = blockAs ordinary n w m
 
 -- the value of the counter that slot k, counted from the block's first, is in; its level is the layout's, `levelOf (shape b) k`
 unfoldable pub counterValue : {K : Kind} {n : ℕ} → BlockOf K n → ℕ → K .Value

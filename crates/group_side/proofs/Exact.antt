@@ -15,7 +15,7 @@ use Rattle.laws.proofs.Tests.{both-ways}
 use Rattle.little_endian.specs.Bytes.{number}
 use Rattle.little_endian.proofs.Bytes.{number-lt}
 use Rattle.group_layout.specs.Layout.{ones, marks, layout}
-use Rattle.group_block.specs.Block.{counter, cap, shape, fill, block, total}
+use Rattle.group_block.specs.Block.{counter, cap, shape, fill, block, total, blockAs}
 use Rattle.group_block.specs.Sum.{Sum, fits, over, held, join, unite, sumTotal}
 use Rattle.group.specs.declared.Group.{Group}
 use Rattle.group.specs.Group.{decode, encode, settle, unitedGroups}
@@ -107,7 +107,7 @@ module _ (counts source : List ℕ) (e : Eight counts) (f : Eight source) where
   united-is = rw unmerged-valid
 
   merged-fit : unitedGroups (unmerged counts) (unmerged source) .group .merge ≡ 0 → fit counts source ≡ true
-  unfolding decode block
+  unfolding decode blockAs
   merged-fit z =
       let s = rw united-is at (unmerged-status counts source e f) in
       unite-fit 3 counts source (e .long) (f .long) (e .small) (f .small)

@@ -15,9 +15,10 @@ use Rattle.laws.proofs.Lists.{Bytes}
 use Rattle.little_endian.specs.Bytes.{number, bytes}
 use Rattle.little_endian.proofs.Bytes.{number-lt, bytes-number}
 use Rattle.group_layout.specs.Layout.{Layout, merged, halves, bit, ones, layout, valid}
-use Rattle.group_block.specs.Block.{Block, cap, Fits, fill, block, total}
+use Rattle.group_block.specs.Block.{Block, cap, Fits, fill, block, total, blockAs}
 use Rattle.group_block.specs.Sum.{fits, held, join, unite}
-use Rattle.group_block.proofs.Laws.{fill-fits, total-lt}
+use Rattle.group_block.proofs.Laws.{fill-fits}
+use Rattle.group_block.proofs.Adding.{total-lt}
 use Rattle.group.specs.declared.Group.{Group}
 use Rattle.group.specs.declared.Outcome.{Outcome}
 use Rattle.group.specs.Group.{decode, unitedGroups, validMerge}
@@ -52,7 +53,7 @@ unmerged-valid = clear-valid 3
 
 -- the sum of all counters of two unmerged groups is far below 2 ^ 64
 small-total : (counts : List ℕ) → number counts < cap 3 → total (decode (unmerged counts)) < cap 2 + cap 2
-unfolding decode block
+unfolding decode blockAs
 small-total counts h = rw (clear-halves 2) (halves-total (layout 2 0) (layout 2 0) (number counts) h)
 
 below-64 : cap 2 + cap 2 + (cap 2 + cap 2) ≤ 2 ^ 64
@@ -145,7 +146,7 @@ unite-sums (halves {n} l r) {xs} {ys} {zs} long s =
 
 -- two groups
 sums-united : (counts source zs : List ℕ) → length counts ≡ 8 → Sums counts source zs → unitedGroups (unmerged counts) (unmerged source) .group ≡ unmerged zs
-unfolding decode block stored
+unfolding decode blockAs stored
 sums-united counts source zs long s =
     let u : unite (decode (unmerged counts)) (decode (unmerged source)) ≡ fits (block 3 (number zs) 0) = unite-sums (layout 3 0) long s in
     let back : bytes 8 (number zs) ≡ zs = rw (← sums-long s ∙ long) (bytes-number zs (sums-bytes s)) in

@@ -12,9 +12,10 @@ use Rattle.group_layout.specs.Layout.{Layout, merged, halves, layout}
 use Rattle.group_layout.specs.Merged.{isMerged}
 unfoldable pub use Rattle.group_layout.specs.Layout.{levelOf}
 use Rattle.group_block.specs.declared.Counter.{Counter}
-use Rattle.group_block.specs.Block.{Block, counter, split, cap, Fits, shape, block, counterAt, total}
+use Rattle.group_block.specs.Block.{Block, counter, split, cap, Fits, shape, block, counterAt, total, blockAs}
 use Rattle.group_block.specs.Change.{change}
-use Rattle.group_block.proofs.Laws.{shape-fill, total-lt}
+use Rattle.group_block.proofs.Laws.{shape-fill}
+use Rattle.group_block.proofs.Adding.{total-lt}
 
 pub counter-halves : {n : ℕ} (l r : Block n) (k : ℕ) (P : Counter → Type 0)
     → (ltb k (2 ^ n) ≡ true → P (counterAt l k))
@@ -45,7 +46,7 @@ level-is (split {n} l r) k = go (ltb k (2 ^ n)) (level-is l k) (level-is r (k - 
     go false e f = f
 
 pub level-block : (n w m k : ℕ) → counterAt (block n w m) k .level ≡ levelOf (layout n m) k
-unfolding block
+unfolding blockAs
 level-block n w m k = level-is (block n w m) k ∙ ap (λ (L : Layout n). levelOf L k) (shape-fill (layout n m) w)
 
 pub value-lt : {n : ℕ} (b : Block n) (k : ℕ) → Fits b → counterAt b k .value < cap (counterAt b k .level)

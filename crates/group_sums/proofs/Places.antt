@@ -10,10 +10,10 @@ use lib.Bits.{bitAnd, bitOr, and-mask, or-shr, or-step}
 use Rattle.group_layout.specs.Layout.{bit, layout, valid, levelOf}
 use Rattle.group_layout.specs.Merged.{isMerged}
 use Rattle.group_layout.proofs.Laws.{own-bit}
-use Rattle.group_block.specs.Block.{cap, numberOf, block, counterAt, total}
+use Rattle.group_block.specs.Block.{cap, numberOf, block, counterAt, total, blockAs}
 use Rattle.group_block.specs.Change.{change}
 use Rattle.group_block.specs.Sum.{add}
-use Rattle.group_block.specs.Passed.{summed}
+use Rattle.group_block.specs.Passed.{summed, summedAs}
 use Rattle.group_block.proofs.Adding.{Sound}
 use Rattle.group_block.proofs.Laws.{word-lt, shape-fill, word-block, marks-block, block-fits}
 use Rattle.group_block.proofs.Adding.{add-sound}
@@ -49,7 +49,7 @@ module _ (w m k L q : ℕ) (h : w < cap 3) (i : k < 8) (e : counterAt (block 3 w
     sum-in = rw (← word-is) (word-lt (stays .0) (rw (stays .1) at (add-sound (block 3 w m) k a (block-fits 3 w m h))))
 
     pub in-place-is : valid 3 m ≡ true → record { over = false; word = w + a * 2 ^ q; merge = m } ≡ summed (add (block 3 w m) k a)
-    unfolding summed
+    unfolding summedAs
     in-place-is v = rw (stays .1, word-is, stays .2, marks-block 3 w m v)
 
   -- another value in the counter
@@ -69,7 +69,7 @@ module _ (w m k L q : ℕ) (h : w < cap 3) (i : k < 8) (e : counterAt (block 3 w
 
 -- a group whose own bit is clear has two halves
 pub bit-total : (w m : ℕ) → w < cap 3 → m / 8 % 2 ≡ 0 → total (block 3 w m) < 2 ^ 33
-unfolding block cap bit
+unfolding blockAs cap bit
 bit-total w m h z =
     halves-sum (block 3 w m) (block-fits 3 w m h)
     (ap isMerged (shape-fill (layout 3 m) w) ∙ own-bit 3 m (omega arith) ∙ ne-eqb (m / 8 % 2) 1 (λ e. omega arith))

@@ -9,7 +9,7 @@ use lib.Pow.{pow-pos, field, shr-shr, mod-mod-pow}
 use Rattle.group_layout.specs.Layout.{valid, marks}
 use Rattle.group_block.specs.Block.{Block, cap, shape, numberOf, block, counterAt}
 use Rattle.group_block.specs.Sum.{add}
-use Rattle.group_block.specs.Passed.{summed}
+use Rattle.group_block.specs.Passed.{summed, summedAs}
 use Rattle.group_block.proofs.Adding.{Sound}
 use Rattle.group_block.proofs.Laws.{word-lt, word-block, marks-block, block-fits}
 use Rattle.group_block.proofs.Adding.{add-sound}
@@ -94,7 +94,7 @@ module _ (w m k a L p : ℕ) (h : w < cap 3) (v : valid 3 m ≡ true) (k-lt : k 
 
     pub sum-is : (x : ℕ) → x + both * 2 ^ (8 * p) ≡ w + (both % cap L + both / cap L + a) * 2 ^ (8 * p)
         → record { over = false; word = x; merge = m + 2 ^ (2 ^ L - 1) * 2 ^ p } ≡ summed (add (block 3 w m) k a)
-    unfolding summed
+    unfolding summedAs
     sum-is x e =
         let f : x ≡ numberOf (result .0) = omega (arith, word-is) in
         let g : m + 2 ^ (2 ^ L - 1) * 2 ^ p ≡ marks (shape (result .0)) = sym (rw (marks-block 3 w m v) at (result .3)) in

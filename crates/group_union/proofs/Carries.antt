@@ -14,9 +14,9 @@ use lib.Pow.{pow-pos, pow-lt}
 use Rattle.group_layout.specs.Layout.{Layout, merged, halves, marks, layout, valid}
 use Rattle.group_layout.proofs.Laws.{layout-marks, marks-layout}
 use Rattle.group_block.specs.Kind.{ordinary}
-use Rattle.group_block.specs.Block.{cap, shape, fill, block, total}
+use Rattle.group_block.specs.Block.{cap, shape, fill, block, total, blockAs}
 use Rattle.group_block.specs.Sum.{Sum, fits, over, held, join, unite}
-use Rattle.group_block.specs.Passed.{summed, Sane}
+use Rattle.group_block.specs.Passed.{summed, Sane, summedAs}
 use Rattle.group_block_laws.specs.Least.{Suits, Least}
 use Rattle.group_block.proofs.Laws.{cap-square, high-lt, shape-fill}
 use Rattle.group_block_laws.proofs.Least.{unite-least}
@@ -199,7 +199,7 @@ keeps m u = not (summed u .over) && eqb (summed u .merge) m
 
 module _ (n a b m : ℕ) (v : valid n m ≡ true) (h : a < cap n) (k : b < cap n) where
   pub keeps-no-carry : keeps m (unite (block n a m) (block n b m)) ≡ true → (a + b < cap n) × (bitAnd (carries a b) (bounds (layout n m)) ≡ 0)
-  unfolding block summed Least
+  unfolding blockAs summedAs Least
   keeps-no-carry = go (unite (fill (layout n m) a) (fill (layout n m) b)) (unite-least (fill (layout n m) a) (fill (layout n m) b))
     where
       go : (u : Sum n) → Least (fill (layout n m) a) (fill (layout n m) b) u → keeps m u ≡ true
@@ -210,11 +210,11 @@ module _ (n a b m : ℕ) (v : valid n m ≡ true) (h : a < cap n) (k : b < cap n
       go (over t) l e = absurd (true≢false (sym e))
 
   pub no-carry-keeps : a + b < cap n → bitAnd (carries a b) (bounds (layout n m)) ≡ 0 → keeps m (unite (block n a m) (block n b m)) ≡ true
-  unfolding block summed
+  unfolding blockAs summedAs
   no-carry-keeps s z = rw (unite-in-place (layout n m) a b s z, shape-fill (layout n m) (a + b), marks-layout n m v) (eq-eqb m m refl)
 
   keeps-unite : keeps m (unite (block n a m) (block n b m)) ≡ true → (a + b < cap n) × (unite (block n a m) (block n b m) ≡ fits (block n (a + b) m))
-  unfolding block
+  unfolding blockAs
   keeps-unite e = let s = keeps-no-carry e in (s .0, unite-in-place (layout n m) a b (s .0) (s .1))
 
 -- what such a union is, where the merge bits are tested too

@@ -9,9 +9,9 @@ use lib.Dec.{eqb}
 use Rattle.group_layout.specs.Layout.{merged, halves, marks}
 use Rattle.group_layout.proofs.Laws.{layout-marks}
 use Rattle.group_block.specs.Kind.{ordinary}
-use Rattle.group_block.specs.Block.{counter, split, cap, shape, fill, block, total}
+use Rattle.group_block.specs.Block.{counter, split, cap, shape, fill, block, total, blockAs}
 use Rattle.group_block.specs.Sum.{Sum, fits, held, join, unite}
-use Rattle.group_block.specs.Passed.{summed}
+use Rattle.group_block.specs.Passed.{summed, summedAs}
 use Rattle.group_block.proofs.Adding.{held-cases, held-total}
 use Rattle.group_union.proofs.Carries.{keeps}
 
@@ -20,13 +20,13 @@ abbrev pub pair : ℕ → ℕ
 pair n = marks (halves {n = n} merged merged)
 
 pair-block : (n w : ℕ) → block (suc n) w (pair n) ≡ split (counter (w % cap n)) (counter (w / cap n))
-unfolding block fill
+unfolding blockAs fill
 pair-block n w = rw (layout-marks (halves {n = n} merged merged))
 
 -- either the union is two counters too, or one of them is over
 unite-pairs : {n : ℕ} (a b c d : ℕ) → let u = unite (split {n = n} (counter a) (counter b)) (split (counter c) (counter d)) in
     keeps (pair n) u ≡ false → u ≡ held (suc n) (a + b + (c + d))
-unfolding unite total join summed shape
+unfolding unite total join summedAs shape
 unite-pairs {n} a b c d =
     held-cases n (a + c) (λ x. Widens x (held n (b + d)))
     (λ h. held-cases n (b + d) (Widens (fits (counter (a + c))))

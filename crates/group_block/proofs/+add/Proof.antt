@@ -1,12 +1,13 @@
-use Rattle.group_block.proofs.Halves.{Apart}
+use Rattle.group_block.proofs.Coded.{ordinary-coded}
+use Rattle.group_block.proofs.Halves.{Apart, left-sane, right-sane, total-apart}
 use borrow.Author.Tests.{lt-ltb, le-ltb}
-use Rattle.group_block.proofs.Steps.{left-asked, right-asked, left-join, left-sum, right-join, right-sum}
+use Rattle.group_block.proofs.Steps.{left-join, left-sum, right-join, right-sum}
 use Rattle.group_block.specs.Block.{total, block}
 use Rattle.group_block.specs.Sum.{add as add-of}
 use Rattle.group_block.specs.Passed.{summed}
-use Rattle.group_block.proofs.Laws.{block-merged}
+use Rattle.group_block.proofs.Laws.{block-merged, all-clean}
 use mathlib.Core.Path.{_≡_, sym, _∙_}
-use Prim.Native.Nat.{_-_, _^_, ℕ, _<_}
+use Prim.Native.Nat.{_+_, _-_, _^_, ℕ, _<_}
 use mathlib.Core.Bool.{false}
 use Rattle.group_layout.specs.Layout.{layout}
 use Rattle.group_layout.specs.Merged.{isMerged}
@@ -79,6 +80,14 @@ here : {t : ℕ} (c : add-lts.After-right-half (K t) (add-at t) add.Post)
     Apart (a .level) (a .word) (a .merge) (c .before .left-half .result) (c .right-half .result)
 here c = record { apart = is-apart (c .before .before); l-is = c .before .left-half .ensures; r-is = c .right-half .ensures }
 
+-- the halves' counters and the amount sum up to a number of 64 bits
+room : {t : ℕ} (c : add-lts.After-right-half (K t) (add-at t) add.Post)
+    → let a = c .before .before .before .before .args in
+    let l = c .before .left-half .result in
+    let r = c .right-half .result in
+    total (block (a .level - 1) (l .word) (l .merge)) + a .amount + total (block (a .level - 1) (r .word) (r .merge)) < 2 ^ 64
+room c = omega (arith, total-apart (here c) ordinary-coded, c .before .before .before .before .pre .1 .1 .1)
+
 add-is-merged-requires : (t : ℕ) → add-lts.Need-is-merged-requires (K t) (add-at t) add.Post
 add-is-merged-requires t c κs = omega arith
 
@@ -113,30 +122,30 @@ add-cast-size t c = omega arith
 
 add-add-requires : (t : ℕ) → add-lts.Need-add-requires (K t) (add-at t) add.Post
 add-add-requires t c κs = let s = c .before .before .before .before .before .before in
-    (omega (arith, above (c .before .before .before .before)), left-asked (here (c .before .before)) (s .pre .1 .0) (s .pre .1 .1 .0) (s .args .slot) (s .args .amount) (s .pre .1 .1 .1))
+    (omega (arith, above (c .before .before .before .before)), (omega arith, (left-sane (here (c .before .before)) (s .pre .1 .1 .0), omega (arith, room (c .before .before)))))
 
 add-join-requires : (t : ℕ) → add-lts.Need-join-requires (K t) (add-at t) add.Post
 add-join-requires t c κs = let s = c .before .before .before .before .before .before .before in
-    left-join (here (c .before .before .before)) (s .pre .1 .0) (s .pre .1 .1 .0) (s .args .slot) (s .args .amount) (s .pre .1 .1 .1) _ (c .add .ensures)
+    left-join ordinary-coded (here (c .before .before .before)) (s .pre .1 .0) (s .pre .1 .1 .0) (all-clean (layout (s .args .level) (s .args .merge)) (s .args .word)) (s .args .slot) (s .args .amount) (room (c .before .before .before)) _ (c .add .ensures)
 
 add-returns-2 : (t : ℕ) → add-lts.Need-returns-2 (K t) (add-at t) add.Post
 add-returns-2 t c = let s = c .before .before .before .before .before .before .before .before in
     c .join .ensures
-    ∙ left-sum (here (c .before .before .before .before)) (s .pre .1 .0) (s .pre .1 .1 .0) (s .args .slot) (s .args .amount) (s .pre .1 .1 .1) _ (c .before .add .ensures)
+    ∙ left-sum ordinary-coded (here (c .before .before .before .before)) (s .pre .1 .0) (s .pre .1 .1 .0) (all-clean (layout (s .args .level) (s .args .merge)) (s .args .word)) (s .args .slot) (s .args .amount) (room (c .before .before .before .before)) _ (c .before .add .ensures)
     (lt-ltb (s .args .slot) (2 ^ (s .args .level - 1)) (rw (c .before .before .before .slots .ensures .0) at (c .before .before .if2 .taken)))
 
 add-add-requires-2 : (t : ℕ) → add-lts.Need-add-requires-2 (K t) (add-at t) add.Post
 add-add-requires-2 t c κs = let s = c .before .before .before .before .before .before in
-    (omega (arith, above (c .before .before .before .before)), right-asked (here (c .before .before)) (s .pre .1 .0) (s .pre .1 .1 .0) (s .args .slot) (s .args .amount) (s .pre .1 .1 .1))
+    (omega (arith, above (c .before .before .before .before)), (omega arith, (right-sane (here (c .before .before)) (s .pre .1 .1 .0), omega (arith, room (c .before .before)))))
 
 add-join-requires-2 : (t : ℕ) → add-lts.Need-join-requires-2 (K t) (add-at t) add.Post
 add-join-requires-2 t c κs = let s = c .before .before .before .before .before .before .before in
-    right-join (here (c .before .before .before)) (s .pre .1 .0) (s .pre .1 .1 .0) (s .args .slot) (s .args .amount) (s .pre .1 .1 .1) _ (right-call c)
+    right-join ordinary-coded (here (c .before .before .before)) (s .pre .1 .0) (s .pre .1 .1 .0) (all-clean (layout (s .args .level) (s .args .merge)) (s .args .word)) (s .args .slot) (s .args .amount) (room (c .before .before .before)) _ (right-call c)
 
 add-returns-3 : (t : ℕ) → add-lts.Need-returns-3 (K t) (add-at t) add.Post
 add-returns-3 t c = let s = c .before .before .before .before .before .before .before .before in
     c .join2 .ensures
-    ∙ right-sum (here (c .before .before .before .before)) (s .pre .1 .0) (s .pre .1 .1 .0) (s .args .slot) (s .args .amount) (s .pre .1 .1 .1) _ (right-call (c .before))
+    ∙ right-sum ordinary-coded (here (c .before .before .before .before)) (s .pre .1 .0) (s .pre .1 .1 .0) (all-clean (layout (s .args .level) (s .args .merge)) (s .args .word)) (s .args .slot) (s .args .amount) (room (c .before .before .before .before)) _ (right-call (c .before))
     (le-ltb (s .args .slot) (2 ^ (s .args .level - 1)) (rw (c .before .before .before .slots .ensures .0) at (c .before .before .if2 .left)))
 
 pub +add-spec : {M : Type 1} → statement M

@@ -1,8 +1,9 @@
 use Rattle.group_block.specs.Block.{total as total-of, block}
-use Rattle.group_block.proofs.Laws.{block-merged}
-use Rattle.group_block.proofs.Halves.{Apart, words-in, total-apart, total-in}
+use Rattle.group_block.proofs.Laws.{block-merged, cap-below}
+use Rattle.group_block.proofs.Coded.{ordinary-coded}
+use Rattle.group_block.proofs.Halves.{Apart, words-in, totals-in, total-apart}
 use mathlib.Core.Path.{_≡_, sym, ap₂, _∙_}
-use Prim.Native.Nat.{_+_, ℕ, _<_}
+use Prim.Native.Nat.{_+_, _-_, ℕ, _<_}
 use mathlib.Core.Bool.{false}
 use Rattle.group_layout.specs.Layout.{layout}
 use Rattle.group_layout.specs.Merged.{isMerged}
@@ -60,7 +61,7 @@ here c = record { apart = is-apart (c .before .before); l-is = c .before .left-h
 halves-sum : {t : ℕ} (c : total-lts.After-total2 (K t) (total-at t) total.Post)
     → let a = c .before .before .before .before .before .before .args in
     c .before .total .result + c .total2 .result ≡ total-of (block (a .level) (a .word) (a .merge))
-halves-sum c = ap₂ (λ (x y : ℕ). x + y) (c .before .total .ensures) (c .total2 .ensures) ∙ total-apart (here (c .before .before))
+halves-sum c = ap₂ (λ (x y : ℕ). x + y) (c .before .total .ensures) (c .total2 .ensures) ∙ total-apart (here (c .before .before)) ordinary-coded
 
 total-is-merged-requires : (t : ℕ) → total-lts.Need-is-merged-requires (K t) (total-at t) total.Post
 total-is-merged-requires t c κs = omega arith
@@ -88,7 +89,9 @@ total-total-requires-2 t c κs = let s = c .before .before .before .before .befo
     (omega (arith, above (c .before .before .before)), (omega arith, words-in (here (c .before)) (s .pre .1 .1) .1))
 
 total-add-result : (t : ℕ) → total-lts.Need-add-result (K t) (total-at t) total.Post
-total-add-result t c = record { fits = rw (halves-sum c) (total-in (here (c .before .before)) (omega arith) (c .before .before .before .before .before .before .pre .1 .1)) }
+total-add-result t c = let s = c .before .before .before .before .before .before in
+    let i = totals-in (here (c .before .before)) ordinary-coded (s .pre .1 .1) in
+    omega (arith, i .0, i .1, c .before .total .ensures, c .total2 .ensures, cap-below (s .args .level - 1) (omega arith))
 
 total-returns-2 : (t : ℕ) → total-lts.Need-returns-2 (K t) (total-at t) total.Post
 total-returns-2 t c = halves-sum c

@@ -1,18 +1,18 @@
 use native.Mathlib.Omega.{arith}
 use Rattle.group_block.specs.Sum.{sumTotal}
-use Rattle.group_block.specs.Passed.{sumOf}
+use Rattle.group_block.specs.Passed.{sumOf, sumAs}
 use Rattle.group_block.proofs.sum_total.Statement.{statement}
 use Rattle.group_block.proofs.sum_total.Tie as tie
 
 returns : tie.Need-returns
-unfolding sumOf sumTotal
+unfolding sumAs sumTotal
 returns c = rw (c .if1 .taken)
 
 total-requires : tie.Need-total-requires
-total-requires c κs = (omega arith, c .before .pre .1 (c .if1 .left) .0)
+total-requires c κs = (omega arith, c .before .pre .1 (c .if1 .left) .0 .0)
 
 returns-2 : tie.Need-returns-2
-unfolding sumOf sumTotal
+unfolding sumAs sumTotal
 returns-2 c = rw (c .before .if1 .left) (c .total .ensures)
 
 pub sum-total-spec : {M : Type 1} → statement M

@@ -6,7 +6,7 @@ use borrow.Author.Tests.{not-true, not-false, ltb-false}
 use Rattle.group_block.specs.declared.Summed.{Summed}
 use Rattle.group_block.specs.Block.{cap, total, block, counterAt}
 use Rattle.group_block.specs.Sum.{Sum, add}
-use Rattle.group_block.specs.Passed.{summed}
+use Rattle.group_block.specs.Passed.{summed, summedAs}
 use Rattle.group_block.proofs.Laws.{block-fits}
 use Rattle.group_block.proofs.Adding.{add-total, add-sound, no-over}
 use Rattle.group_slots.proofs.Slots.{halves-total}
@@ -40,7 +40,7 @@ module _ (s : tie.Start) where
       omega (arith, halves-total (block 3 w m) (s .args .slot) (block-fits 3 w m word-in) (λ f. omega (arith, sym level-is ∙ f, s .pre .1 .1 .1 .0)))
 
   fits-is : summed (add (block 3 w m) (s .args .slot) (s .args .amount)) .over ≡ false
-  unfolding summed cap
+  unfolding summedAs cap
   fits-is =
       let x = add (block 3 w m) (s .args .slot) (s .args .amount) in
       let sound = add-sound (block 3 w m) (s .args .slot) (s .args .amount) (block-fits 3 w m word-in) in

@@ -8,10 +8,12 @@ use Rattle.group_layout.proofs.Laws.{above-slot}
 use Rattle.group_block.specs.Block.{cap, block, total as total-of}
 use Rattle.group_block.specs.Sum.{fits, unite as unite-of, held as held-of}
 use Rattle.group_block.specs.Passed.{summed}
-use Rattle.group_block.proofs.Laws.{cap-mono, block-merged}
+use Rattle.group_block.proofs.Laws.{cap-mono, block-merged, all-clean}
 use Rattle.group_union.proofs.Carries.{keeps, kept}
 use Rattle.group_block.proofs.Halves.{block-summed, Apart}
-use Rattle.group_union.proofs.Steps.{unite-counter, lefts-asked, rights-asked, both-join, both-sum}
+use Rattle.group_block.proofs.Coded.{ordinary-coded}
+use Rattle.group_block.proofs.Uniting.{unite-counter, both-join, both-sum}
+use Rattle.group_union.proofs.Steps.{halves-room, lefts-asked, rights-asked}
 use Rattle.group_union.proofs.Pairs.{pair, pair-total, pairs-unite}
 use native.Mathlib.Omega.{arith}
 use borrow.Fn.Kinds.{In, Out}
@@ -146,7 +148,8 @@ unite-add-t14 t c = let s = c .before .before in omega (arith, cap-mono (s .args
 unite-returns : (t : ℕ) → unite-lts.Need-returns (K t) (unite-at t) unite.Post
 unite-returns t c = let s = c .before .before in
     let a = s .args in
-    block-summed (a .level) (record { over = false; word = a .word + a .other-word; merge = a .merge }) refl (added c .0) (s .pre .1 .1 .0 .1)
+    block-summed ordinary-coded (a .level) (record { over = false; word = a .word + a .other-word; merge = a .merge }) refl (added c .0, s .pre .1 .1 .0 .1)
+    (all-clean (layout (a .level) (a .merge)) (a .word + a .other-word))
     ∙ sym (ap summed (added c .1))
 
 unite-is-merged-requires : (t : ℕ) → unite-lts.Need-is-merged-requires (K t) (unite-at t) unite.Post
@@ -231,19 +234,20 @@ unite-right-half-requires-2 t c κs = omega arith
 
 unite-unite-requires : (t : ℕ) → unite-lts.Need-unite-requires (K t) (unite-at t) unite.Post
 unite-unite-requires t c κs = let s = c .before .before .before .before .before .before .before .before .before .before .before .before in
-    (omega (arith, above (c .before .before .before .before .before .before)), lefts-asked (here (c)) (other (c)) (s .pre .1 .0) (s .pre .1 .1 .0) (s .pre .1 .1 .1 .0) (s .pre .1 .1 .1 .1))
+    (omega (arith, above (c .before .before .before .before .before .before)), lefts-asked (here c) (other c) (s .pre .1 .1 .1 .1) (s .pre .1 .0) (s .pre .1 .1 .0) (s .pre .1 .1 .1 .0))
 
 unite-unite-requires-2 : (t : ℕ) → unite-lts.Need-unite-requires-2 (K t) (unite-at t) unite.Post
 unite-unite-requires-2 t c κs = let s = c .before .before .before .before .before .before .before .before .before .before .before .before .before in
-    (omega (arith, above (c .before .before .before .before .before .before .before)), rights-asked (here (c .before)) (other (c .before)) (s .pre .1 .0) (s .pre .1 .1 .0) (s .pre .1 .1 .1 .0) (s .pre .1 .1 .1 .1))
+    (omega (arith, above (c .before .before .before .before .before .before .before)), rights-asked (here (c .before)) (other (c .before)) (s .pre .1 .1 .1 .1) (s .pre .1 .0) (s .pre .1 .1 .0) (s .pre .1 .1 .1 .0))
 
 unite-join-requires : (t : ℕ) → unite-lts.Need-join-requires (K t) (unite-at t) unite.Post
 unite-join-requires t c κs = let s = c .before .before .before .before .before .before .before .before .before .before .before .before .before .before in
-    both-join (here (c .before .before)) (other (c .before .before)) (s .pre .1 .0) (s .pre .1 .1 .0) (s .pre .1 .1 .1 .0) (s .pre .1 .1 .1 .1) _ _ (c .before .unite .ensures) (c .unite2 .ensures)
+    both-join ordinary-coded (here (c .before .before)) (other (c .before .before)) (s .pre .1 .0) (s .pre .1 .1 .0 .0) (s .pre .1 .1 .1 .0 .0) _ _ (c .before .unite .ensures) (c .unite2 .ensures)
+    (halves-room (here (c .before .before)) (other (c .before .before)) (s .pre .1 .1 .1 .1))
 
 unite-returns-5 : (t : ℕ) → unite-lts.Need-returns-5 (K t) (unite-at t) unite.Post
 unite-returns-5 t c = let s = c .before .before .before .before .before .before .before .before .before .before .before .before .before .before .before in
-    c .join .ensures ∙ both-sum (here (c .before .before .before)) (other (c .before .before .before)) (s .pre .1 .0) (s .pre .1 .1 .0) (s .pre .1 .1 .1 .0) (s .pre .1 .1 .1 .1) _ _ (c .before .before .unite .ensures) (c .before .unite2 .ensures)
+    c .join .ensures ∙ both-sum ordinary-coded (here (c .before .before .before)) (other (c .before .before .before)) (s .pre .1 .0) (s .pre .1 .1 .0 .0) (s .pre .1 .1 .1 .0 .0) _ _ (c .before .before .unite .ensures) (c .before .unite2 .ensures)
 
 pub +unite-spec : {M : Type 1} → statement M
 +unite-spec = close μ-unite λ t. unite-lts.spec (K t)
