@@ -70,7 +70,7 @@ pub fn right_half(half: u32, word: u64, merge: u8) -> Summed
 }
 
 // The count bytes of the block that has these halves.
-fn beside_word(half: u32, left: u64, right: u64) -> u64
+pub fn beside_word(half: u32, left: u64, right: u64) -> u64
     requires { ⌜ half ≤ 2 ⌝ ∗ ⌜ left < cap half ⌝ ∗ ⌜ right < cap half ⌝ }
     ensures { λ r. ⌜ r ≡ right * cap half + left ⌝ }
 {

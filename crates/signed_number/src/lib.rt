@@ -1,0 +1,68 @@
+// Integers as sign and magnitude, as the counters of a signed meter hold them.
+ghost use mathlib.Core.Path.{_≡_};
+ghost use Prim.Native.Nat.{_+_, _≤_, _<_, _^_};
+ghost use lib.IntN.{pos, negℤ, _+ℤ_};
+ghost use Rattle.signed_number.specs.Number.{integer, integerOf, signedOf};
+
+pub struct Signed {
+    pub minus: bool,
+    pub magnitude: u64,
+}
+
+// An amount by its sign and its magnitude.
+pub fn of_int(amount: i32) -> Signed
+    ensures { λ r. ⌜ r ≡ signedOf amount ⌝ }
+    ensures { λ r. ⌜ r .magnitude ≤ 2 ^ 31 ⌝ }
+{
+    let wide = amount as i64;
+    if wide < 0 {
+        return Signed {
+            minus: true,
+            magnitude: (-wide) as u64,
+        };
+    }
+    Signed {
+        minus: false,
+        magnitude: wide as u64,
+    }
+}
+
+// The integer of a sign and a magnitude.
+pub fn to_int(minus: bool, magnitude: u64) -> i64
+    requires { ⌜ magnitude < 2 ^ 63 ⌝ }
+    ensures { λ r. ⌜ r ≡ integer minus magnitude ⌝ }
+{
+    let value = magnitude as i64;
+    if minus { -value } else { value }
+}
+
+// Two integers added. Zero is plus.
+pub fn plus(a: Signed, b: Signed) -> Signed
+    requires { ⌜ a .magnitude + b .magnitude < 2 ^ 64 ⌝ }
+    ensures { λ r. ⌜ r ≡ signedOf (integerOf a +ℤ integerOf b) ⌝ }
+    ensures { λ r. ⌜ r .magnitude ≤ a .magnitude + b .magnitude ⌝ }
+{
+    if a.minus == b.minus {
+        let sum = a.magnitude + b.magnitude;
+        return Signed {
+            minus: if sum == 0 { false } else { a.minus },
+            magnitude: sum,
+        };
+    }
+    if a.magnitude == b.magnitude {
+        return Signed {
+            minus: false,
+            magnitude: 0,
+        };
+    }
+    if a.magnitude < b.magnitude {
+        return Signed {
+            minus: b.minus,
+            magnitude: b.magnitude - a.magnitude,
+        };
+    }
+    Signed {
+        minus: a.minus,
+        magnitude: a.magnitude - b.magnitude,
+    }
+}

@@ -1,0 +1,24 @@
+-- The sign bits of a signed group in its count bytes taken as one number, and whether a counter holds a sum. The code's own terms.
+use Prim.Native.Nat.{ℕ, _+_, _*_}
+use mathlib.Core.Path.{_≡_}
+use mathlib.Core.Bool.{Bool, false}
+use lib.Dec.{ltb}
+use lib.IntN.{ℤ, _+ℤ_, natAbs}
+use Rattle.group_layout.specs.Layout.{Layout, merged, halves, layout, levelOf}
+use Rattle.group_block.specs.Block.{cap, counterValue}
+use Rattle.group_block.specs.Sum.{add}
+use Rattle.signed_block.specs.Signed.{top}
+use Rattle.signed_block.specs.Passed.{signedBlock, signedSummed}
+
+-- the sign bits of a block's counters
+unfoldable pub tops : {n : ℕ} → Layout n → ℕ
+tops {n} merged = top n
+tops (halves {n} l r) = tops r * cap n + tops l
+
+-- whether the counter of slot k holds its value with an amount a added
+abbrev pub holdsAt : ℕ → ℕ → ℕ → ℤ → Bool
+holdsAt w m k a = ltb (natAbs (counterValue (signedBlock 3 w m) k +ℤ a)) (top (levelOf (layout 3 m) k))
+
+-- what an addition that the counter holds leaves: the layout, and another number
+abbrev pub Stays : ℕ → ℕ → ℕ → ℤ → ℕ → Type 0
+Stays w m k a word = record { over = false; word = word; merge = m } ≡ signedSummed (add (signedBlock 3 w m) k a)
