@@ -15,11 +15,13 @@ use Rattle.group_side.proofs.Unions.{unmerged-valid}
 use lib.Bits.{bitXor}
 use Rattle.hash.specs.Hash.{basis, fnv, fnvStep}
 use Rattle.hash.proofs.Hashing.{slot-lt}
-use Rattle.group.proofs.Outcomes.{added-eight, added-valid, united-valid}
+use Rattle.group.specs.Group.{unitedGroups}
+use Rattle.group.proofs.Outcomes.{added-eight, added-valid, united-eight, united-valid}
 use Rattle.geometry.specs.Geometry.{validWidth, stride, size, RowsIn}
 use Rattle.answer.specs.Answers.{finish, leaves}
 use Rattle.answer.specs.Order.{firstOf, earliest, unless}
 use Rattle.geometry.specs.Checks.{badLength, badShape}
+use Rattle.meter_memory.specs.Pairs.{pairedAt, pairStatus, pairsStatus, pairRow, rowStatusBy, rowPairedBy}
 use Rattle.meter_memory.specs.Rows.{mapRows, ofRows, ofGroups, groupAt}
 use Rattle.meter_keys.specs.Keys.{keySlot}
 use Rattle.meter_row.specs.Row.{addedIn, updateStatus, updateRow}
@@ -28,112 +30,37 @@ use Rattle.answer.proofs.Order.{first-one, none-earlier, none-first}
 use Rattle.geometry.proofs.Widths.{shape-good, wide, stride-is, slot-in, group-in}
 use Rattle.geometry.proofs.Widths.{one-row}
 use Rattle.meter_memory.proofs.Lists.{row-length}
-use Rattle.meter_memory.proofs.Groups.{row-mapped, length-mapped, length-with, group-same, group-other, eight-at}
-use Rattle.meter_union.proofs.Unions.{length-united, united-from}
+use Rattle.meter_memory.proofs.Groups.{eight-at}
+use Rattle.meter_memory.proofs.Written.{row-none, rows-after, length-after, rows-long, in-row, full-row, slot-length, slot-group, slot-other, pair-group, pairs-taken, pairs-long, pairs-row}
+use Rattle.meter_keys.proofs.Landing.{key-in}
 use Rattle.meter.specs.Meter.{badCall, rowOf, cleared, updated, sourceStatus, sourceAdded, united}
 use Rattle.meter.specs.Valid.{Valid}
 use Rattle.meter.proofs.Calls.{call-good, cleared-good, updated-good, united-good}
 
--- no status where the first of several is none
-none-rows : (f : ℕ → List ℕ → ℕ) (s n r : ℕ) (memory : List ℕ) → earliest (ofRows f s n r memory) ≡ 0
-    → (k : ℕ) → k < n → f (r + k) (take s (drop (k * s) memory)) ≡ 0
-unfolding ofRows earliest
-none-rows f s zero r memory e k h = absurd (omega arith)
-none-rows f s (suc n) r memory e zero h = rw (zero-mul s, add-zero r) (none-earlier _ _ e .0)
-none-rows f s (suc n) r memory e (suc k) h =
-    let at : suc k * s ≡ s + k * s = omega (arith, suc-mul k s) in
-    let index : r + suc k ≡ r + 1 + k = omega arith in
-    rw (at, index, ← drop-drop (k * s) s memory) (none-rows f s n (r + 1) (drop s memory) (none-earlier _ _ e .1) k (omega arith))
+-- an update keeps a row's length, writes the key's group and no other
+module _ (w : ℕ) (v : validWidth w ≡ true) (key : List ℕ) (amount r : ℕ) (row : List ℕ) (l : length row ≡ stride w) where
+  eight : length (addedIn w row (keySlot basis w key r) amount .group .counts) ≡ 8
+  unfolding addedIn
+  eight =
+      let slot = keySlot basis w key r in
+      added-eight (groupAt w row (slot / 8)) slot amount (eight-at w (slot / 8) row (in-row w v (slot / 8) row l (slot-in w slot v (key-in w key r v)) .0) (full-row w v row l))
 
-row-none : (f : ℕ → List ℕ → ℕ) (d w : ℕ) (memory : List ℕ) → earliest (ofRows f (stride w) d 0 memory) ≡ 0 → (r : ℕ) → r < d → f r (rowOf w memory r) ≡ 0
-unfolding rowOf
-row-none f d w memory e r h =
-    ap (λ (k : ℕ). f k (take (stride w) (drop (r * stride w) memory))) (sym (zero-add r)) ∙ none-rows f (stride w) d 0 memory e r h
+  update-length : length (updateRow basis w key amount r row) ≡ stride w
+  unfolding updateRow
+  update-length = slot-length w v row l (keySlot basis w key r) (key-in w key r v) (addedIn w row (keySlot basis w key r) amount .group) eight
 
-none-groups : (f : ℕ → ℕ) (n g : ℕ) → earliest (ofGroups f n g) ≡ 0 → (k : ℕ) → g ≤ k → k < g + n → f k ≡ 0
-unfolding ofGroups earliest
-none-groups f zero g e k p q = absurd (omega arith)
-none-groups f (suc n) g e k p q =
-    elim (decLt g k) [
-      | yes m ↦ none-groups f n (g + 1) (none-earlier _ _ e .1) k (omega arith) (omega arith)
-      | no m ↦ let z : k ≡ g = omega arith in rw z (none-earlier _ _ e .0)
-    ]
+  pub update-group : groupAt w (updateRow basis w key amount r row) (keySlot basis w key r / 8) ≡ addedIn w row (keySlot basis w key r) amount .group
+  unfolding updateRow
+  update-group = slot-group w v row l (keySlot basis w key r) (key-in w key r v) (addedIn w row (keySlot basis w key r) amount .group) eight
 
--- rows of a memory written row by row
-rows-after : (f : ℕ → List ℕ → List ℕ) (d w : ℕ) (memory : List ℕ) → RowsIn d w (length memory)
-    → ((r : ℕ) (row : List ℕ) → length row ≡ stride w → length (f r row) ≡ stride w)
-    → (r : ℕ) → r < d → rowOf w (mapRows f (stride w) d 0 memory) r ≡ f r (rowOf w memory r)
-unfolding rowOf size
-rows-after f d w memory p keeps r h =
-    row-mapped f (stride w) keeps d 0 r memory h (omega (arith, p .2)) ∙ ap (λ (k : ℕ). f k (take (stride w) (drop (r * stride w) memory))) (zero-add r)
+  pub update-other : (g : ℕ) → g < w / 8 → (g ≡ keySlot basis w key r / 8 → ⊥) → groupAt w (updateRow basis w key amount r row) g ≡ groupAt w row g
+  unfolding updateRow
+  update-other = slot-other w v row l (keySlot basis w key r) (key-in w key r v) (addedIn w row (keySlot basis w key r) amount .group) eight
 
-length-after : (f : ℕ → List ℕ → List ℕ) (d w : ℕ) (memory : List ℕ) → RowsIn d w (length memory)
-    → ((r : ℕ) (row : List ℕ) → length row ≡ stride w → length (f r row) ≡ stride w)
-    → length (mapRows f (stride w) d 0 memory) ≡ length memory
-unfolding size
-length-after f d w memory p keeps = length-mapped f (stride w) keeps d 0 memory (omega (arith, p .2))
-
--- a key's slot lies in its row
-fnv-lt : (h : ℕ) (bytes : List ℕ) → h < 2 ^ 32 → fnv h bytes < 2 ^ 32
-unfolding fnv fnvStep
-fnv-lt h [] l = l
-fnv-lt h (b ∷ bs) l = fnv-lt (bitXor h b * 16777619 % 2 ^ 32) bs (mod-lt (bitXor h b * 16777619) (omega arith))
-
-pub key-in : (w : ℕ) (key : List ℕ) (r : ℕ) → validWidth w ≡ true → keySlot basis w key r < w
-unfolding keySlot
-key-in w key r v = slot-lt (fnv basis (r ∷ key)) w (fnv-lt basis (r ∷ key) (omega arith)) (wide w v .shares)
-
-module _ (w : ℕ) (v : validWidth w ≡ true) where
-  -- where groups lie
-  in-row : (g : ℕ) (row : List ℕ) → length row ≡ stride w → g < w / 8 → (8 * g + 8 ≤ w) × (w + g < length row)
-  in-row g row l h = let i = group-in w g v h in (i .0, omega (arith, i .1))
-
-  full-row : (row : List ℕ) → length row ≡ stride w → w ≤ length row
-  full-row row l = omega (arith, stride-is w)
-
-  module _ (key : List ℕ) (amount r : ℕ) (row : List ℕ) (l : length row ≡ stride w) where
-    slot : ℕ
-    slot = keySlot basis w key r
-
-    key-group : slot / 8 < w / 8
-    unfolding slot
-    key-group = slot-in w (keySlot basis w key r) v (key-in w key r v)
-
-    eight : length (addedIn w row (keySlot basis w key r) amount .group .counts) ≡ 8
-    unfolding addedIn slot
-    eight = added-eight (groupAt w row (slot / 8)) slot amount (eight-at w (slot / 8) row (in-row (slot / 8) row l key-group .0) (full-row row l))
-
-    -- an update keeps the row's length, writes the key's group and no other
-    update-length : length (updateRow basis w key amount r row) ≡ stride w
-    unfolding updateRow slot
-    update-length =
-        let i = in-row (slot / 8) row l key-group in
-        length-with w row (slot / 8) (addedIn w row slot amount .group) eight (i .0) (i .1) ∙ l
-
-    pub update-group : groupAt w (updateRow basis w key amount r row) (keySlot basis w key r / 8) ≡ addedIn w row (keySlot basis w key r) amount .group
-    unfolding updateRow slot
-    update-group =
-        let i = in-row (slot / 8) row l key-group in
-        group-same w row (slot / 8) (addedIn w row slot amount .group) eight (i .0) (i .1)
-
-    pub update-other : (g : ℕ) → g < w / 8 → (g ≡ keySlot basis w key r / 8 → ⊥) → groupAt w (updateRow basis w key amount r row) g ≡ groupAt w row g
-    unfolding updateRow slot
-    update-other g h n =
-        let i = in-row (slot / 8) row l key-group in
-        group-other w row (slot / 8) (addedIn w row slot amount .group) eight (i .0) (i .1) g (in-row g row l h .0) n
-
-  module _ (source row : List ℕ) (l : length row ≡ stride w) where
-    groups-in : 8 * (0 + w / 8) ≤ w
-    groups-in = omega arith
-
-    -- a union keeps the row's length and writes each group's union
-    unite-length : length (uniteRow w source row) ≡ stride w
-    unfolding uniteRow
-    unite-length = length-united w source (w / 8) 0 row groups-in (omega (arith, stride-is w)) ∙ l
-
-    pub unite-group : (g : ℕ) → g < w / 8 → groupAt w (uniteRow w source row) g ≡ unitedAt w source row g .group
-    unfolding uniteRow
-    unite-group g h = united-from w source (w / 8) 0 row groups-in (omega (arith, stride-is w)) g (omega arith) (omega arith)
+-- a union writes each group's union
+pub unite-group : (w : ℕ) → validWidth w ≡ true → (source row : List ℕ) → length row ≡ stride w → (g : ℕ) → g < w / 8
+    → groupAt w (uniteRow w source row) g ≡ unitedAt w source row g .group
+unite-group w v source row l g h = pair-group w v unitedGroups united-eight source row l g h
 
 update-tests : (d w : ℕ) (memory key : List ℕ) (amount : ℕ) → updated d w memory key amount .answer .status ≡ 0
     → firstOf (badCall d w memory key ∷ earliest (ofRows (updateStatus basis w key amount) (stride w) d 0 memory) ∷ []) ≡ 0
@@ -163,11 +90,6 @@ update-accepted d w memory key amount e =
       long = rw (← after) (length-after (updateRow basis w key amount) d w memory p keeps);
       row = λ r h. rw (← after) (rows-after (updateRow basis w key amount) d w memory p keeps r h);
     }
-
--- lengths of the rows of a memory that they lie in
-pub rows-long : (d w : ℕ) (memory : List ℕ) → RowsIn d w (length memory) → (r : ℕ) → r < d → length (rowOf w memory r) ≡ stride w
-unfolding rowOf
-rows-long d w memory p r h = row-length r (stride w) memory (one-row d w r p h .2)
 
 pub update-valid : (d w : ℕ) (memory key : List ℕ) (amount : ℕ) → updated d w memory key amount .answer .status ≡ 0 → Valid d w memory
     → Valid d w (updated d w memory key amount .memory)
@@ -209,7 +131,6 @@ length-good d w n = go (eqb n (size d w)) refl
 
 pub unite-accepted : (d w : ℕ) (memory source : List ℕ) → united d w memory source .answer .status ≡ 0
     → United d w memory source (united d w memory source .memory)
-unfolding sourceStatus sourceAdded uniteStatus unitedStatus
 unite-accepted d w memory source e =
     let rows = earliest (ofRows (sourceStatus w source) (stride w) d 0 memory) in
     let t = none-first (badShape d w (length memory)) (badLength d w (length source) ∷ rows ∷ []) (unite-tests d w memory source e) in
@@ -218,17 +139,16 @@ unite-accepted d w memory source e =
     let p = shape-good d w (length memory) (t .0) .1 in
     let same : length source ≡ length memory = length-good d w (length source) (s .0) ∙ sym (p .2) in
     let after = united-good d w memory source (t .0) same taken .1 in
-    let keeps : (r : ℕ) (row : List ℕ) → length row ≡ stride w → length (sourceAdded w source r row) ≡ stride w = λ r row l. unite-length w (p .0) (rowOf w source r) row l in
     record {
       good = t .0;
       same = same;
-      taken = λ r g h k. none-groups (unitedStatus w (rowOf w source r) (rowOf w memory r)) (w / 8) 0 (row-none (sourceStatus w source) d w memory taken r h) g (omega arith) (omega arith);
-      long = rw (← after) (length-after (sourceAdded w source) d w memory p keeps);
-      row = λ r h. rw (← after) (rows-after (sourceAdded w source) d w memory p keeps r h);
+      taken = pairs-taken w (p .0) unitedGroups united-eight d memory source p taken;
+      long = rw (← after) (pairs-long w (p .0) unitedGroups united-eight d memory source p taken);
+      row = λ r h. rw (← after) (pairs-row w (p .0) unitedGroups united-eight d memory source p taken r h);
     }
 
 pub unite-valid : (d w : ℕ) (memory source : List ℕ) → united d w memory source .answer .status ≡ 0 → Valid d w memory → Valid d w (united d w memory source .memory)
-unfolding unitedAt
+unfolding pairedAt
 unite-valid d w memory source e m =
     let u = unite-accepted d w memory source e in
     let p = m .rows in

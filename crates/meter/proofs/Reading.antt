@@ -21,7 +21,8 @@ use Rattle.geometry.proofs.Widths.{shape-good}
 use Rattle.meter.specs.Meter.{badCall, updated, readStatus, readValue, estimated}
 use Rattle.meter.proofs.Calls.{updated-rows, estimated-good}
 use Rattle.meter.proofs.Slots.{leftValue}
-use Rattle.meter.proofs.Memory.{Updated, update-accepted, update-group, rows-long}
+use Rattle.meter.proofs.Memory.{Updated, update-accepted, update-group}
+use Rattle.meter_memory.proofs.Written.{rows-long}
 
 zeros : (s n r : ℕ) (memory : List ℕ) → earliest (ofRows (λ (r : ℕ) (row : List ℕ). 0) s n r memory) ≡ 0
 unfolding ofRows earliest earlier

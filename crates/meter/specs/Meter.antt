@@ -11,7 +11,7 @@ use Rattle.geometry.specs.Checks.{badDepth, badWidth, badLength, badShape, badK
 use Rattle.meter_memory.specs.Rows.{mapRows, ofRows, least, largest}
 use Rattle.meter_row.specs.Row.{updateStatus, updateRow, readRow}
 pub use Rattle.meter_row.specs.Row.{rowStatus, rowLevel}
-unfoldable pub use Rattle.meter_union.specs.Union.{sourceStatus, sourceAdded}
+pub use Rattle.meter_union.specs.Union.{sourceStatus, sourceAdded}
 unfoldable pub use Rattle.meter_memory.specs.Rows.{rowOf}
 
 -- Clearing reads nothing and sets every byte to 0.

@@ -15,7 +15,7 @@ mapRows f stride zero r memory = memory
 mapRows f stride (suc n) r memory = f r (take stride memory) ++ mapRows f stride n (r + 1) (drop stride memory)
 
 -- what f reads of each of those rows
-unfoldable pub ofRows : (ℕ → List ℕ → ℕ) → ℕ → ℕ → ℕ → List ℕ → List ℕ
+unfoldable pub ofRows : {A : Type 0} → (ℕ → List ℕ → A) → ℕ → ℕ → ℕ → List ℕ → List A
 ofRows f stride zero r memory = []
 ofRows f stride (suc n) r memory = f r (take stride memory) ∷ ofRows f stride n (r + 1) (drop stride memory)
 

@@ -19,6 +19,7 @@ use Rattle.group_side.proofs.Bytes.{none-merged}
 use Rattle.group_side.proofs.Unions.{unmerged-status}
 use Rattle.answer.specs.Order.{earlier, earliest}
 use Rattle.answer.proofs.Order.{earlier-assoc}
+use Rattle.meter_memory.specs.Pairs.{pairedAt, pairStatus, pairGroups}
 use Rattle.meter_memory.specs.Rows.{ofGroups, groupAt, withGroup}
 use Rattle.meter_memory.proofs.Lists.{same-from, status-run}
 use Rattle.meter_memory.proofs.Groups.{eight-at, with-counts}
@@ -53,7 +54,7 @@ group-none w g row e = rw e
 
 pub united-none : (w g : ℕ) (row source : List ℕ) → getD row (w + g) 0 ≡ 0 → getD source (w + g) 0 ≡ 0
     → unitedGroups (unmerged (take 8 (drop (8 * g) row))) (unmerged (take 8 (drop (8 * g) source))) ≡ unitedAt w source row g
-unfolding unitedAt
+unfolding pairedAt
 united-none w g row source p q = rw (group-none w g row p, group-none w g source q)
 
 -- unmerged groups of a row take those of another
@@ -68,7 +69,7 @@ eight-of w g row b h l = record { long = eight-at w g row h l; small = bytes-tak
 
 pub status-none : (w n g : ℕ) (row source : List ℕ) → 8 * (g + n) ≤ w → w ≤ length row → w ≤ length source → Bytes row → Bytes source
     → noneMerged w n g row source ≡ true → groupsStatus w source row n g ≡ 0
-unfolding groupsStatus unitedStatus
+unfolding groupsStatus pairStatus
 status-none w n g row source h l m b c e =
     groups-none (unitedStatus w source row) n g
     (λ k p q.
@@ -163,7 +164,7 @@ module _ (w : ℕ) (source : List ℕ) where
   pub unite-side : (n g : ℕ) (row : List ℕ) → 8 * (g + n) ≤ w → w + (g + n) ≤ length row → w + (g + n) ≤ length source
       → Unmerged n g row → Unmerged n g source → stayUnmerged n (countsOf n g row) (countsOf n g source) ≡ true
       → take (8 * g) row ++ unitedSide n (countsOf n g row) (countsOf n g source) ++ drop (8 * (g + n)) row ≡ uniteGroups w source n g row
-  unfolding uniteGroups unitedSide stayUnmerged
+  unfolding pairGroups unitedSide stayUnmerged
   unite-side zero g row h l m p q e =
       let f : g + 0 ≡ g = omega arith in
       rw (f, append-nil (take (8 * g) row)) (take-append-drop (8 * g) row)

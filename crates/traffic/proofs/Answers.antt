@@ -24,7 +24,7 @@ use Rattle.meter_row.specs.Row.{readRow, levelStatus, groupLevel, widestStatus,
 use Rattle.geometry.proofs.Widths.{depth-in, slot-in, group-in}
 use Rattle.meter.specs.Meter.{rowOf, readStatus, readValue, estimated, rowStatus, rowLevel, widest}
 use Rattle.meter.proofs.Calls.{call-key, estimated-good, widest-good}
-use Rattle.meter.proofs.Memory.{key-in}
+use Rattle.meter_keys.proofs.Landing.{key-in}
 use Rattle.traffic.specs.Traffic.{Pair, blockOf, blockTotal, levelUpTo, level, lower, landingTotal, upper}
 use Rattle.traffic.proofs.Holds.{Holds}
 use Rattle.traffic.specs.Claim.{Between}

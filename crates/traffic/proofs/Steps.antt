@@ -12,6 +12,7 @@ use Rattle.group_block.specs.Block.{cap}
 use Rattle.group_totals.proofs.Groups.{groupOf, group-clear, Left, added-left, total-off, group-off, united-left}
 use Rattle.hash.specs.Hash.{basis}
 use Rattle.geometry.specs.Geometry.{validDepth, validWidth, stride, size, RowsIn}
+use Rattle.meter_memory.specs.Pairs.{pairedAt}
 use Rattle.meter_memory.specs.Rows.{groupAt}
 use Rattle.meter_keys.specs.Keys.{keySlot}
 use Rattle.meter_row.specs.Row.{addedIn}
@@ -19,7 +20,8 @@ use Rattle.meter_union.specs.Union.{unitedAt}
 use Rattle.geometry.proofs.Widths.{depth-in, group-in}
 use Rattle.geometry.proofs.Widths.{row-in}
 use Rattle.meter.specs.Meter.{rowOf, updated, united}
-use Rattle.meter.proofs.Memory.{Updated, update-accepted, update-group, update-other, United, unite-accepted, unite-group, rows-long}
+use Rattle.meter.proofs.Memory.{Updated, update-accepted, update-group, update-other, United, unite-accepted, unite-group}
+use Rattle.meter_memory.proofs.Written.{rows-long}
 use Rattle.traffic.specs.Traffic.{Pair, amountSum, blockTotal}
 use Rattle.traffic.proofs.Holds.{Holds}
 use Rattle.traffic.proofs.Totals.{totals-add, totals-more, totals-append}
@@ -125,7 +127,7 @@ module _ (d w : ℕ) (vw : validWidth w ≡ true) where
       both r = blockTotal w r (qs ++ ps)
 
       group-joined : (r g : ℕ) → r < d → g < w / 8 → Left (both r) g (unitedAt w (rowOf w source r) (rowOf w memory r) g)
-      unfolding unitedAt both
+      unfolding pairedAt both
       group-joined r g p q =
           let e : groupAt w (rowOf w memory r) g ≡ groupOf (blockTotal w r ps) g = holds .groups r g p q in
           let f : groupAt w (rowOf w source r) g ≡ groupOf (blockTotal w r qs) g = behind .groups r g p q in

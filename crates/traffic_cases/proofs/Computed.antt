@@ -21,7 +21,7 @@ use Rattle.answer.specs.Answers as answers
 use Rattle.meter_memory.specs.Rows as rows
 use Rattle.meter_keys.specs.Keys as keys
 use Rattle.meter_row.specs.Row as row
-use Rattle.meter_union.specs.Union as unions
+use Rattle.meter_memory.specs.Pairs as pairs
 use Rattle.meter.specs.Meter as meter
 use Rattle.word.specs.Word as words
 use Rattle.image_format.specs.Image as image
@@ -101,15 +101,15 @@ unfolding numbers allRefuse allFit twice calls.recordPair calls.traffic calls.af
     calls.wordsOf calls.Faithful calls.Listed calls.LeftBy totals.amountSum keys.sameKey totals.keyTotal totals.blockOf totals.blockTotal
     totals.anyBelow totals.overflows totals.levelUpTo totals.level totals.lower totals.leastBelow totals.landingTotal totals.upper
     layouts.bit layouts.ones layouts.marks layouts.layout layouts.valid layouts.widestIn codes.layouts codes.mergedCode codes.code
-    codes.uncode blocks.cap blocks.shape blocks.numberOf blocks.fill blocks.block blocks.counterAt blocks.total changes.change sums.sumTotal
+    codes.uncode blocks.cap blocks.shape blocks.numberOf blocks.fill blocks.blockAs blocks.counterAt blocks.total changes.change sums.sumTotal
     sums.held sums.join sums.add sums.unite hashes.fnvStep hashes.fnv hashes.slotOf bytes.number bytes.bytes groups.decode groups.encode
     groups.reading groups.read groups.settle groups.added groups.unitedGroups groups.widestOf groups.changed packs.fourCode packs.packed
     packs.fourMerges packs.unpacked geometry.validDepth geometry.oneOfPowers geometry.validWidth geometry.stride geometry.size
     order.firstOf order.placeIn order.earlier order.earliest answers.answerOf answers.leaves answers.finish rows.mapRows rows.ofRows rows.groupAt rows.withGroup
     rows.ofGroups rows.leastOr rows.least rows.largest keys.keySlot row.addedIn row.updateStatus row.updateRow row.readRow
-    row.levelStatus row.groupLevel row.widestStatus row.widestRow unions.unitedAt unions.unitedStatus unions.uniteStatus unions.uniteGroups
-    unions.uniteRow meter.cleared meter.badCall meter.updated meter.readStatus meter.readValue meter.estimated meter.widest meter.rowOf
-    meter.sourceStatus meter.sourceAdded meter.united image.word words.next words.payload words.isDue words.tested words.below
+    row.levelStatus row.groupLevel row.widestStatus row.widestRow pairs.pairedAt pairs.pairStatus pairs.pairsStatus pairs.pairGroups
+    pairs.pairRow meter.cleared meter.badCall meter.updated meter.readStatus meter.readValue meter.estimated meter.widest meter.rowOf
+    pairs.rowStatusBy pairs.rowPairedBy meter.united image.word words.next words.payload words.isDue words.tested words.below
     image.logFrom image.logWidth image.headPayload image.wordCount image.parts image.levelAt image.isFirst image.slotWords
     image.slotsWords image.groupWords image.groupsWords image.layoutAt image.fourWords image.rowWords image.rowsWords image.body
     image.endWord image.image writing.allValid writing.validRows writing.slotSize writing.slotsSize writing.groupSize

@@ -53,7 +53,7 @@ a & b = (a, b)
 pub computed : Computed
 unfolding many these allTold entries.passes entries.changed entries.entered claim.contents keys.sameKey
     layouts.bit layouts.ones layouts.marks layouts.layout layouts.valid layouts.widestIn
-    blocks.cap blocks.shape blocks.numberOf blocks.fill blocks.block blocks.counterAt blocks.total changes.change sums.sumTotal
+    blocks.cap blocks.shape blocks.numberOf blocks.fill blocks.blockAs blocks.counterAt blocks.total changes.change sums.sumTotal
     sums.held sums.join sums.add sums.unite hashes.fnvStep hashes.fnv hashes.slotOf bytes.number bytes.bytes groups.decode groups.encode
     groups.reading groups.read groups.settle groups.added groups.widestOf groups.changed
     geometry.validDepth geometry.oneOfPowers geometry.validWidth geometry.stride geometry.size

@@ -4,6 +4,7 @@ use native.Mathlib.Omega.{arith}
 use borrow.Author.Needs.{needs}
 use mathlib.Core.List.{List}
 use lib.ListN.{length}
+use Rattle.meter_memory.specs.Pairs.{rowPairedBy}
 use Rattle.meter_memory.specs.Rows.{mapRows}
 use Rattle.meter_union.specs.Union.{uniteRow}
 use Rattle.meter_memory.specs.Rows.{rowOf}
@@ -64,7 +65,7 @@ loop-less : tie.Need-loop-less Inv-loop μ-loop
 loop-less c = search needs
 
 loop-again : tie.Need-loop-again Inv-loop μ-loop
-unfolding rowOf sourceAdded
+unfolding rowOf rowPairedBy
 loop-again c = let a = c .before .before .before .before .before .before .before .before .before .before .args in
     let l = c .before .before .before .before .before .before .loop in
     let stride = c .before .before .before .before .before .before .before .stride .result in

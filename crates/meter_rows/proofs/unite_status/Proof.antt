@@ -4,6 +4,7 @@ use native.Mathlib.Omega.{arith}
 use borrow.Author.Needs.{needs}
 use mathlib.Core.List.{List}
 use Rattle.geometry.specs.Geometry.{stride}
+use Rattle.meter_memory.specs.Pairs.{rowStatusBy}
 use Rattle.meter_memory.specs.Rows.{rowOf}
 use Rattle.meter_union.specs.Union.{sourceStatus}
 use lib.ListN.{drop}
@@ -45,7 +46,7 @@ loop-less : tie.Need-loop-less Inv-loop μ-loop
 loop-less c = search needs
 
 loop-again : tie.Need-loop-again Inv-loop μ-loop
-unfolding rowOf sourceStatus
+unfolding rowOf rowStatusBy
 loop-again c = let a = c .before .before .before .before .before .before .before .before .args in
     let l = c .before .before .before .before .before .loop in
     let e = c .before .unite-status .ensures ∙ ap₂ (λ (source row : List ℕ). uniteStatus (a .w) source row) (c .before .before .row-at2 .ensures .0) (c .before .before .before .row-at .ensures .0) in (

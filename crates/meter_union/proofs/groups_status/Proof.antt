@@ -1,5 +1,6 @@
 use Rattle.group.specs.declared.Group.{Group}
 use Rattle.group.specs.Group.{unitedGroups}
+use Rattle.meter_memory.specs.Pairs.{pairedAt, pairStatus}
 use Rattle.meter_union.specs.Union.{unitedAt, unitedStatus}
 use Rattle.meter_union.specs.Runs.{groupsStatus}
 use Rattle.meter_memory.proofs.Lists.{status-turn, status-end}
@@ -44,7 +45,7 @@ loop-less : tie.Need-loop-less Inv-loop μ-loop
 loop-less c = search needs
 
 loop-again : tie.Need-loop-again Inv-loop μ-loop
-unfolding groupsStatus unitedStatus unitedAt
+unfolding groupsStatus pairStatus pairedAt
 loop-again c = let u = c .before in
     let a = u .before .before .before .before .before .before .before .args in
     let l = u .before .before .before .before .loop in (

@@ -6,7 +6,8 @@ use lib.ListN.{length}
 use Rattle.group.specs.declared.Outcome.{Outcome}
 use Rattle.meter_union.specs.Union.{uniteGroups}
 use Rattle.meter_memory.specs.Rows.{withGroup}
-use Rattle.meter_union.proofs.Unions.{unite-turn, unite-end}
+use Rattle.group.specs.Group.{unitedGroups}
+use Rattle.meter_memory.proofs.Pairs.{pair-turn, pair-end}
 use Rattle.meter_union.proofs.unite_groups.Statement.{statement}
 use Rattle.meter_union.proofs.unite_groups.Tie as tie
 
@@ -46,7 +47,7 @@ loop-again c = let a = c .before .before .before .before .before .before .before
       refl,
       rw (c .before .before .store .ensures)
           (ap (λ (o : Outcome). uniteGroups (a .w) (a .source .now) (end - (l .g + 1)) (l .g + 1) (withGroup (a .w) (l .row) (l .g) (o .group))) u
-          ∙ unite-turn (a .w) (a .source .now) (l .row) end (l .g) (omega arith)
+          ∙ pair-turn unitedGroups (a .w) (a .source .now) (l .row) end (l .g) (omega arith)
           ∙ l .inv .3),
       omega arith,
     )
@@ -57,7 +58,7 @@ same-length c = search needs
 returns : tie.Need-returns Inv-loop μ-loop
 returns c = let a = c .before .before .before .before .args in
     let l = c .before .loop in
-    sym (unite-end (a .w) (a .source .now) (l .row) (a .first + a .n) (l .g) (omega arith)) ∙ l .inv .3
+    sym (pair-end unitedGroups (a .w) (a .source .now) (l .row) (a .first + a .n) (l .g) (omega arith)) ∙ l .inv .3
 
 pub unite-groups-spec : {M : Type 1} → statement M
 unite-groups-spec =

@@ -3,8 +3,10 @@ use Prim.Native.Nat.{ℕ, _+_, _-_, _*_, _/_, _%_, _≤_}
 use native.Mathlib.Omega.{arith}
 use borrow.Author.Needs.{needs}
 use lib.ListN.{length}
+use Rattle.meter_memory.specs.Pairs.{pairRow}
 use Rattle.meter_union.specs.Union.{uniteRow, uniteGroups}
-use Rattle.meter_union.proofs.Unions.{unite-run}
+use Rattle.group.specs.Group.{unitedGroups}
+use Rattle.meter_memory.proofs.Pairs.{pair-run}
 use Rattle.geometry.proofs.Widths.{stride-is}
 use Rattle.meter_union.proofs.unite_row.Statement.{statement}
 use Rattle.meter_union.proofs.unite_row.Tie as tie
@@ -16,7 +18,7 @@ abbrev μ-loop : tie.MeasureT-loop
 μ-loop row₀ source w e₀ e-end row e = e-end - e
 
 loop-holds : tie.Need-loop-holds Inv-loop μ-loop
-unfolding uniteRow
+unfolding pairRow
 loop-holds c = let a = c .before .before .args in
     (omega arith, refl, ap (λ (k : ℕ). uniteGroups (a .w) (a .source .now) k 0 (a .row .now)) (omega arith), refl)
 
@@ -39,7 +41,7 @@ loop-again c = let a = c .before .before .before .before .before .before .before
     let e : 8 * (l .e + 1) ≡ 8 * l .e + 8 = omega arith in (
       omega arith,
       refl,
-      rw (c .before .before .unite-eight .ensures, e) (unite-run (a .w) (a .source .now) 8 (l .row) (a .w / 8) (8 * l .e) (omega arith) ∙ l .inv .2),
+      rw (c .before .before .unite-eight .ensures, e) (pair-run unitedGroups (a .w) (a .source .now) 8 (l .row) (a .w / 8) (8 * l .e) (omega arith) ∙ l .inv .2),
       omega arith,
     )
 

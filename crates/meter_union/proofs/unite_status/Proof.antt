@@ -6,6 +6,7 @@ use Rattle.laws.proofs.Lists.{Bytes}
 use Rattle.answer.specs.Order.{earlier}
 use Rattle.answer.proofs.Order.{earlier-none}
 use Rattle.geometry.proofs.Widths.{stride-is}
+use Rattle.meter_memory.specs.Pairs.{pairsStatus}
 use Rattle.meter_union.specs.Union.{uniteStatus}
 use Rattle.meter_union.specs.Runs.{nextMerged, groupsStatus}
 use Rattle.meter_union.proofs.Runs.{status-none, status-next, next-in, next-status}
@@ -40,7 +41,7 @@ next-merged-requires : tie.Need-next-merged-requires Inv-loop μ-loop
 next-merged-requires c κs = search needs
 
 loop-holds : tie.Need-loop-holds Inv-loop μ-loop
-unfolding earlier uniteStatus groupsStatus
+unfolding earlier pairsStatus groupsStatus
 loop-holds c = let a = c .before .before .before .args in
     let k = skipped (c .before) 0 (c .next-merged .result) (omega arith) (c .next-merged .ensures) in
     (k .1, k .2 ∙ ap (λ (n : ℕ). groupsStatus (a .w) (a .source .now) (a .row .now) n 0) (omega arith))

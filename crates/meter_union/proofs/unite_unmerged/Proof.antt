@@ -8,7 +8,9 @@ use Rattle.group.specs.declared.Outcome.{Outcome}
 use Rattle.meter_memory.specs.Rows.{withGroup}
 use Rattle.meter_union.specs.Union.{unitedAt, uniteGroups}
 use Rattle.meter_union.proofs.Runs.{row-none, source-none, united-none}
-use Rattle.meter_union.proofs.Unions.{unite-turn, unite-end, merge-kept}
+use Rattle.group.specs.Group.{unitedGroups}
+use Rattle.group.proofs.Outcomes.{united-eight}
+use Rattle.meter_memory.proofs.Pairs.{pair-turn, pair-end, merge-kept}
 use Rattle.meter_union.proofs.unite_unmerged.Statement.{statement}
 use Rattle.meter_union.proofs.unite_unmerged.Tie as tie
 
@@ -72,9 +74,9 @@ loop-again c = let s = c .before .before .before .before .before .before .before
       omega arith,
       omega arith,
       refl,
-      rw stored (unite-turn (a .w) (a .source .now) (l .row) end (l .g) (omega arith) ∙ l .inv .3),
+      rw stored (pair-turn unitedGroups (a .w) (a .source .now) (l .row) end (l .g) (omega arith) ∙ l .inv .3),
       omega arith,
-      λ k h e. rw stored (merge-kept (a .w) (a .source .now) (l .row) (l .g) (omega arith) (omega arith) k (omega arith) (λ q. omega arith) ∙ l .inv .5 k (omega arith) (omega arith)),
+      λ k h e. rw stored (merge-kept unitedGroups (a .w) (a .source .now) united-eight (l .row) (l .g) (omega arith) (omega arith) k (omega arith) (λ q. omega arith) ∙ l .inv .5 k (omega arith) (omega arith)),
     )
 
 same-length : tie.Need-same-length Inv-loop μ-loop
@@ -83,7 +85,7 @@ same-length c = search needs
 returns : tie.Need-returns Inv-loop μ-loop
 returns c = let a = c .before .before .before .before .args in
     let l = c .before .loop in
-    sym (unite-end (a .w) (a .source .now) (l .row) (a .first + 8) (l .g) (omega arith)) ∙ l .inv .3
+    sym (pair-end unitedGroups (a .w) (a .source .now) (l .row) (a .first + 8) (l .g) (omega arith)) ∙ l .inv .3
 
 pub unite-unmerged-spec : {M : Type 1} → statement M
 unite-unmerged-spec =

@@ -1,3 +1,4 @@
+use Rattle.meter_memory.specs.Pairs.{pairedAt}
 use Rattle.meter_union.specs.Union.{unitedAt}
 use borrow.Author.Needs.{needs}
 use Rattle.meter_union.proofs.united_at.Statement.{statement}
@@ -13,7 +14,7 @@ unite-requires : tie.Need-unite-requires
 unite-requires c κs = search needs
 
 returns : tie.Need-returns
-unfolding unitedAt
+unfolding pairedAt
 returns c = rw (← c .before .load2 .ensures) (rw (← c .before .before .load .ensures) (c .unite .ensures))
 
 pub united-at-spec : {M : Type 1} → statement M
