@@ -1,7 +1,9 @@
--- FNV-1a of 32 bits, and the slot of a hash. Document 01, 'Where a key lands'. Cited by contracts.
+-- FNV-1a of 32 bits, and the slot and the sign of a hash. Document 01, 'Where a key lands', and document 02, request 3. Cited by contracts.
 use Prim.Native.Nat.{ℕ, _*_, _/_, _%_, _^_}
+use mathlib.Core.Bool.{Bool}
 use mathlib.Core.List.{List, [], _∷_}
 use lib.Bits.{bitXor}
+use lib.Dec.{eqb}
 
 -- the state before the first byte
 abbrev pub basis : ℕ
@@ -23,3 +25,7 @@ rowHash state row key = fnv state (row ∷ key)
 -- the slot of a hash in a row of w slots
 unfoldable pub slotOf : ℕ → ℕ → ℕ
 slotOf h w = h / (2 ^ 32 / w)
+
+-- whether the sign of a hash is minus: its bit 15 is set
+unfoldable pub signOf : ℕ → Bool
+signOf h = eqb (h / 2 ^ 15 % 2) 1

@@ -1,7 +1,7 @@
-// FNV-1a of 32 bits, and the slot of a hash.
+// FNV-1a of 32 bits, and the slot and the sign of a hash.
 ghost use mathlib.Core.Path.{_≡_};
 ghost use Prim.Native.Nat.{_%_, _^_, _<_};
-ghost use Rattle.hash.specs.Hash.{basis, fnvStep, fnv, rowHash, slotOf};
+ghost use Rattle.hash.specs.Hash.{basis, fnvStep, fnv, rowHash, slotOf, signOf};
 
 // The running hash.
 pub struct Hash {
@@ -51,4 +51,11 @@ pub fn scaled(hash: u32, w: usize) -> usize
     ensures { λ r. ⌜ r < w ⌝ }
 {
     (hash as usize * w) >> 32
+}
+
+// Whether the sign of a hash is minus: bit 15, which is below the bits that decide the slot.
+pub fn sign(hash: u32) -> bool
+    ensures { λ r. ⌜ r ≡ signOf hash ⌝ }
+{
+    (hash >> 15) & 1 == 1
 }

@@ -4,13 +4,18 @@ use mathlib.Core.List.{List, [], _∷_}
 use Prim.Native.Nat.{ℕ, zero, suc, _<_}
 use native.Mathlib.Omega.{arith}
 use lib.ListN.{getD}
-use Rattle.hash.specs.Hash.{fnvStep, fnv, slotOf}
+use Rattle.hash.specs.Hash.{fnvStep, fnv, rowHash, slotOf}
 use Rattle.meter_keys.specs.Keys.{keySlot}
 
 -- the slot of a hash that took the row number and then the key
 pub lane-slot : (state w : ℕ) (key : List ℕ) (r : ℕ) {s x y : ℕ} → s ≡ slotOf x w → x ≡ fnv y key → y ≡ fnvStep state r → s ≡ keySlot state w key r
 unfolding keySlot fnv
 lane-slot state w key r e f g = e ∙ ap (λ (h : ℕ). slotOf h w) (f ∙ ap (λ (h : ℕ). fnv h key) g)
+
+-- that hash
+pub lane-hash : (state : ℕ) (key : List ℕ) (r : ℕ) {x y : ℕ} → x ≡ fnv y key → y ≡ fnvStep state r → x ≡ rowHash state r key
+unfolding fnv
+lane-hash state key r f g = f ∙ ap (λ (h : ℕ). fnv h key) g
 
 -- what holds of each of four rows, and of each of eight
 module _ (P : ℕ → ℕ → Type 0) where

@@ -1,13 +1,18 @@
--- Where a key lands in a row. Document 01, 'Where a key lands'. And whether two keys are the same. Cited by contracts and theorems.
+-- Where a key lands in a row. Document 01, 'Where a key lands'. Its sign there. Document 02, request 3. And whether two keys are the same. Cited by
+-- contracts and theorems.
 use Prim.Native.Nat.{ℕ}
 use mathlib.Core.Bool.{Bool, true, false, _&&_}
 use mathlib.Core.List.{List, [], _∷_}
 use lib.Dec.{eqb}
-use Rattle.hash.specs.Hash.{rowHash, slotOf}
+use Rattle.hash.specs.Hash.{rowHash, slotOf, signOf}
 
 -- the slot of a key in row r, by a hash that goes on from a state
 unfoldable pub keySlot : ℕ → ℕ → List ℕ → ℕ → ℕ
 keySlot state w key r = slotOf (rowHash state r key) w
+
+-- whether the sign of row r for a key is minus, by the same hash
+unfoldable pub keySign : ℕ → List ℕ → ℕ → Bool
+keySign state key r = signOf (rowHash state r key)
 
 unfoldable pub sameKey : List ℕ → List ℕ → Bool
 sameKey [] [] = true

@@ -1,10 +1,10 @@
-// The slots of a key, in one row and in several. The hashes of four rows advance side by side: none waits for another.
+// The slots of a key, in one row and in several, and its hashes there. The hashes of four rows advance side by side: none waits for another.
 use hash::Hash;
 ghost use mathlib.Core.Path.{_≡_};
 ghost use mathlib.Core.Bool.{true};
 ghost use Prim.Native.Nat.{ℕ, _+_, _<_, _≤_};
 ghost use lib.ListN.{getD};
-ghost use Rattle.hash.specs.Hash.{fnvStep, fnv};
+ghost use Rattle.hash.specs.Hash.{fnvStep, fnv, rowHash};
 ghost use Rattle.geometry.specs.Geometry.{validWidth};
 ghost use Rattle.meter_keys.specs.Keys.{keySlot};
 
@@ -98,6 +98,41 @@ pub fn key_slots(start: Hash, w: usize, key: &[u8], d: usize) -> [usize; 8]
         return [low[0], low[1], low[2], low[3], 0, 0, 0, 0];
     }
     let high = four_slots(start, w, key, 4);
+    [
+        low[0],
+        low[1],
+        low[2],
+        low[3],
+        high[0],
+        high[1],
+        high[2],
+        high[3],
+    ]
+}
+
+// The hashes of a key in four rows.
+fn four_hashes(start: Hash, key: &[u8], first: u8) -> [u32; 4]
+    requires { ⌜ first ≤ 4 ⌝ }
+    ensures { λ s. ⌜ ((r : ℕ) → r < 4 → getD s r 0 ≡ rowHash (start .state) (first + r) (now (key .entry))) ⌝ }
+{
+    let h = Four::rows(start, first).run(key);
+    [h.a.state, h.b.state, h.c.state, h.d.state]
+}
+
+// The hashes of a key in the first d rows.
+pub fn key_hashes(start: Hash, key: &[u8], d: usize) -> [u32; 8]
+    requires { ⌜ d ≤ 8 ⌝ }
+    ensures { λ s. ⌜ ((r : ℕ) → r < d → getD s r 0 ≡ rowHash (start .state) r (now (key .entry))) ⌝ }
+{
+    let low = four_hashes(start, key, 0);
+    if d <= 4 {
+        return [low[0], low[1], low[2], low[3], 0, 0, 0, 0];
+    }
+    if d == 5 {
+        let fifth = start.in_row(4, key);
+        return [low[0], low[1], low[2], low[3], fifth.state, 0, 0, 0];
+    }
+    let high = four_hashes(start, key, 4);
     [
         low[0],
         low[1],
