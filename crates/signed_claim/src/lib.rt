@@ -1,0 +1,1 @@
+// Claims over lists of calls of a signed meter: proofs only.
