@@ -21,8 +21,7 @@ fn tops(merge: u8) -> u64
 }
 
 // Of these sign bits those of counters whose magnitude is not 0: what a magnitude and the largest one add up to passes the largest.
-fn nonzero(word: u64, tops: u64) -> u64
-{
+fn nonzero(word: u64, tops: u64) -> u64 {
     let rest = tops ^ 18446744073709551615;
     ((word & rest) + rest) & tops
 }
