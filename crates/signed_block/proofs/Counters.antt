@@ -73,7 +73,7 @@ read-holds n w h = go (ltb w (top n)) refl
     go true e = ltb-true w (top n) e
     go false e = rw (abs-neg (pos (w - top n))) (omega (arith, top-twice n, top-pos n))
 
-bits-neg : (n m : ℕ) → 0 < m → signBits n (negℤ (pos m)) ≡ top n + m
+pub bits-neg : (n m : ℕ) → 0 < m → signBits n (negℤ (pos m)) ≡ top n + m
 unfolding signBits
 bits-neg n zero h = absurd (omega arith)
 bits-neg n (suc m) h = refl

@@ -1,8 +1,8 @@
 -- The sign bits of a signed group in its count bytes taken as one number, and whether a counter holds a sum. The code's own terms.
-use Prim.Native.Nat.{ℕ, _+_, _*_}
+use Prim.Native.Nat.{ℕ, _+_, _*_, _/_, _%_}
 use mathlib.Core.Path.{_≡_}
-use mathlib.Core.Bool.{Bool, false}
-use lib.Dec.{ltb}
+use mathlib.Core.Bool.{Bool, false, cond}
+use lib.Dec.{ltb, eqb}
 use lib.IntN.{ℤ, _+ℤ_, natAbs}
 use Rattle.group_layout.specs.Layout.{Layout, merged, halves, layout, levelOf}
 use Rattle.group_block.specs.Block.{cap, counterValue}
@@ -14,6 +14,11 @@ use Rattle.signed_block.specs.Passed.{signedBlock, signedSummed}
 unfoldable pub tops : {n : ℕ} → Layout n → ℕ
 tops {n} merged = top n
 tops (halves {n} l r) = tops r * cap n + tops l
+
+-- those of counters whose magnitude is not 0
+unfoldable pub nonzero : {n : ℕ} → Layout n → ℕ → ℕ
+nonzero {n} merged w = cond (eqb (w % top n) 0) 0 (top n)
+nonzero (halves {n} l r) w = nonzero r (w / cap n) * cap n + nonzero l (w % cap n)
 
 -- whether the counter of slot k holds its value with an amount a added
 abbrev pub holdsAt : ℕ → ℕ → ℕ → ℤ → Bool
