@@ -4,3 +4,4 @@ pub mod Bits
 pub mod Twins
 pub mod Changing
 pub mod Gaps
+pub mod AnyKind
