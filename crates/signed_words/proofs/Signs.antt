@@ -1,14 +1,14 @@
 -- The sign bits of a block's counters, which of them are of counters other than 0, whether a counter is minus zero, and every counter
 -- with the other sign. By induction on the layout.
 use mathlib.Core.Path.{_≡_, refl, sym, ap, _∙_}
-use mathlib.Core.Bool.{Bool, true, false, cond, not, _&&_, and-eq-true-iff, true≢false}
+use mathlib.Core.Bool.{true, false, not, _&&_, and-eq-true-iff, true≢false}
 use Prim.Native.Nat.{ℕ, suc, _+_, _-_, _*_, _/_, _%_, _^_, _≤_, _<_}
 use native.Mathlib.Nat.{add-mul, zero-mul, one-mul, mul-le-mul-right, mod-lt, mod-eq-of-lt, div-add-mod', div-eq-of-lt}
 use native.Mathlib.Decide.{decLt}
 use native.Mathlib.Omega.{arith}
-use borrow.Author.Tests.{eqb-true, eq-eqb, ne-eqb, lt-ltb, le-ltb}
+use borrow.Author.Tests.{eq-eqb, ne-eqb, lt-ltb, le-ltb}
 use lib.Arith.{digits-lt, digits-div, digits-mod}
-use lib.Bits.{bitAnd, bitXor, and-mask, and-high, and-le-l, and-le-r, and-comm, and-block, and-zero-l, and-zero-r, and-self, xor-add-and, xor-zero-l, xor-zero-r, xor-self, xor-block, xor-lt, xor-comm, xor-shifted}
+use lib.Bits.{bitAnd, bitXor, and-mask, and-high, and-le-r, and-block, and-zero-l, and-zero-r, and-self, xor-add-and, xor-zero-l, xor-zero-r, xor-self, xor-block, xor-lt, xor-comm, xor-shifted}
 use lib.Dec.{eqb}
 use lib.IntN.{pos, negℤ-negℤ}
 use lib.Pow.{pow-pos, pow-add}
@@ -16,7 +16,7 @@ use Rattle.group_layout.specs.Layout.{Layout, merged, halves, marks, layout, va
 use Rattle.group_layout.proofs.Laws.{marks-layout, marks-lt}
 use Rattle.group_block.specs.Block.{cap, fill, numberOf, allClean}
 use Rattle.group_block.proofs.Laws.{cap-pos, cap-square, high-lt}
-use Rattle.group_slots.proofs.Gaps.{bounds, gaps-bounds, starts, spread-byte}
+use Rattle.group_slots.proofs.Gaps.{bounds, gaps-bounds, spread-byte}
 use Rattle.signed_number.specs.Number.{timesSign}
 use Rattle.signed_block.specs.Signed.{top, signBits, signRead, notMinusZero, signed, timesBlock}
 use Rattle.signed_block.proofs.Counters.{top-twice, top-pos, bits-neg}
