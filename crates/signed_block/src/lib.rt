@@ -72,7 +72,10 @@ pub fn total(level: u32, word: u64, merge: u8) -> Signed
     let half = level - 1;
     let left = left_half(half, word, merge);
     let right = right_half(half, word, merge);
-    plus(total(half, left.word, left.merge), total(half, right.word, right.merge))
+    plus(
+        total(half, left.word, left.merge),
+        total(half, right.word, right.merge),
+    )
 }
 
 // A sum stored in the one counter of a block, if it holds it.
@@ -114,7 +117,10 @@ fn formed(half: u32, left: Summed, right: Summed) -> Summed
     requires { ⌜ half ≤ 2 ⌝ ∗ ⌜ SignedApt half left ⌝ ∗ ⌜ SignedApt half right ⌝ ∗ ⌜ natAbs (sumTotal (signedSum half left)) + natAbs (sumTotal (signedSum half right)) < 2 ^ 64 ⌝ }
     ensures { λ r. ⌜ r ≡ signedSummed (sum_spec.held (half + 1) (sumTotal (signedSum half left) +ℤ sumTotal (signedSum half right))) ⌝ }
 {
-    held(half + 1, plus(sum_total(half, left), sum_total(half, right)))
+    held(
+        half + 1,
+        plus(sum_total(half, left), sum_total(half, right)),
+    )
 }
 
 // Two halves side by side or, where one is over, their sum as one counter.
@@ -163,10 +169,16 @@ pub fn unite(level: u32, word: u64, merge: u8, other_word: u64, other_merge: u8)
     ensures { λ r. ⌜ r ≡ signedSummed (sum_spec.unite (signedBlock level word merge) (signedBlock level «other_word» «other_merge»)) ⌝ }
 {
     if is_merged(level, merge) {
-        return held(level, plus(value(level, word), total(level, other_word, other_merge)));
+        return held(
+            level,
+            plus(value(level, word), total(level, other_word, other_merge)),
+        );
     }
     if is_merged(level, other_merge) {
-        return held(level, plus(total(level, word, merge), value(level, other_word)));
+        return held(
+            level,
+            plus(total(level, word, merge), value(level, other_word)),
+        );
     }
     let half = level - 1;
     let left = left_half(half, word, merge);

@@ -1,17 +1,17 @@
 -- Laws of integers as sign and magnitude.
-use mathlib.Core.Path.{_≡_, refl, ap, _∙_}
-use mathlib.Core.Bool.{Bool, true, false, cond, not}
+use mathlib.Core.Path.{_≡_, refl, sym, ap, _∙_}
+use mathlib.Core.Bool.{Bool, true, false, cond, not, Bool·beq, true≢false}
 use Prim.Native.Nat.{ℕ, zero, suc, _+_, _-_, _≤_, _<_}
 use native.Mathlib.Omega.{arith}
-use borrow.Author.Tests.{ltb-true}
+use borrow.Author.Tests.{ltb-true, le-ltb}
 use lib.Dec.{ltb}
 use lib.IntN.{ℤ, pos, negsuc, _+ℤ_, negℤ, natAbs, subℕ, negℤ-+ℤ, negℤ-negℤ}
 use Rattle.signed_number.specs.declared.Signed.{Signed}
 use Rattle.signed_number.specs.Number.{timesSign, integer, integerOf, signedOf}
 
 -- the magnitude of a sum is at most the sum of the magnitudes
-difference : (a b : ℕ) → natAbs (subℕ a b) ≤ a + b
-difference a b = go (ltb a b) refl
+sub-size : (a b : ℕ) → natAbs (subℕ a b) ≤ a + b
+sub-size a b = go (ltb a b) refl
   where
     go : (c : Bool) → ltb a b ≡ c → natAbs (cond c (negsuc (b - suc a)) (pos (a - b))) ≤ a + b
     go true e = omega (arith, ltb-true a b e)
@@ -19,8 +19,8 @@ difference a b = go (ltb a b) refl
 
 pub triangle : (a b : ℤ) → natAbs (a +ℤ b) ≤ natAbs a + natAbs b
 triangle (pos a) (pos b) = omega arith
-triangle (pos a) (negsuc b) = difference a (suc b)
-triangle (negsuc a) (pos b) = omega (arith, difference b (suc a))
+triangle (pos a) (negsuc b) = sub-size a (suc b)
+triangle (negsuc a) (pos b) = omega (arith, sub-size b (suc a))
 triangle (negsuc a) (negsuc b) = omega arith
 
 -- a sign leaves the magnitude
@@ -63,3 +63,38 @@ pub magnitude-of : (v : ℤ) → signedOf v .magnitude ≡ natAbs v
 unfolding signedOf
 magnitude-of (pos m) = refl
 magnitude-of (negsuc m) = refl
+
+-- sums by sign and magnitude: of one sign, and of two
+pub plus-same : (minus other : Bool) → Bool·beq minus other ≡ true → (a b : ℕ) → integer minus (a + b) ≡ integer minus a +ℤ integer other b
+plus-same true true e a b = times-plus true (pos a) (pos b)
+plus-same true false e a b = absurd (true≢false (sym e))
+plus-same false true e a b = absurd (true≢false (sym e))
+plus-same false false e a b = times-plus false (pos a) (pos b)
+
+less : (a b : ℕ) → b ≤ a → pos (a - b) ≡ pos a +ℤ negℤ (pos b)
+less a zero h = ap pos (omega arith)
+less a (suc b) h = rw (le-ltb a (suc b) h)
+
+times-not : (minus : Bool) (v : ℤ) → timesSign (not minus) v ≡ timesSign minus (negℤ v)
+unfolding timesSign
+times-not true v = sym (negℤ-negℤ v)
+times-not false v = refl
+
+difference : (minus : Bool) (a b : ℕ) → b ≤ a → integer minus (a - b) ≡ integer minus a +ℤ integer (not minus) b
+difference minus a b h = rw (times-not minus (pos b)) (ap (timesSign minus) (less a b h) ∙ times-plus minus (pos a) (negℤ (pos b)))
+
+pub plus-other : (minus other : Bool) → Bool·beq minus other ≡ false → (a b : ℕ) → b ≤ a → integer minus (a - b) ≡ integer minus a +ℤ integer other b
+plus-other true true e a b h = absurd (true≢false e)
+plus-other true false e a b h = difference true a b h
+plus-other false true e a b h = difference false a b h
+plus-other false false e a b h = absurd (true≢false e)
+
+pub sum-size : (a b : Signed) → signedOf (integerOf a +ℤ integerOf b) .magnitude ≤ a .magnitude + b .magnitude
+sum-size a b =
+    omega (
+      arith,
+      magnitude-of (integerOf a +ℤ integerOf b),
+      triangle (integerOf a) (integerOf b),
+      abs-integer (a .minus) (a .magnitude),
+      abs-integer (b .minus) (b .magnitude),
+    )

@@ -36,33 +36,27 @@ pub fn to_int(minus: bool, magnitude: u64) -> i64
     if minus { -value } else { value }
 }
 
-// Two integers added. Zero is plus.
+// A sign and a magnitude with zero as plus.
+pub fn canonical(minus: bool, magnitude: u64) -> Signed
+    ensures { λ r. ⌜ r ≡ signedOf (integer minus magnitude) ⌝ }
+{
+    Signed {
+        minus: if magnitude == 0 { false } else { minus },
+        magnitude,
+    }
+}
+
+// Two integers added.
 pub fn plus(a: Signed, b: Signed) -> Signed
     requires { ⌜ a .magnitude + b .magnitude < 2 ^ 64 ⌝ }
     ensures { λ r. ⌜ r ≡ signedOf (integerOf a +ℤ integerOf b) ⌝ }
     ensures { λ r. ⌜ r .magnitude ≤ a .magnitude + b .magnitude ⌝ }
 {
     if a.minus == b.minus {
-        let sum = a.magnitude + b.magnitude;
-        return Signed {
-            minus: if sum == 0 { false } else { a.minus },
-            magnitude: sum,
-        };
-    }
-    if a.magnitude == b.magnitude {
-        return Signed {
-            minus: false,
-            magnitude: 0,
-        };
+        return canonical(a.minus, a.magnitude + b.magnitude);
     }
     if a.magnitude < b.magnitude {
-        return Signed {
-            minus: b.minus,
-            magnitude: b.magnitude - a.magnitude,
-        };
+        return canonical(b.minus, b.magnitude - a.magnitude);
     }
-    Signed {
-        minus: a.minus,
-        magnitude: a.magnitude - b.magnitude,
-    }
+    canonical(a.minus, a.magnitude - b.magnitude)
 }
