@@ -1,10 +1,20 @@
 // What a signed group's calls compute of its count bytes, taken as one number, and its merge byte: whether a counter is minus zero,
 // every counter with the other sign, the counter of a slot, and an addition that its counter holds.
+use group_sums::with_value;
+use signed_block::bits;
+use signed_block::top;
+use signed_block::value;
+use signed_number::Signed;
+use signed_number::canonical;
+use signed_number::plus;
 ghost use mathlib.Core.Path.{_≡_};
 ghost use mathlib.Core.Bool.{true};
-ghost use Rattle.group_layout.specs.Layout.{layout, valid};
-ghost use Rattle.group_block.specs.Block.{numberOf, allClean};
+ghost use Prim.Native.Nat.{_<_, _≤_, _^_};
+ghost use Rattle.group_layout.specs.Layout.{layout, valid, levelOf};
+ghost use Rattle.group_block.specs.Block.{numberOf, allClean, counterValue};
+ghost use Rattle.signed_number.specs.Number.{integerOf, signedOf};
 ghost use Rattle.signed_block.specs.Signed.{signed, timesBlock};
+ghost use Rattle.signed_block.specs.Signed as sign_spec;
 ghost use Rattle.signed_block.specs.Passed.{signedBlock};
 ghost use Rattle.signed_words.specs.Words as spec;
 
@@ -40,4 +50,52 @@ pub fn negated(word: u64, merge: u8) -> u64
     ensures { λ r. ⌜ r ≡ numberOf (timesBlock true (signedBlock 3 word merge)) ⌝ }
 {
     word ^ nonzero(word, merge)
+}
+
+// A counter's value and level.
+pub struct Counter {
+    pub value: Signed,
+    pub level: u32,
+}
+
+// The counter that a slot is in.
+pub fn counter_at(word: u64, merge: u8, slot: usize) -> Counter
+    requires { ⌜ valid 3 merge ≡ true ⌝ ∗ ⌜ slot < 8 ⌝ }
+    ensures { λ r. ⌜ r .value ≡ signedOf (counterValue (signedBlock 3 word merge) slot) ⌝ }
+    ensures { λ r. ⌜ r .level ≡ levelOf (layout 3 merge) slot ⌝ }
+    ensures { λ r. ⌜ r .level ≤ 3 ⌝ }
+    ensures { λ r. ⌜ r .value .magnitude < sign_spec.top (r .level) ⌝ }
+{
+    let c = group_sums::counter_at(word, merge, slot);
+    let v = value(c.level, c.value);
+    Counter {
+        value: canonical(v.minus, v.magnitude),
+        level: c.level,
+    }
+}
+
+// The count bytes, taken as one number, after an addition that its counter holds; 0 elsewhere.
+pub struct InPlace {
+    pub held: bool,
+    pub word: u64,
+}
+
+// An amount added to the counter that a slot is in, if the counter holds the sum. The layout stays.
+pub fn add_in_place(word: u64, merge: u8, slot: usize, amount: Signed) -> InPlace
+    requires { ⌜ valid 3 merge ≡ true ⌝ ∗ ⌜ slot < 8 ⌝ ∗ ⌜ allClean signed (layout 3 merge) word ≡ true ⌝ ∗ ⌜ amount .magnitude < 2 ^ 63 ⌝ }
+    ensures { λ r. ⌜ r .held ≡ spec.holdsAt word merge slot (integerOf amount) ⌝ }
+    ensures { λ r. ⌜ (r .held ≡ true → spec.Stays word merge slot (integerOf amount) (r .word)) ⌝ }
+{
+    let c = counter_at(word, merge, slot);
+    let sum = plus(c.value, amount);
+    if sum.magnitude >= top(c.level) {
+        return InPlace {
+            held: false,
+            word: 0,
+        };
+    }
+    InPlace {
+        held: true,
+        word: with_value(word, merge, slot, bits(c.level, sum)),
+    }
 }
