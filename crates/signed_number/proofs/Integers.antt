@@ -2,6 +2,7 @@
 use mathlib.Core.Path.{_≡_, refl, sym, ap, _∙_}
 use mathlib.Core.Bool.{Bool, true, false, cond, not, Bool·beq, true≢false}
 use Prim.Native.Nat.{ℕ, zero, suc, _+_, _-_, _≤_, _<_}
+use native.Mathlib.Decide.{decLt}
 use native.Mathlib.Omega.{arith}
 use borrow.Author.Tests.{ltb-true, le-ltb}
 use lib.Dec.{ltb}
@@ -98,3 +99,21 @@ sum-size a b =
       abs-integer (a .minus) (a .magnitude),
       abs-integer (b .minus) (b .magnitude),
     )
+
+-- what is known of a sign and magnitude by its integer
+pub size-is : (s : Signed) (v : ℤ) → integerOf s ≡ v → s .magnitude ≡ natAbs v
+size-is s v e = sym (abs-integer (s .minus) (s .magnitude)) ∙ ap natAbs e
+
+pub integer-is : (s : Signed) (v : ℤ) → s ≡ signedOf v → integerOf s ≡ v
+integer-is s v e = ap integerOf e ∙ integer-of v
+
+pub canonical-is : (s : Signed) (v : ℤ) → s ≡ signedOf v → s ≡ signedOf (integerOf s)
+canonical-is s v e = e ∙ ap signedOf (sym (integer-is s v e))
+
+-- zero is plus
+pub minus-nonzero : (s : Signed) → s ≡ signedOf (integerOf s) → s .minus ≡ true → 0 < s .magnitude
+unfolding signedOf
+minus-nonzero s c e = elim (decLt 0 (s .magnitude)) [ yes h ↦ h | no h ↦ absurd (true≢false (sym e ∙ zero-plus (omega arith))) ]
+  where
+    zero-plus : s .magnitude ≡ 0 → s .minus ≡ false
+    zero-plus z = ap (λ (t : Signed). t .minus) (c ∙ ap (λ (m : ℕ). signedOf (integer (s .minus) m)) z ∙ ap signedOf (times-zero (s .minus)))
