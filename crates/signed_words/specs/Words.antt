@@ -5,8 +5,9 @@ use mathlib.Core.Bool.{Bool, false, cond}
 use lib.Dec.{ltb, eqb}
 use lib.IntN.{ℤ, _+ℤ_, natAbs}
 use Rattle.group_layout.specs.Layout.{Layout, merged, halves, layout, levelOf}
-use Rattle.group_block.specs.Block.{cap, counterValue}
+use Rattle.group_block.specs.Block.{cap, counterValue, total}
 use Rattle.group_block.specs.Sum.{add}
+use Rattle.signed_number.specs.Number.{timesSign}
 use Rattle.signed_block.specs.Signed.{top}
 use Rattle.signed_block.specs.Passed.{signedBlock, signedSummed}
 
@@ -27,3 +28,7 @@ holdsAt w m k a = ltb (natAbs (counterValue (signedBlock 3 w m) k +ℤ a)) (top 
 -- what an addition that the counter holds leaves: the layout, and another number
 abbrev pub Stays : ℕ → ℕ → ℕ → ℤ → ℕ → Type 0
 Stays w m k a word = record { over = false; word = word; merge = m } ≡ signedSummed (add (signedBlock 3 w m) k a)
+
+-- whether the sum of a block's counters and of another's times a sign has a magnitude that one counter of level 3 holds
+abbrev pub sumFits : Bool → ℕ → ℕ → ℕ → ℕ → Bool
+sumFits minus w m w′ m′ = ltb (natAbs (total (signedBlock 3 w m) +ℤ timesSign minus (total (signedBlock 3 w′ m′)))) (top 3)

@@ -3,6 +3,7 @@
 use group_sums::with_value;
 use signed_block::bits;
 use signed_block::top;
+use signed_block::total;
 use signed_block::value;
 use signed_number::Signed;
 use signed_number::canonical;
@@ -45,11 +46,38 @@ pub fn no_minus_zero(word: u64, merge: u8) -> bool
 }
 
 // The count bytes, taken as one number, with the other sign in every counter that is not 0.
-pub fn negated(word: u64, merge: u8) -> u64
+fn negated(word: u64, merge: u8) -> u64
     requires { ⌜ valid 3 merge ≡ true ⌝ ∗ ⌜ allClean signed (layout 3 merge) word ≡ true ⌝ }
     ensures { λ r. ⌜ r ≡ numberOf (timesBlock true (signedBlock 3 word merge)) ⌝ }
 {
     word ^ nonzero(word, merge)
+}
+
+// The count bytes, taken as one number, with every counter times a sign.
+pub fn times_sign(minus: bool, word: u64, merge: u8) -> u64
+    requires { ⌜ valid 3 merge ≡ true ⌝ ∗ ⌜ allClean signed (layout 3 merge) word ≡ true ⌝ }
+    ensures { λ r. ⌜ r ≡ numberOf (timesBlock minus (signedBlock 3 word merge)) ⌝ }
+{
+    if minus {
+        return negated(word, merge);
+    }
+    word
+}
+
+// Whether the sum of all counters of a group and of all of another times a sign has a magnitude below 2 ^ 63. It has where neither
+// group is one counter.
+pub fn sum_fits(minus: bool, word: u64, merge: u8, other_word: u64, other_merge: u8) -> bool
+    ensures { λ r. ⌜ r ≡ spec.sumFits minus word merge «other_word» «other_merge» ⌝ }
+{
+    if ((merge | other_merge) >> 3) & 1 == 0 {
+        return true;
+    }
+    let other = total(3, other_word, other_merge);
+    let signed = Signed {
+        minus: minus != other.minus,
+        magnitude: other.magnitude,
+    };
+    plus(total(3, word, merge), signed).magnitude < 9223372036854775808
 }
 
 // A counter's value and level.
