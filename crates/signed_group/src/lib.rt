@@ -59,9 +59,10 @@ pub fn counter(g: Group, slot: usize) -> Reading
         };
     }
     let c = counter_at(number_of(counts), g.merge, slot % 8);
+    let value = c.value;
     Reading {
         status: 0,
-        value: c.value,
+        value,
         level: c.level,
     }
 }
