@@ -1,24 +1,21 @@
 -- Laws of signed groups: which are refused, encoding, and what the code's additions and unions come to.
 use mathlib.Core.Path.{_≡_, refl, sym, ap, _∙_}
-use mathlib.Core.Bool.{Bool, true, false, cond, true≢false}
-use mathlib.Core.List.{[], _∷_}
+use mathlib.Core.Bool.{Bool, true, false}
 use Prim.Native.Nat.{ℕ, _%_, _≤_, _<_}
 use native.Mathlib.Omega.{arith}
-use borrow.Author.Tests.{eq-eqb, ne-eqb, eqb-true}
-use lib.Dec.{eqb, ltb}
+use borrow.Author.Tests.{eq-eqb, ne-eqb}
 use lib.IntN.{ℤ, _+ℤ_, natAbs}
-use lib.ListN.{length}
 use Rattle.little_endian.specs.Bytes.{number}
 use Rattle.group_layout.specs.Layout.{layout, valid}
 use Rattle.group_layout.proofs.Laws.{layout-marks}
-use Rattle.group_block.specs.Block.{BlockOf, cap, Fits, shape, numberOf, allClean, total}
+use Rattle.group_block.specs.Block.{BlockOf, cap, Fits, shape, allClean, total}
 use Rattle.group_block.specs.declared.Summed.{Summed}
-use Rattle.group_block.specs.Sum.{SumOf, fits, over, add, unite, sumTotal}
+use Rattle.group_block.specs.Sum.{SumOf, over, add, unite, sumTotal}
 use Rattle.group_block.proofs.Adding.{Sound, unite-sound, unite-total-of}
 use Rattle.group_block.proofs.Laws.{word-clean, block-fits-of}
 use Rattle.answer.specs.Numbers.{invalidContent, counterFull, minusZero}
 use Rattle.answer.specs.Order.{firstOf, unless}
-use Rattle.answer.proofs.Order.{none-earlier, none-first, first-stop, first-skip, first-one}
+use Rattle.answer.proofs.Order.{none-earlier, none-first}
 use Rattle.group.specs.declared.Group.{Group}
 use Rattle.group.specs.declared.Outcome.{Outcome}
 use Rattle.group.specs.Group.{encode, unchanged, settle}

@@ -9,7 +9,6 @@ use Rattle.group_block.specs.Sum.{add}
 use Rattle.group.specs.Group.{unchanged}
 use Rattle.signed_number.specs.Number.{integer}
 use Rattle.signed_block.specs.Signed.{signed}
-use Rattle.signed_block.specs.Passed.{signedSummed}
 use Rattle.signed_group.specs.Group.{badGroup, decode}
 use Rattle.signed_group.proofs.Laws.{Clean, good-clean, stored-is, added-refused, added-settled}
 use borrow.Author.Needs.{needs}

@@ -7,7 +7,6 @@ use Rattle.group_block.specs.Block.{counterValue}
 use Rattle.signed_number.specs.declared.Signed.{Signed}
 use Rattle.signed_number.specs.Number.{signedOf}
 use Rattle.signed_block.specs.Passed.{signedBlock}
-use Rattle.signed_group.specs.declared.Reading.{Reading}
 use Rattle.signed_group.specs.Group.{badGroup, decode, read}
 use Rattle.signed_group.proofs.Laws.{Clean, good-clean}
 use borrow.Author.Needs.{needs}
