@@ -69,12 +69,16 @@ unfolding signBits notMinusZero
 bits-clean n (pos m) h = rw (ne-eqb m (top n) (λ e. omega arith))
 bits-clean n (negsuc m) h = rw (ne-eqb (top n + suc m) (top n) (λ e. omega arith))
 
+pub read-minus : (n w : ℕ) → top n ≤ w → signRead n w ≡ negℤ (pos (w - top n))
+unfolding signRead
+read-minus n w h = rw (le-ltb w (top n) h)
+
 read-bits : (n : ℕ) (v : ℤ) → natAbs v < top n → signRead n (signBits n v) ≡ v
 unfolding signBits signRead
 read-bits n (pos m) h = rw (lt-ltb m (top n) h)
 read-bits n (negsuc m) h =
     let e : top n + suc m - top n ≡ suc m = omega arith in
-    rw (le-ltb (top n + suc m) (top n) (omega arith), e)
+    read-minus n (top n + suc m) (omega arith) ∙ ap (λ (k : ℕ). negℤ (pos k)) e
 
 read-holds : (n w : ℕ) → w < cap n → natAbs (signRead n w) < top n
 unfolding signRead

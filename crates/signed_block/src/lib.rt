@@ -54,8 +54,9 @@ pub fn bits(level: u32, value: Signed) -> u64
     requires { ⌜ level ≤ 3 ⌝ ∗ ⌜ value .magnitude < spec.top level ⌝ ∗ ⌜ Canonical value ⌝ }
     ensures { λ r. ⌜ r ≡ signBits level (integerOf value) ⌝ }
 {
+    let sign = top(level);
     if value.minus {
-        return top(level) + value.magnitude;
+        return sign + value.magnitude;
     }
     value.magnitude
 }

@@ -4,9 +4,9 @@ use mathlib.Core.Bool.{Bool, true, false, cond, not, Bool·beq, true≢false}
 use Prim.Native.Nat.{ℕ, zero, suc, _+_, _-_, _≤_, _<_}
 use native.Mathlib.Decide.{decLt}
 use native.Mathlib.Omega.{arith}
-use borrow.Author.Tests.{ltb-true, le-ltb}
+use borrow.Author.Tests.{ltb-true, ltb-false, le-ltb}
 use lib.Dec.{ltb}
-use lib.IntN.{ℤ, pos, negsuc, _+ℤ_, negℤ, natAbs, subℕ, negℤ-+ℤ, negℤ-negℤ}
+use lib.IntN.{ℤ, pos, negsuc, _+ℤ_, negℤ, natAbs, subℕ, negℤ-+ℤ, negℤ-negℤ, +ℤ-comm}
 use Rattle.signed_number.specs.declared.Signed.{Signed}
 use Rattle.signed_number.specs.Number.{timesSign, integer, integerOf, signedOf}
 
@@ -66,11 +66,9 @@ magnitude-of (pos m) = refl
 magnitude-of (negsuc m) = refl
 
 -- sums by sign and magnitude: of one sign, and of two
-pub plus-same : (minus other : Bool) → Bool·beq minus other ≡ true → (a b : ℕ) → integer minus (a + b) ≡ integer minus a +ℤ integer other b
-plus-same true true e a b = times-plus true (pos a) (pos b)
-plus-same true false e a b = absurd (true≢false (sym e))
-plus-same false true e a b = absurd (true≢false (sym e))
-plus-same false false e a b = times-plus false (pos a) (pos b)
+same-sign : (minus : Bool) (a b : ℕ) (c : Bool) → integer (cond c minus minus) (a + b) ≡ integer minus a +ℤ integer minus b
+same-sign minus a b true = times-plus minus (pos a) (pos b)
+same-sign minus a b false = times-plus minus (pos a) (pos b)
 
 less : (a b : ℕ) → b ≤ a → pos (a - b) ≡ pos a +ℤ negℤ (pos b)
 less a zero h = ap pos (omega arith)
@@ -84,11 +82,23 @@ times-not false v = refl
 difference : (minus : Bool) (a b : ℕ) → b ≤ a → integer minus (a - b) ≡ integer minus a +ℤ integer (not minus) b
 difference minus a b h = rw (times-not minus (pos b)) (ap (timesSign minus) (less a b h) ∙ times-plus minus (pos a) (negℤ (pos b)))
 
-pub plus-other : (minus other : Bool) → Bool·beq minus other ≡ false → (a b : ℕ) → b ≤ a → integer minus (a - b) ≡ integer minus a +ℤ integer other b
-plus-other true true e a b h = absurd (true≢false e)
-plus-other true false e a b h = difference true a b h
-plus-other false true e a b h = difference false a b h
-plus-other false false e a b h = absurd (true≢false e)
+-- and of two where the second has the larger magnitude
+other-difference : (minus : Bool) (a b : ℕ) → a < b → integer (not minus) (suc (b - suc a)) ≡ integer (not minus) b +ℤ integer (not (not minus)) a
+other-difference minus a b h = ap (integer (not minus)) (omega arith) ∙ difference (not minus) b a (omega arith)
+
+two-signs : (minus : Bool) (a b : ℕ) (c : Bool) → ltb a b ≡ c
+    → integer (cond c (not minus) minus) (natAbs (cond c (negsuc (b - suc a)) (pos (a - b)))) ≡ integer minus a +ℤ integer (not minus) b
+two-signs true a b true e = other-difference true a b (ltb-true a b e) ∙ +ℤ-comm (integer false b) (integer true a)
+two-signs true a b false e = difference true a b (ltb-false a b e)
+two-signs false a b true e = other-difference false a b (ltb-true a b e) ∙ +ℤ-comm (integer true b) (integer false a)
+two-signs false a b false e = difference false a b (ltb-false a b e)
+
+pub sum-parts : (minus other : Bool) (a b : ℕ)
+    → integer (cond (ltb a b) other minus) (cond (Bool·beq minus other) (a + b) (natAbs (subℕ a b))) ≡ integer minus a +ℤ integer other b
+sum-parts true true a b = same-sign true a b (ltb a b)
+sum-parts true false a b = two-signs true a b (ltb a b) refl
+sum-parts false true a b = two-signs false a b (ltb a b) refl
+sum-parts false false a b = same-sign false a b (ltb a b)
 
 pub sum-size : (a b : Signed) → signedOf (integerOf a +ℤ integerOf b) .magnitude ≤ a .magnitude + b .magnitude
 sum-size a b =

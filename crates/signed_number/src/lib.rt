@@ -1,7 +1,9 @@
 // Integers as sign and magnitude, as the counters of a signed meter hold them.
 ghost use mathlib.Core.Path.{_≡_};
+ghost use mathlib.Core.Bool.{cond, Bool·beq};
 ghost use Prim.Native.Nat.{_+_, _≤_, _<_, _^_};
-ghost use lib.IntN.{pos, negℤ, _+ℤ_};
+ghost use lib.Dec.{ltb};
+ghost use lib.IntN.{_+ℤ_, natAbs, subℕ};
 ghost use Rattle.signed_number.specs.Number.{integer, integerOf, signedOf};
 
 pub struct Signed {
@@ -46,17 +48,44 @@ pub fn canonical(minus: bool, magnitude: u64) -> Signed
     }
 }
 
+// The sign of a sum: that of the larger magnitude.
+fn sum_sign(a: Signed, b: Signed) -> bool
+    ensures { λ r. ⌜ r ≡ cond (ltb (a .magnitude) (b .magnitude)) (b .minus) (a .minus) ⌝ }
+{
+    if a.magnitude < b.magnitude {
+        return b.minus;
+    }
+    a.minus
+}
+
+// By how much two magnitudes differ.
+fn distance(a: u64, b: u64) -> u64
+    ensures { λ r. ⌜ r ≡ natAbs (subℕ a b) ⌝ }
+{
+    if a < b {
+        return b - a;
+    }
+    a - b
+}
+
+// The magnitude of a sum. Both cases are computed, so that no branch is taken by signs, which are as good as random.
+fn sum_magnitude(a: Signed, b: Signed) -> u64
+    requires { ⌜ a .magnitude + b .magnitude < 2 ^ 64 ⌝ }
+    ensures { λ r. ⌜ r ≡ cond (Bool·beq (a .minus) (b .minus)) (a .magnitude + b .magnitude) (natAbs (subℕ (a .magnitude) (b .magnitude))) ⌝ }
+{
+    let sum = a.magnitude + b.magnitude;
+    let apart = distance(a.magnitude, b.magnitude);
+    if a.minus == b.minus {
+        return sum;
+    }
+    apart
+}
+
 // Two integers added.
 pub fn plus(a: Signed, b: Signed) -> Signed
     requires { ⌜ a .magnitude + b .magnitude < 2 ^ 64 ⌝ }
     ensures { λ r. ⌜ r ≡ signedOf (integerOf a +ℤ integerOf b) ⌝ }
     ensures { λ r. ⌜ r .magnitude ≤ a .magnitude + b .magnitude ⌝ }
 {
-    if a.minus == b.minus {
-        return canonical(a.minus, a.magnitude + b.magnitude);
-    }
-    if a.magnitude < b.magnitude {
-        return canonical(b.minus, b.magnitude - a.magnitude);
-    }
-    canonical(a.minus, a.magnitude - b.magnitude)
+    canonical(sum_sign(a, b), sum_magnitude(a, b))
 }

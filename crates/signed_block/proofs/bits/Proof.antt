@@ -15,10 +15,10 @@ add-result c = let s = c .before .before .before in omega (arith, top-most (s .a
 returns : tie.Need-returns
 returns c = let s = c .before .before .before in
     let a = s .args in
-    ap (λ (x : ℕ). x + a .value .magnitude) (c .before .top .ensures) ∙ sym (bits-minus (a .level) (a .value) (s .pre .1 .1) (c .before .before .if1 .taken))
+    ap (λ (x : ℕ). x + a .value .magnitude) (c .before .before .top .ensures) ∙ sym (bits-minus (a .level) (a .value) (s .pre .1 .1) (c .before .if1 .taken))
 
 returns-2 : tie.Need-returns-2
-returns-2 c = let a = c .before .args in sym (bits-plus (a .level) (a .value) (c .if1 .left))
+returns-2 c = let a = c .before .before .args in sym (bits-plus (a .level) (a .value) (c .if1 .left))
 
 pub bits-spec : {M : Type 1} → statement M
 bits-spec = tie.close (tie.spec top-requires add-result returns returns-2)

@@ -1,11 +1,11 @@
-use borrow.Author.Tests.{lt-ltb, le-ltb}
-use mathlib.Core.Path.{ap}
-use Prim.Native.Nat.{ℕ, _-_, _<_, _≤_}
+use borrow.Author.Tests.{lt-ltb}
+use mathlib.Core.Path.{sym, ap, _∙_}
+use Prim.Native.Nat.{ℕ, _-_, _<_}
 use native.Mathlib.Omega.{arith}
 use lib.IntN.{pos, negℤ}
 use Rattle.signed_number.specs.Number.{timesSign}
 use Rattle.signed_block.specs.Signed.{top, signRead}
-use Rattle.signed_block.proofs.Counters.{top-twice}
+use Rattle.signed_block.proofs.Counters.{top-twice, read-minus}
 use borrow.Author.Needs.{needs}
 use Rattle.signed_block.proofs.value.Statement.{statement}
 use Rattle.signed_block.proofs.value.Tie as tie
@@ -20,10 +20,9 @@ returns c = let a = c .before .before .args in
     (rw (lt-ltb (a .bits) (top (a .level)) h), h)
 
 returns-2 : tie.Need-returns-2
-unfolding signRead timesSign
+unfolding timesSign
 returns-2 c = let a = c .before .before .args in
-    let h : top (a .level) ≤ a .bits = omega arith in
-    (rw (le-ltb (a .bits) (top (a .level)) h) (ap (λ (x : ℕ). negℤ (pos (a .bits - x))) (c .before .top .ensures)), omega (arith, top-twice (a .level)))
+    (ap (λ (x : ℕ). negℤ (pos (a .bits - x))) (c .before .top .ensures) ∙ sym (read-minus (a .level) (a .bits) (omega arith)), omega (arith, top-twice (a .level)))
 
 pub value-spec : {M : Type 1} → statement M
 value-spec = tie.close (tie.spec top-requires returns returns-2)
