@@ -2,6 +2,7 @@
 #![allow(dead_code)]
 
 use reference::{Memory, Place, Watch, WATCH_SIZE};
+use std::collections::BTreeMap;
 use std::ops::Range;
 
 /// SplitMix64.
@@ -54,6 +55,39 @@ pub fn seed(test: &str) -> u64 {
     };
     println!("{test}: seed {seed} (METER_SEED={seed} runs it again)");
     seed
+}
+
+/// The last of the numbers.
+pub const LAST_NUMBER: u32 = 13;
+
+/// How often each call gave each number.
+#[derive(Default, Debug)]
+pub struct Numbers(BTreeMap<(&'static str, u32), u64>);
+
+impl Numbers {
+    pub fn note(&mut self, call: &'static str, number: u32) {
+        *self.0.entry((call, number)).or_default() += 1;
+    }
+
+    pub fn has(&self, call: &'static str, number: u32) -> bool {
+        self.0.contains_key(&(call, number))
+    }
+
+    pub fn calls(&self) -> u64 {
+        self.0.values().sum()
+    }
+
+    /// Prints the counts; fails where a possible number was never given, or one that is not possible was.
+    pub fn finish(&self, possible: &[(&'static str, &[u32])]) {
+        println!("{} calls; how often each gave each number:", self.calls());
+        for (call, numbers) in possible {
+            let counts = (0..=LAST_NUMBER).filter_map(|n| self.0.get(&(*call, n)).map(|count| format!("{n}: {count}")));
+            println!("  {call:<12} {}", counts.collect::<Vec<_>>().join(", "));
+            for n in 0..=LAST_NUMBER {
+                assert_eq!(self.has(call, n), numbers.contains(&n), "{call} and number {n}");
+            }
+        }
+    }
 }
 
 const GUARD: usize = 24;
@@ -244,6 +278,35 @@ pub fn memory(rng: &mut Rng, d: usize, w: usize) -> Vec<u8> {
             let at = rng.below(d) * stride + w + rng.below(w / 8);
             bytes[at] = rng.next() as u8;
         }
+    }
+    bytes
+}
+
+/// A depth and a width as told: mostly the meter's own.
+pub fn told(rng: &mut Rng, d: usize, w: usize) -> (usize, usize) {
+    match rng.below(40) {
+        0 => (rng.pick(&[0, 9, 10, 16, 256, usize::MAX, 1 << 32]), w),
+        1 => (
+            d,
+            rng.pick(&[0, 1, 16, 31, 33, 48, 96, 65_535, 65_537, 131_072, 1 << 32, usize::MAX]),
+        ),
+        2 => (0, 33),
+        3 => (rng.within(1..9), w),
+        4 => (d, 32 << rng.below(12)),
+        // Other rows of the same memory.
+        5 if d & 1 == 0 && w < 65_536 => (d / 2, w * 2),
+        6 if d <= 4 && w > 32 => (d * 2, w / 2),
+        _ => (d, w),
+    }
+}
+
+/// Bytes of another length: one more or less, or none.
+pub fn other_length(rng: &mut Rng, bytes: &[u8]) -> Vec<u8> {
+    let mut bytes = bytes.to_vec();
+    match rng.below(3) {
+        0 => bytes.clear(),
+        1 => drop(bytes.pop()),
+        _ => bytes.push(0),
     }
     bytes
 }
