@@ -525,20 +525,20 @@ fn faults_in_every_order() {
 fn order_of_arguments() {
     let mut both = Both::default();
     let damaged = vec![0x80; 36];
-    let cases: [(usize, usize, &[u8], &[u8], u32); 11] = [
-        (0, 33, &damaged[1..], b"", 1),
-        (9, 33, &damaged[1..], b"", 1),
-        (10, 32, &damaged[1..], b"", 1),
-        (2, 33, &damaged[1..], b"", 2),
-        (1, 16, &damaged[1..], b"", 2),
-        (2, 32, &damaged[1..], b"", 12),
-        (8, 65_536, &damaged[1..], b"", 12),
-        (1, 32, &damaged[1..], b"", 3),
+    let short = &damaged[1..];
+    for (d, w, bytes, key, number) in [
+        (0, 33, short, &b""[..], 1),
+        (9, 33, short, b"", 1),
+        (10, 32, short, b"", 1),
+        (2, 33, short, b"", 2),
+        (1, 16, short, b"", 2),
+        (2, 32, short, b"", 12),
+        (8, 65_536, short, b"", 12),
+        (1, 32, short, b"", 3),
         (3, 32, &damaged, b"", 3),
         (1, 32, &damaged, b"", 4),
         (1, 32, &damaged, &[7; 65], 4),
-    ];
-    for (d, w, bytes, key, number) in cases {
+    ] {
         assert_eq!(both.update(d, w, &mut Pair::new(bytes), key, 1), number);
         assert_eq!(both.estimate(d, w, &Pair::new(bytes), key), number);
         // These have no key; the memory of the last two is damaged, which a clearing does not look at.
