@@ -1,4 +1,4 @@
-/* The signed meter's rule in plain C, for comparison alone, as salsa.h has the meter's. Signatures and numbers as in include/meter.h. */
+/* The signed meter's rule in plain C, for comparison alone, as salsa.h has the meter's. */
 #ifndef SIGNED_H
 #define SIGNED_H
 
