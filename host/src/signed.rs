@@ -6,9 +6,9 @@ use std::fmt;
 /// A meter of amounts that go up and down, a Count Sketch: it owns its memory and keeps the depth `d`, which is odd, and the width `w`
 /// that it was made with, so that no call can be told others.
 ///
-/// An estimate is near the key's total, above it or below: it is the median over the rows, in each of which the other keys of the
-/// counter come with signs that cancel one another. Meters are added to one another and taken away from one another, so that the
-/// difference of two weeks tells which keys changed.
+/// An estimate is the median over the rows, each of which gives the other keys of a counter signs of its own; it can be above the key's
+/// total or below. Meters are added to one another and taken away from one another, so that the difference of two weeks tells which
+/// keys changed.
 ///
 /// Its merge bytes are valid and no counter holds minus zero: a memory that breaks the rule is refused before there is a meter, and
 /// every call keeps it. So the only refusals are those that each method names. A method that is refused has changed nothing.

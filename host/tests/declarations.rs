@@ -44,9 +44,13 @@ fn number(t: &str) -> String {
 
 /// `#[no_mangle] pub extern "C" fn name(a: T, ..) -> R`: a slice is passed as pointer and length.
 fn in_rattle() -> Vec<Call> {
-    let text: String = ["group", "meter", "image", "feed", "watch", "signed"]
-        .iter()
-        .map(|family| read(&format!("../crates/c_{family}/src/lib.rt")))
+    let crates = Path::new(env!("CARGO_MANIFEST_DIR")).join("../crates");
+    let names = fs::read_dir(crates)
+        .expect("the crates")
+        .map(|entry| entry.expect("a crate").file_name().into_string().expect("a name"));
+    let text: String = names
+        .filter(|name| name.starts_with("c_"))
+        .map(|family| read(&format!("../crates/{family}/src/lib.rt")))
         .collect();
     let mut rest = text.as_str();
     let mut calls = Vec::new();

@@ -151,11 +151,21 @@ impl Both {
             let (td, tw) = told(rng, d, w);
             let some_key = keys[rng.below(keys.len())].clone();
             match rng.below(32) {
-                0 => drop(self.clear(td, tw, &mut target)),
-                1..=14 => drop(self.update(td, tw, &mut target, &some_key, signed_amount(rng))),
-                15..=20 => drop(self.estimate(td, tw, &target, &some_key)),
-                21..=24 => drop(self.combine(Unite, (td, tw), &mut target, &source)),
-                25..=28 => drop(self.combine(Subtract, (td, tw), &mut target, &source)),
+                0 => {
+                    self.clear(td, tw, &mut target);
+                }
+                1..=14 => {
+                    self.update(td, tw, &mut target, &some_key, signed_amount(rng));
+                }
+                15..=20 => {
+                    self.estimate(td, tw, &target, &some_key);
+                }
+                21..=24 => {
+                    self.combine(Unite, (td, tw), &mut target, &source);
+                }
+                25..=28 => {
+                    self.combine(Subtract, (td, tw), &mut target, &source);
+                }
                 29 if target.model.len() == d * w / 8 * 9 => {
                     let mut bytes = target.model;
                     // Only a sound memory says where its counters are.
@@ -387,7 +397,7 @@ fn every_minus_zero() {
             for row in 0..d {
                 let own = reference::slot(row, key, w) / 8;
                 for group in 0..w / 8 {
-                    let mut bytes = signed_memory_like(&mut rng, d, w);
+                    let mut bytes = small_signed_memory(&mut rng, d, w);
                     let (counts, at) = group_at(w, row, group);
                     bytes[at] = merge;
                     for slots in counters(merge) {
@@ -409,7 +419,7 @@ fn every_minus_zero() {
 }
 
 /// A sound memory whose numbers are small: no call finds a full counter in it.
-fn signed_memory_like(rng: &mut Rng, d: usize, w: usize) -> Vec<u8> {
+fn small_signed_memory(rng: &mut Rng, d: usize, w: usize) -> Vec<u8> {
     let merges = reference::valid_merges();
     let mut bytes = vec![0; d * w / 8 * 9];
     for (row, group) in (0..d).flat_map(|row| (0..w / 8).map(move |group| (row, group))) {

@@ -24,8 +24,8 @@ usage: meter compare BEFORE AFTER [--geometry D W] [--top N] [--ip]
 BEFORE and AFTER are feeds, or text or captures as meter feed takes them; one of
 them may be -, standard input. One signed meter counts the updates of BEFORE
 with minus and those of AFTER with plus, and is asked for each key of either. So
-a change is an estimate: near the true one, above or below. What the inputs say
-of their own d and w does not count, and questions are passed over.
+a change is an estimate, and can be above the true one or below. What the inputs
+say of their own d and w does not count, and questions are passed over.
 
   --text             both are text
   --from-pcap        both are captures; the amount of a packet is its length
