@@ -2,18 +2,8 @@
 
 mod common;
 
-use common::{bad, good, head, meter, random_feed, record, text, to_bytes, Folder, Rng};
+use common::{bad, feed, good, meter, named, random_feed, text, to_bytes, Folder, Rng};
 use reference::{feed_record, signed_estimate, signed_update, Memory, Record};
-
-/// A feed of these updates, of one row of 32.
-fn feed(updates: &[(&[u8], u32)]) -> Vec<u8> {
-    let mut words = vec![head(1, 32)];
-    for (key, amount) in updates {
-        words.extend(record(key, Some(*amount)));
-    }
-    words.push(0x4000_0000 | words.len() as u32);
-    to_bytes(&words)
-}
 
 /// The updates of a feed.
 fn updates(words: &[u32]) -> Vec<(Vec<u8>, u32)> {
@@ -30,15 +20,6 @@ fn updates(words: &[u32]) -> Vec<(Vec<u8>, u32)> {
             Record::End => return all,
         }
     }
-}
-
-/// A key as it is shown: itself if it is printable, else in hexadecimal digits.
-fn named(key: &[u8]) -> String {
-    if key.iter().all(u8::is_ascii_graphic) && !key.starts_with(b"0x") && !key.starts_with(b"0X") {
-        return text(key);
-    }
-    let digits: String = key.iter().map(|byte| format!("{byte:02x}")).collect();
-    format!("0x{digits}")
 }
 
 /// The lines that the reference comes to: before with minus, then after with plus, each amount in the largest parts there are.
