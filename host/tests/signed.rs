@@ -652,10 +652,11 @@ fn check(d: usize, w: usize, m: &Kept, before: &[u8], keys: &[Vec<u8>], own: &[i
         let (counts, merge) = group_at(w, row, group);
         assert_eq!(m.memory[merge] & before[merge], before[merge], "no layout shrinks");
         for slots in counters(m.memory[merge]) {
-            let number = signed_number(&m.memory[counts.clone()][slots.clone()]);
+            let counter = &m.memory[counts.clone()][slots.clone()];
             let first = row * w + 8 * group;
             let total: i128 = m.totals[first + slots.start..first + slots.end].iter().sum();
-            assert_eq!(number, total, "row {row}, group {group}, slots {slots:?}");
+            assert_eq!(signed_number(counter), total, "row {row}, group {group}, slots {slots:?}");
+            assert!(total != 0 || counter.iter().all(|&byte| byte == 0), "zero is plus");
             seen.levels[slots.len().ilog2() as usize] += u64::from(total != 0);
             seen.negative += u64::from(total < 0);
         }
