@@ -4,14 +4,19 @@
  * A meter is a lent memory with the depth d (rows, 1 to 8) and the width w (slots of a row, a power of two from 32 to 65,536) that
  * it was cleared with. The memory is exactly METER_SIZE(d, w) bytes long, of any alignment; it holds neither d nor w.
  *
+ * There are two kinds of meter. One that meter_clear cleared counts amounts that only grow. One that meter_signed_clear cleared
+ * counts amounts of either sign, in a Count Sketch: its calls are those with meter_signed_ in their names, and its d is odd. A
+ * meter's kind, like its d and w, is what it was cleared as, and its memory does not hold it: a call of the other kind, like one
+ * told another d or w, is no call on that meter.
+ *
  * Every call ends, whatever is in the memory, the key and the words, and returns a number, one of enum meter_number. It writes
  * *place and *figure always. METER_ACCEPTED, 0, is acceptance. Any other number says why the call was refused; then the figure is
  * 0 and every lent byte and word is as before. So test every number: only of an accepted call the figure says anything.
  *
- * The first number that applies is returned, in this order: 1 to 4 for the call's own d, w, lengths and key; then the words, of
- * which the first faulty one decides, by 8, 9 and 10, then in a feed's head by 1 and 2 and for a record's key length by 4; then 5,
- * 11, 6 and 7. The place is an index, from 0, into the lent words where a word is at fault, else 0; a missing word's index is the
- * number of words lent.
+ * The first number that applies is returned, in this order: 1, 2, 12, 3 and 4 for the call's own d, w, lengths and key; then the
+ * words, of which the first faulty one decides, by 8, 9 and 10, then in a feed's head by 1 and 2 and for a record's key length by
+ * 4; then 5, 13, 11, 6 and 7. A number of any group that the call reads comes before a later one of every other. The place is an
+ * index, from 0, into the lent words where a word is at fault, else 0; a missing word's index is the number of words lent.
  *
  * What the caller owes: a pointer points to as many bytes or words as the length beside it says, place and figure to one number
  * each and merges to four bytes. No pointer is null, also where the length is 0. Words are aligned for uint32_t, place and figure
@@ -59,7 +64,8 @@ enum meter_number {
     /* A merge byte of a group that the call reads is not one of the 26 valid ones; or a watch list breaks its layout: a key length
      * above 64, a length other than 0 after a 0, or a mark above 1. */
     METER_CONTENT = 5,
-    /* An update or a union would make a counter of 64 bits overflow. */
+    /* An update, a union or a difference would make a counter of 64 bits overflow: 2^64 or more, in a signed meter a magnitude of
+     * 2^63 or more. */
     METER_COUNTER_FULL = 6,
     /* The lent words are fewer than the image has. */
     METER_TOO_FEW_WORDS = 7,
@@ -70,7 +76,12 @@ enum meter_number {
     /* An image's head is sound but has another d or w than the call. */
     METER_OTHER_GEOMETRY = 10,
     /* The threshold is 0. Tested after 5 and before 6. */
-    METER_ZERO_THRESHOLD = 11
+    METER_ZERO_THRESHOLD = 11,
+    /* d of a signed meter is even. Tested after 2 and before 3. */
+    METER_EVEN_DEPTH = 12,
+    /* A counter of a signed meter, in a group that the call reads, holds minus zero: its top bit and no other. Tested after 5 and
+     * before 6. */
+    METER_MINUS_ZERO = 13
 };
 
 /* A number in words. */
@@ -100,6 +111,10 @@ static inline const char *meter_text(uint32_t number) {
         return "an image or a source is of another depth or width";
     case METER_ZERO_THRESHOLD:
         return "the threshold is 0";
+    case METER_EVEN_DEPTH:
+        return "the depth of a signed meter is even";
+    case METER_MINUS_ZERO:
+        return "a counter of a signed meter holds minus zero";
     default:
         return "no number of this library";
     }
@@ -167,6 +182,29 @@ uint32_t meter_watch_update(size_t d, size_t w, uint8_t *memory, size_t memory_l
 /* Takes a key off a watch list; those after it move up by one place. Changes nothing where the key is not listed. Gives 0 and 3
  * to 5. */
 uint32_t meter_watch_remove(uint8_t *list, size_t list_len, const uint8_t *key, size_t key_len, uint64_t *place, uint64_t *figure);
+
+/* A signed meter has the memory of a meter with the same d and w, and d is 1, 3, 5 or 7. The top bit of a counter is its sign,
+ * set for minus, and the others are its magnitude; 0 is plus. A key has a sign in each row. */
+
+/* Sets every byte of a signed meter's memory to 0, whatever it was. Gives 0 to 3 and 12. */
+uint32_t meter_signed_clear(size_t d, size_t w, uint8_t *memory, size_t memory_len, uint64_t *place, uint64_t *figure);
+
+/* Adds an amount, times the key's sign in the row, to the key's counter in each row, or in none. Gives 0 to 6, 12 and 13. */
+uint32_t meter_signed_update(size_t d, size_t w, uint8_t *memory, size_t memory_len, const uint8_t *key, size_t key_len,
+                             int32_t amount, uint64_t *place, uint64_t *figure);
+
+/* The figure is the median of the key's counters, each times the key's sign in its row. Gives 0 to 5, 12 and 13. */
+uint32_t meter_signed_estimate(size_t d, size_t w, const uint8_t *memory, size_t memory_len, const uint8_t *key, size_t key_len,
+                               uint64_t *place, int64_t *figure);
+
+/* Adds a source, a signed meter of the same d and w, into the memory. The source is only read. Gives 0 to 3, 5, 6, 12 and 13. */
+uint32_t meter_signed_unite(size_t d, size_t w, uint8_t *memory, size_t memory_len, const uint8_t *source, size_t source_len,
+                            uint64_t *place, uint64_t *figure);
+
+/* Takes a source, a signed meter of the same d and w, away from the memory; to take a meter away from itself, lend a copy. The
+ * source is only read. Gives 0 to 3, 5, 6, 12 and 13. */
+uint32_t meter_signed_subtract(size_t d, size_t w, uint8_t *memory, size_t memory_len, const uint8_t *source, size_t source_len,
+                               uint64_t *place, uint64_t *figure);
 
 #ifdef __cplusplus
 }

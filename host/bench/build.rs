@@ -1,4 +1,4 @@
-// Compiles the two meters for comparison and the hash alone, for the same plain x86-64 as the proved library. CC names another compiler.
+// Compiles the meters for comparison and the hash alone, for the same plain x86-64 as the proved library. CC names another compiler.
 use std::env;
 use std::path::PathBuf;
 use std::process::Command;
@@ -13,7 +13,7 @@ fn main() {
     let out = PathBuf::from(env::var_os("OUT_DIR").unwrap());
     let cc = env::var_os("CC").unwrap_or_else(|| "cc".into());
     let mut objects = Vec::new();
-    for name in ["salsa", "countmin", "hash"] {
+    for name in ["salsa", "signed", "countmin", "hash"] {
         let object = out.join(name).with_extension("o");
         let source = c.join(name).with_extension("c");
         run(Command::new(&cc)

@@ -77,6 +77,42 @@ static void keyed(size_t d, size_t key_len) {
 #endif
 }
 
+static void keyed_signed(size_t d, size_t key_len) {
+    size_t w = 1024, len = d * (w / 8 * 9);
+    uint64_t place, figure;
+    int64_t change;
+    accepted(call(signed_clear)(d, w, memory, len, &place, &figure));
+    CALLGRIND_ZERO_STATS;
+    for (size_t i = 0; i < CALLS; i++) {
+        int32_t amount = amounts[i] % 2 ? (int32_t)amounts[i] : -(int32_t)amounts[i];
+        accepted(call(signed_update)(d, w, memory, len, keys + i % KEYS * key_len, key_len, amount, &place, &figure));
+    }
+    told("signed update", d, key_len);
+    for (size_t i = 0; i < CALLS; i++)
+        accepted(call(signed_estimate)(d, w, memory, len, keys + i % KEYS * key_len, key_len, &place, &change));
+    told("signed estimate", d, key_len);
+}
+
+/* A sum of two signed meters, and a difference. */
+static void whole_signed(size_t d, size_t w, int all_levels) {
+    size_t len = d * (w / 8 * 9), groups = d * w / 8;
+    uint8_t *target = malloc(len), *source = malloc(len);
+    if (!target || !source)
+        exit(1);
+    uint64_t place, figure;
+    fill_signed(d, w, target, all_levels);
+    fill_signed(d, w, source, all_levels);
+    CALLGRIND_ZERO_STATS;
+    accepted(call(signed_unite)(d, w, target, len, source, len, &place, &figure));
+    told_by_group("signed sum", all_levels, groups);
+    fill_signed(d, w, target, all_levels);
+    CALLGRIND_ZERO_STATS;
+    accepted(call(signed_subtract)(d, w, target, len, source, len, &place, &figure));
+    told_by_group("signed difference", all_levels, groups);
+    free(target);
+    free(source);
+}
+
 /* A union of two meters and of one with its copy, an image written and an image read; numbers are for each group. */
 static void whole(size_t d, size_t w, int all_levels) {
     size_t len = d * (w / 8 * 9), room = d * w + d * w / 32 + 2, groups = d * w / 8;
@@ -114,7 +150,13 @@ int main(void) {
     for (size_t i = 0; i < 3; i++)
         for (size_t j = 0; j < 3; j++)
             keyed(depths[i], lengths[j]);
+    size_t odd[] = {1, 3, 5, 7};
+    for (size_t i = 0; i < 4; i++)
+        for (size_t j = 0; j < 3; j++)
+            keyed_signed(odd[i], lengths[j]);
     whole(8, 4096, 0);
     whole(8, 4096, 1);
+    whole_signed(7, 4096, 0);
+    whole_signed(7, 4096, 1);
     return 0;
 }

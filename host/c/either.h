@@ -8,6 +8,7 @@
 
 #ifdef PLAIN
 #include "salsa.h"
+#include "signed.h"
 #define call(name) salsa_##name
 #else
 #include "meter.h"
@@ -58,6 +59,18 @@ static inline void fill(size_t d, size_t w, uint8_t *memory, int all_levels) {
             if (merge == 0x7f)
                 memory[8 * g + 7] /= 2;
             memory[w + g] = merge;
+        }
+}
+
+/* The same of signed meters, for sums and differences: odd magnitudes, so that none is minus zero, of either sign. */
+static inline void fill_signed(size_t d, size_t w, uint8_t *memory, int all_levels) {
+    fill(d, w, memory, all_levels);
+    for (size_t r = 0; r < d; r++, memory += w + w / 8)
+        for (size_t k = 0; k < w; k++) {
+            int whole = memory[w + k / 8] == 0x7f && k % 8 == 7;
+            if (!all_levels || whole)
+                memory[k] = (uint8_t)draw() & 0xbf;
+            memory[k] |= 1;
         }
 }
 

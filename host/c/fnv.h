@@ -1,4 +1,4 @@
-/* A key's slot in each row: 32-bit FNV-1a with the row number first, high bits. Shared by the two meters for comparison. Four rows
+/* A key's slot in each row: 32-bit FNV-1a with the row number first, high bits. Shared by the meters for comparison. Four rows
  * advance side by side, as in the proved code: no multiplication of one waits for another's. Where only one or two rows are left,
  * only these are hashed. */
 #ifndef FNV_H
@@ -38,12 +38,23 @@ static inline void lane_slots(uint32_t *slot, uint32_t first, size_t rows, unsig
     slot[0] = a >> shift;
 }
 
+static inline void shifted_hashes(uint32_t *hash, size_t d, unsigned shift, const uint8_t *key, size_t key_len) {
+    lane_slots(hash, 0, d, shift, key, key_len);
+    if (d > 4)
+        lane_slots(hash + 4, 4, d - 4, shift, key, key_len);
+}
+
+/* How far a hash is shifted to the right for the slot in a row of w. */
+static inline unsigned slot_shift(size_t w) { return 32 - (unsigned)__builtin_ctzl(w); }
+
 /* Slots of the first d rows, 1 to 8. There is room for 8. */
 static inline void key_slots(uint32_t *slot, size_t d, size_t w, const uint8_t *key, size_t key_len) {
-    unsigned shift = 32 - (unsigned)__builtin_ctzl(w);
-    lane_slots(slot, 0, d, shift, key, key_len);
-    if (d > 4)
-        lane_slots(slot + 4, 4, d - 4, shift, key, key_len);
+    shifted_hashes(slot, d, slot_shift(w), key, key_len);
+}
+
+/* The whole hashes. */
+static inline void key_hashes(uint32_t *hash, size_t d, const uint8_t *key, size_t key_len) {
+    shifted_hashes(hash, d, 0, key, key_len);
 }
 
 #endif

@@ -3,6 +3,7 @@
 #include <string.h>
 
 #include "fnv.h"
+#include "group.h"
 
 /* By merge byte: its layout code and one, or 0 where it is not valid. Left half by left half, so code = left * 5 + right. */
 static const uint8_t code_and_one[256] = {
@@ -19,27 +20,11 @@ static const uint8_t merge_of[26] = {
 /* The words of a group's counters in an image, by layout code. */
 static const uint8_t words_of[26] = {8, 7, 7, 6, 6, 7, 6, 6, 5, 5, 7, 6, 6, 5, 5, 6, 5, 5, 4, 4, 6, 5, 5, 4, 4, 3};
 
-/* By level: the largest figure, the merge bits of a merged block that starts at slot 0, the words in an image, and the limit of the
- * first of them. */
-static const uint64_t most[4] = {0xff, 0xffff, 0xffffffff, UINT64_MAX};
-static const uint8_t bits_within[4] = {0x00, 0x01, 0x07, 0x7f};
+/* By level: the words of a counter in an image, and the limit of the first of them. */
 static const uint8_t parts[4] = {1, 1, 2, 3};
 static const uint32_t first_limit[4] = {1u << 8, 1u << 16, 1u << 8, 1u << 16};
 
 enum { KIND_HEAD = 1, KIND_LAYOUT, KIND_COUNT, KIND_END, KIND_UPDATE, KIND_ASK, KIND_KEY, KIND_AMOUNT };
-
-static inline uint64_t load(const uint8_t *counts) {
-    uint64_t word;
-    memcpy(&word, counts, 8);
-    return word;
-}
-
-static inline void store(uint8_t *counts, uint64_t word) { memcpy(counts, &word, 8); }
-
-/* In a valid layout a slot's level is how many blocks around it are merged. */
-static inline unsigned level_of(unsigned merge, unsigned k) {
-    return (merge >> (k & 6) & 1) + (merge >> ((k & 4) + 1) & 1) + (merge >> 3 & 1);
-}
 
 /* The sum of all counters in a block of level n. */
 static inline uint64_t total(uint64_t word, unsigned merge, unsigned first, unsigned n) {
@@ -53,11 +38,8 @@ static inline uint64_t total(uint64_t word, unsigned merge, unsigned first, unsi
 }
 
 static uint32_t bad_shape(size_t d, size_t w, size_t len) {
-    if (d < 1 || d > 8)
-        return 1;
-    if (w < 32 || w > 65536 || (w & (w - 1)) != 0)
-        return 2;
-    return len != d * (w + w / 8) ? 3 : 0;
+    uint32_t bad = bad_geometry(d, w);
+    return bad ? bad : bad_length(d, w, len);
 }
 
 static inline uint32_t refuse(uint32_t number, size_t at, uint64_t *place) {
@@ -181,9 +163,6 @@ static void unite(uint8_t *counts, uint8_t *merge, const uint8_t *source, unsign
     store(counts, out);
     *merge = (uint8_t)m;
 }
-
-/* Eight groups of each of two rows, by their merge bytes taken as one word: whether none is merged. */
-static inline int none_merged(const uint8_t *ma, const uint8_t *mb) { return (load(ma) | load(mb)) == 0; }
 
 /* The 64 sums of eight unmerged groups at once, if none carries out of its byte. */
 static int unite_eight(uint8_t *counts, const uint8_t *source) {

@@ -11,18 +11,22 @@
 
 enum { STACK = 1 << 20, DEEP = 1 << 13, CALLS = 40000, WIDEST = 4096, LIST = 4673 };
 
-enum { UPDATE, ESTIMATE, RECORD, UNITE, WRITE, READ, WATCH, REMOVE, COUNT };
-static const char *const names[COUNT] = {"update",        "estimate",   "feed record",           "union",
-                                         "image written", "image read", "update through a list", "taken off a list"};
+enum { UPDATE, ESTIMATE, RECORD, UNITE, WRITE, READ, WATCH, REMOVE, SIGNED_UPDATE, SIGNED_ESTIMATE, SIGNED_UNITE, SIGNED_SUBTRACT, COUNT };
+static const char *const names[COUNT] = {"update",        "estimate",        "feed record",           "union",
+                                         "image written", "image read",      "update through a list", "taken off a list",
+                                         "signed update", "signed estimate", "signed sum",            "signed difference"};
 static size_t most[COUNT];
 
-static size_t d, w, len, key_len, image_len;
+/* d, or of an even one the odd one below it, with the memory of a signed meter. */
+static size_t d, odd, w, len, odd_len, key_len, image_len;
 static uint8_t memory[8 * WIDEST / 8 * 9], source[sizeof memory], key[64], list[LIST];
+static uint8_t signed_memory[sizeof memory], signed_source[sizeof memory];
 static uint32_t words[8 * WIDEST + 8 * WIDEST / 32 + 2], record[3 + 22], amount;
 
 /* Makes the call with the stack below filled with a byte; how much of it was written. Nothing of this function's own frame is below. */
 __attribute__((noinline)) static size_t written(int which, int fill) {
     uint64_t place, figure;
+    int64_t change;
     volatile uint8_t *top, *at;
     __asm__ volatile("mov %%rsp, %0" : "=r"(top));
     for (at = top - DEEP; at < top; at++)
@@ -55,6 +59,18 @@ __attribute__((noinline)) static size_t written(int which, int fill) {
         call(watch_remove)(list, LIST, key, key_len, &place, &figure);
         break;
 #endif
+    case SIGNED_UPDATE:
+        call(signed_update)(odd, w, signed_memory, odd_len, key, key_len, (int32_t)amount, &place, &figure);
+        break;
+    case SIGNED_ESTIMATE:
+        call(signed_estimate)(odd, w, signed_memory, odd_len, key, key_len, &place, &change);
+        break;
+    case SIGNED_UNITE:
+        call(signed_unite)(odd, w, signed_memory, odd_len, signed_source, odd_len, &place, &figure);
+        break;
+    case SIGNED_SUBTRACT:
+        call(signed_subtract)(odd, w, signed_memory, odd_len, signed_source, odd_len, &place, &figure);
+        break;
     }
     for (at = top - DEEP; at < top && *at == (uint8_t)fill; at++) {
     }
@@ -67,11 +83,13 @@ __attribute__((noinline)) static size_t written(int which, int fill) {
 
 /* Twice, with two bytes: what a call writes may be the byte that was there. */
 static void measure(int which) {
-    static uint8_t before[sizeof memory], before_list[LIST];
+    static uint8_t before[sizeof memory], before_signed[sizeof memory], before_list[LIST];
     memcpy(before, memory, len);
+    memcpy(before_signed, signed_memory, odd_len);
     memcpy(before_list, list, LIST);
     size_t a = written(which, 0xa5);
     memcpy(memory, before, len);
+    memcpy(signed_memory, before_signed, odd_len);
     memcpy(list, before_list, LIST);
     size_t b = written(which, 0x5a);
     size_t deeper = a > b ? a : b;
@@ -89,8 +107,13 @@ static void *run(void *unused) {
             w = widths[draw() % 3];
             len = d * (w / 8 * 9);
             call(clear)(d, w, memory, len, &place, &figure);
-            if (i / 500 % 3 != 0)
+            odd = (d - 1) | 1;
+            odd_len = odd * (w / 8 * 9);
+            call(signed_clear)(odd, w, signed_memory, odd_len, &place, &figure);
+            if (i / 500 % 3 != 0) {
                 fill(d, w, memory, i / 500 % 3 == 1);
+                fill_signed(odd, w, signed_memory, i / 500 % 3 == 1);
+            }
             memset(list, 0, LIST);
         }
         key_len = 1 + draw() % 64;
@@ -102,6 +125,8 @@ static void *run(void *unused) {
         measure(UPDATE);
         measure(ESTIMATE);
         measure(RECORD);
+        measure(SIGNED_UPDATE);
+        measure(SIGNED_ESTIMATE);
 #ifndef PLAIN /* which has no lists */
         measure(WATCH);
         if (i % 5 == 4) {
@@ -118,6 +143,8 @@ static void *run(void *unused) {
             measure(UNITE);
             measure(WRITE);
             measure(READ);
+            fill_signed(odd, w, signed_source, (int)(draw() % 2));
+            measure(draw() % 2 ? SIGNED_UNITE : SIGNED_SUBTRACT);
         }
     }
     return unused;

@@ -3,22 +3,22 @@
 use std::error::Error;
 use std::fmt;
 
-/// The answer of a call: its number, place and figure.
+/// The answer of a call: its number, place and figure, which is signed for the estimate of a signed meter alone.
 ///
 /// Number 0 is acceptance. Its figure is the estimate, the widest level, the layout code, a feed head's payload or the count of an
 /// image's words, else 0. Of a call that is refused the figure is 0, and the place is an index into the lent words where the
 /// number speaks of a word, else 0.
 #[derive(Clone, Copy, Debug, PartialEq, Eq, Hash)]
-pub struct Answer {
+pub struct Answer<F = u64> {
     /// 0 for an accepted call, else the number of the reason why it was refused.
     pub number: u32,
     /// The index of the faulty word where the number speaks of one, else 0.
     pub place: u64,
     /// What an accepted call found, else 0.
-    pub figure: u64,
+    pub figure: F,
 }
 
-impl Answer {
+impl<F> Answer<F> {
     /// The figure of an accepted call, or why it was refused.
     ///
     /// ```
@@ -29,7 +29,7 @@ impl Answer {
     /// assert_eq!(answer(9).result().unwrap_err().reason, Reason::Payload);
     /// assert_eq!(answer(77).result().unwrap_err().reason, Reason::Unknown(77));
     /// ```
-    pub fn result(self) -> Result<u64, Refused> {
+    pub fn result(self) -> Result<F, Refused> {
         match Reason::from_number(self.number) {
             None => Ok(self.figure),
             Some(reason) => Err(Refused {
@@ -53,7 +53,7 @@ pub enum Reason {
     KeyLength,
     /// 5: a merge byte that the call reads is not valid, or a watch list breaks its layout.
     Content,
-    /// 6: a counter of 64 bits would overflow.
+    /// 6: a counter of 64 bits would overflow: 2^64 or more, in a signed meter a magnitude of 2^63 or more.
     CounterFull,
     /// 7: the lent words are fewer than the image's.
     TooFewWords,
@@ -65,6 +65,10 @@ pub enum Reason {
     OtherGeometry,
     /// 11: the threshold is 0. It is tested after 5 and before 6.
     ZeroThreshold,
+    /// 12: the depth of a signed meter is even. It is tested after 2 and before 3.
+    EvenDepth,
+    /// 13: a counter of a signed meter that the call reads holds minus zero. It is tested after 5 and before 6.
+    MinusZero,
     /// A number that no call of this library gives: what was linked is another version.
     Unknown(u32),
 }
@@ -86,11 +90,13 @@ impl Reason {
             9 => Reason::Payload,
             10 => Reason::OtherGeometry,
             11 => Reason::ZeroThreshold,
+            12 => Reason::EvenDepth,
+            13 => Reason::MinusZero,
             _ => Reason::Unknown(number),
         })
     }
 
-    /// The number of a reason: 1 to 11, and an unknown one as it was given.
+    /// The number of a reason: 1 to 13, and an unknown one as it was given.
     #[must_use]
     pub fn number(self) -> u32 {
         match self {
@@ -105,6 +111,8 @@ impl Reason {
             Reason::Payload => 9,
             Reason::OtherGeometry => 10,
             Reason::ZeroThreshold => 11,
+            Reason::EvenDepth => 12,
+            Reason::MinusZero => 13,
             Reason::Unknown(number) => number,
         }
     }
@@ -124,6 +132,8 @@ impl fmt::Display for Reason {
             Reason::Payload => "a payload breaks a rule of its kind",
             Reason::OtherGeometry => "an image or a source is of another depth or width",
             Reason::ZeroThreshold => "the threshold is 0",
+            Reason::EvenDepth => "the depth of a signed meter is even",
+            Reason::MinusZero => "a counter of a signed meter holds minus zero",
             Reason::Unknown(_) => "no number of this library",
         })
     }

@@ -92,4 +92,46 @@ extern "C" {
         place: *mut u64,
         figure: *mut u64,
     ) -> u32;
+    pub fn meter_signed_clear(d: usize, w: usize, memory: *mut u8, memory_len: usize, place: *mut u64, figure: *mut u64) -> u32;
+    pub fn meter_signed_update(
+        d: usize,
+        w: usize,
+        memory: *mut u8,
+        memory_len: usize,
+        key: *const u8,
+        key_len: usize,
+        amount: i32,
+        place: *mut u64,
+        figure: *mut u64,
+    ) -> u32;
+    pub fn meter_signed_estimate(
+        d: usize,
+        w: usize,
+        memory: *const u8,
+        memory_len: usize,
+        key: *const u8,
+        key_len: usize,
+        place: *mut u64,
+        figure: *mut i64,
+    ) -> u32;
+    pub fn meter_signed_unite(
+        d: usize,
+        w: usize,
+        memory: *mut u8,
+        memory_len: usize,
+        source: *const u8,
+        source_len: usize,
+        place: *mut u64,
+        figure: *mut u64,
+    ) -> u32;
+    pub fn meter_signed_subtract(
+        d: usize,
+        w: usize,
+        memory: *mut u8,
+        memory_len: usize,
+        source: *const u8,
+        source_len: usize,
+        place: *mut u64,
+        figure: *mut u64,
+    ) -> u32;
 }

@@ -18,7 +18,8 @@
 //! # Ok::<(), meter::Refused>(())
 //! ```
 //!
-//! A [`WatchList`] beside a meter keeps the keys that got heavy.
+//! A [`WatchList`] beside a meter keeps the keys that got heavy. A [`SignedMeter`] counts amounts that also go down: what changed from
+//! one week to the next.
 //!
 //! The plain calls beside these are those of the proved library, one for one: they lend it a memory of exactly [`size`] bytes, and the
 //! caller tells the depth and width that it was cleared with. They take any depth, any width and any content of what is lent. The
@@ -46,10 +47,12 @@
 mod answer;
 mod ffi;
 mod meter;
+mod signed;
 mod watch;
 
 pub use answer::{Answer, Reason, Refused};
 pub use meter::Meter;
+pub use signed::SignedMeter;
 pub use watch::{Entries, Entry, WatchList, WATCH_PLACES, WATCH_SIZE};
 
 /// The length of a meter's memory, if there is such a meter.
@@ -81,8 +84,13 @@ pub fn head_geometry(payload: u64) -> (usize, usize) {
 
 #[inline]
 fn call(f: impl FnOnce(*mut u64, *mut u64) -> u32) -> Answer {
-    // Both are written by every call, whatever they were.
-    let (mut place, mut figure) = (u64::MAX, u64::MAX);
+    call_from(u64::MAX, f)
+}
+
+/// A call whose figure is of any type. It is written by every call, like the place, whatever it was.
+#[inline]
+fn call_from<F>(mut figure: F, f: impl FnOnce(*mut u64, *mut F) -> u32) -> Answer<F> {
+    let mut place = u64::MAX;
     let number = f(&mut place, &mut figure);
     Answer { number, place, figure }
 }
@@ -262,5 +270,73 @@ pub fn watch_update(d: usize, w: usize, memory: &mut [u8], list: &mut [u8], key:
 pub fn watch_remove(list: &mut [u8], key: &[u8]) -> Answer {
     call(|place, figure| unsafe {
         ffi::meter_watch_remove(list.as_mut_ptr(), list.len(), key.as_ptr(), key.len(), place, figure)
+    })
+}
+
+/// Sets every byte of a signed meter's memory to 0. Its depth is odd.
+#[must_use = "the call may be refused"]
+pub fn signed_clear(d: usize, w: usize, memory: &mut [u8]) -> Answer {
+    call(|place, figure| unsafe { ffi::meter_signed_clear(d, w, memory.as_mut_ptr(), memory.len(), place, figure) })
+}
+
+/// Adds an amount, times the key's sign in the row, to the key's counter in each row of a signed meter.
+#[inline]
+#[must_use = "the call may be refused"]
+pub fn signed_update(d: usize, w: usize, memory: &mut [u8], key: &[u8], amount: i32) -> Answer {
+    call(|place, figure| unsafe {
+        ffi::meter_signed_update(
+            d,
+            w,
+            memory.as_mut_ptr(),
+            memory.len(),
+            key.as_ptr(),
+            key.len(),
+            amount,
+            place,
+            figure,
+        )
+    })
+}
+
+/// The median of the key's counters in a signed meter, each times the key's sign in its row.
+#[inline]
+#[must_use = "the call may be refused"]
+pub fn signed_estimate(d: usize, w: usize, memory: &[u8], key: &[u8]) -> Answer<i64> {
+    call_from(i64::MAX, |place, figure| unsafe {
+        ffi::meter_signed_estimate(d, w, memory.as_ptr(), memory.len(), key.as_ptr(), key.len(), place, figure)
+    })
+}
+
+/// Adds a source, a signed meter of the same depth and width, into a signed meter.
+#[must_use = "the call may be refused"]
+pub fn signed_unite(d: usize, w: usize, memory: &mut [u8], source: &[u8]) -> Answer {
+    call(|place, figure| unsafe {
+        ffi::meter_signed_unite(
+            d,
+            w,
+            memory.as_mut_ptr(),
+            memory.len(),
+            source.as_ptr(),
+            source.len(),
+            place,
+            figure,
+        )
+    })
+}
+
+/// Takes a source, a signed meter of the same depth and width, away from a signed meter.
+#[must_use = "the call may be refused"]
+pub fn signed_subtract(d: usize, w: usize, memory: &mut [u8], source: &[u8]) -> Answer {
+    call(|place, figure| unsafe {
+        ffi::meter_signed_subtract(
+            d,
+            w,
+            memory.as_mut_ptr(),
+            memory.len(),
+            source.as_ptr(),
+            source.len(),
+            place,
+            figure,
+        )
     })
 }

@@ -35,6 +35,8 @@ fn number(t: &str) -> String {
         "u8" => "uint8_t",
         "u32" => "uint32_t",
         "u64" => "uint64_t",
+        "i32" => "int32_t",
+        "i64" => "int64_t",
         _ => panic!("a type that is not passed as itself: {t}"),
     }
     .into()
@@ -42,9 +44,13 @@ fn number(t: &str) -> String {
 
 /// `#[no_mangle] pub extern "C" fn name(a: T, ..) -> R`: a slice is passed as pointer and length.
 fn in_rattle() -> Vec<Call> {
-    let text: String = ["group", "meter", "image", "feed", "watch"]
-        .iter()
-        .map(|family| read(&format!("../crates/c_{family}/src/lib.rt")))
+    let crates = Path::new(env!("CARGO_MANIFEST_DIR")).join("../crates");
+    let names = fs::read_dir(crates)
+        .expect("the crates")
+        .map(|entry| entry.expect("a crate").file_name().into_string().expect("a name"));
+    let text: String = names
+        .filter(|name| name.starts_with("c_"))
+        .map(|family| read(&format!("../crates/{family}/src/lib.rt")))
         .collect();
     let mut rest = text.as_str();
     let mut calls = Vec::new();
@@ -161,7 +167,7 @@ fn in_rust() -> Vec<Call> {
 #[test]
 fn declared_alike() {
     let rattle = in_rattle();
-    assert_eq!(rattle.len(), 15);
+    assert_eq!(rattle.len(), 20);
     assert_eq!(in_c(), rattle, "include/meter.h and crates/c_*");
     assert_eq!(in_rust(), rattle, "src/ffi.rs and crates/c_*");
 }
@@ -197,7 +203,7 @@ fn numbered_alike() {
             .take_while(|reason| !matches!(reason, Reason::Unknown(_)))
             .map(|reason| (name_in_c(reason), reason.number())),
     );
-    assert_eq!(in_rust.len(), 12);
+    assert_eq!(in_rust.len(), 14);
     assert_eq!(in_c, in_rust, "include/meter.h and Reason");
 }
 

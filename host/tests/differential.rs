@@ -4,8 +4,8 @@
 mod common;
 
 use common::{
-    amount, break_list, damage, key, lend_bytes, lend_words, list, memory, record, seed, some_image, unmerged, valid_keys, Lent,
-    Rng,
+    amount, break_list, damage, key, lend_bytes, lend_words, list, memory, other_length, record, seed, some_image, told,
+    unmerged, valid_keys, Lent, Numbers, Rng,
 };
 use reference::{Memory, Record, Watch, WATCH_SIZE};
 use std::collections::BTreeMap;
@@ -56,8 +56,7 @@ const EVENTS: &[&str] = &[
 /// How often each call gave each number.
 #[derive(Default)]
 struct Tally {
-    calls: u64,
-    given: BTreeMap<(&'static str, u32), u64>,
+    given: Numbers,
     /// The same of those at a word after the first.
     later: BTreeMap<(&'static str, u32), u64>,
     /// Of feed records, by what they are, where their words pass.
@@ -72,8 +71,7 @@ impl Tally {
             (model.number, model.place, model.figure),
             "{call}: number, place and figure, proved and reference"
         );
-        self.calls += 1;
-        *self.given.entry((call, proved.number)).or_default() += 1;
+        self.given.note(call, proved.number);
         if proved.place > 0 {
             *self.later.entry((call, proved.number)).or_default() += 1;
         }
@@ -83,23 +81,8 @@ impl Tally {
         *self.events.entry(event).or_default() += 1;
     }
 
-    /// Prints the counts; fails where a possible number was never given, or one that is not possible was.
-    fn numbers(&self, possible: &[(&'static str, &[u32])]) {
-        println!("{} calls; how often each gave each number:", self.calls);
-        for (call, numbers) in possible {
-            let line: Vec<String> = (0..=11)
-                .filter_map(|n| self.given.get(&(*call, n)).map(|c| format!("{n}: {c}")))
-                .collect();
-            println!("  {call:<12} {}", line.join(", "));
-            for n in 0..=11 {
-                let given = self.given.contains_key(&(*call, n));
-                assert_eq!(given, numbers.contains(&n), "{call} and number {n}");
-            }
-        }
-    }
-
     fn finish(&self) {
-        self.numbers(POSSIBLE);
+        self.given.finish(POSSIBLE);
         println!("  at a word after the first: {:?}", self.later);
         for known in [("image_read", 8), ("image_read", 9), ("feed_record", 8), ("feed_record", 9)] {
             assert!(self.later.contains_key(&known), "{known:?} at a later word");
@@ -158,35 +141,6 @@ impl Lists {
         assert!(self.proved.guards_stand(), "{call}: bytes beside the list");
         assert!(self.proved.get() == self.model, "{call}: the list");
     }
-}
-
-/// A depth and a width as told: mostly the meter's own.
-fn told(rng: &mut Rng, d: usize, w: usize) -> (usize, usize) {
-    match rng.below(40) {
-        0 => (rng.pick(&[0, 9, 10, 16, 256, usize::MAX, 1 << 32]), w),
-        1 => (
-            d,
-            rng.pick(&[0, 1, 16, 31, 33, 48, 96, 65_535, 65_537, 131_072, 1 << 32, usize::MAX]),
-        ),
-        2 => (0, 33),
-        3 => (rng.within(1..9), w),
-        4 => (d, 32 << rng.below(12)),
-        // Other rows of the same memory.
-        5 if d & 1 == 0 && w < 65_536 => (d / 2, w * 2),
-        6 if d <= 4 && w > 32 => (d * 2, w / 2),
-        _ => (d, w),
-    }
-}
-
-/// Bytes of another length: one more or less, or none.
-fn other_length(rng: &mut Rng, bytes: &[u8]) -> Vec<u8> {
-    let mut bytes = bytes.to_vec();
-    match rng.below(3) {
-        0 => bytes.clear(),
-        1 => drop(bytes.pop()),
-        _ => bytes.push(0),
-    }
-    bytes
 }
 
 struct List {
@@ -490,7 +444,7 @@ fn random_lists_of_calls() {
         rng: Rng::new(seed),
         tally: Tally::default(),
     };
-    while list.tally.calls < 1_000_000 {
+    while list.tally.given.calls() < 1_000_000 {
         let d = list.rng.within(1..9);
         let w = list.rng.pick(&[32, 32, 32, 32, 64, 64, 128]);
         list.run(d, w, 100);
@@ -526,7 +480,7 @@ fn random_lists_of_watch_calls() {
         rng: Rng::new(seed),
         tally: Tally::default(),
     };
-    while list.tally.calls < 300_000 {
+    while list.tally.given.calls() < 300_000 {
         let d = list.rng.within(1..9);
         let w = list.rng.pick(&[32, 32, 64]);
         list.run_watched(d, w, 200);
@@ -536,7 +490,7 @@ fn random_lists_of_watch_calls() {
             list.run_watched(d, w, (2_000_000 / (d * w)).clamp(30, 1_000));
         }
     }
-    list.tally.numbers(OF_LISTS);
+    list.tally.given.finish(OF_LISTS);
     println!("  {:?}; {:.1} s", list.tally.events, start.elapsed().as_secs_f64());
     for event in EVENTS {
         assert!(list.tally.events.get(event) > Some(&20), "{event}");
@@ -570,7 +524,7 @@ fn all_lengths_and_marks() {
     }
     println!("{:?}", list.tally.given);
     for call in ["watch_remove", "watch_update"] {
-        assert!([0, 5].iter().all(|n| list.tally.given.contains_key(&(call, *n))), "{call}");
+        assert!([0, 5].iter().all(|n| list.tally.given.has(call, *n)), "{call}");
     }
 }
 
@@ -628,7 +582,7 @@ fn unions_with_one_merge_byte() {
     }
     println!("{:?}", list.tally.given);
     for number in [0, 5, 6] {
-        assert!(list.tally.given.contains_key(&("unite", number)), "number {number}");
+        assert!(list.tally.given.has("unite", number), "number {number}");
     }
 }
 

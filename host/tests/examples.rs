@@ -74,6 +74,16 @@ fn watched_in_rust() {
     rust_example("watch");
 }
 
+#[test]
+fn signed_in_c() {
+    c_example("signed");
+}
+
+#[test]
+fn signed_in_rust() {
+    rust_example("signed");
+}
+
 /// README shows the short example in C as it is built and run here.
 #[test]
 fn in_readme() {

@@ -20,14 +20,15 @@ static uint8_t list[METER_WATCH_SIZE];
 
 int main(void) {
     const uint32_t names[] = {METER_ACCEPTED,     METER_DEPTH,         METER_WIDTH, METER_LENGTH,  METER_KEY_LENGTH,     METER_CONTENT,
-                              METER_COUNTER_FULL, METER_TOO_FEW_WORDS, METER_WORD,  METER_PAYLOAD, METER_OTHER_GEOMETRY, METER_ZERO_THRESHOLD};
+                              METER_COUNTER_FULL, METER_TOO_FEW_WORDS, METER_WORD,  METER_PAYLOAD, METER_OTHER_GEOMETRY, METER_ZERO_THRESHOLD,
+                              METER_EVEN_DEPTH,   METER_MINUS_ZERO};
     uint32_t number, payload;
     size_t d, w, i;
-    if (names[11] != METER_ZERO_THRESHOLD || sizeof names / sizeof names[0] != 12)
+    if (names[13] != METER_MINUS_ZERO || sizeof names / sizeof names[0] != 14)
         return 1;
-    for (number = 0; number < 12; number++)
+    for (number = 0; number < 14; number++)
         printf("%lu %s\n", (unsigned long)names[number], meter_text(number));
-    printf("%s\n%s\n", meter_text(12), meter_text(0xffffffff));
+    printf("%s\n%s\n", meter_text(14), meter_text(0xffffffff));
     for (d = 1; d <= 8; d++)
         for (w = 32; w <= 65536; w *= 2)
             printf("%lu %lu\n", (unsigned long)METER_SIZE(d, w), (unsigned long)METER_IMAGE_WORDS(d, w));
@@ -52,11 +53,11 @@ int main(void) {
 
 fn expected() -> String {
     let mut lines = vec!["0 accepted".to_string()];
-    for number in 1..12 {
+    for number in 1..14 {
         let reason = Reason::from_number(number).expect("a reason");
         lines.push(format!("{number} {reason}"));
     }
-    lines.extend([12, u32::MAX].map(|number| Reason::from_number(number).expect("a reason").to_string()));
+    lines.extend([14, u32::MAX].map(|number| Reason::from_number(number).expect("a reason").to_string()));
     let both = |d, w| {
         format!(
             "{} {}",

@@ -3,14 +3,12 @@
 
 mod common;
 
-use common::{amount, break_list, damage, key, list, memory, record, seed, some_image, valid_keys, Rng};
+use common::{amount, break_list, damage, key, list, memory, record, seed, some_image, valid_keys, Numbers, Rng, LAST_NUMBER};
 use meter::{most_image_words, Entry, Meter, Reason, Refused, WatchList, WATCH_SIZE};
 use reference::{Memory, Watch};
-use std::collections::BTreeMap;
 
-/// How often each method gave each number.
 #[derive(Default)]
-struct Tally(BTreeMap<(&'static str, u32), u64>);
+struct Tally(Numbers);
 
 impl Tally {
     /// What the reference answered, as a result.
@@ -28,17 +26,7 @@ impl Tally {
             Err((model.number, model.place))
         };
         assert_eq!(proved, expected, "{method}: proved and reference");
-        *self.0.entry((method, model.number)).or_default() += 1;
-    }
-
-    fn finish(&self, possible: &[(&'static str, &[u32])]) {
-        println!("how often each method gave each number: {:?}", self.0);
-        for (method, numbers) in possible {
-            for number in 0..=11 {
-                let given = self.0.contains_key(&(*method, number));
-                assert_eq!(given, numbers.contains(&number), "{method} and number {number}");
-            }
-        }
+        self.0.note(method, model.number);
     }
 }
 
@@ -134,7 +122,7 @@ fn made() {
             m.d() as u64 | u64::from(m.w().ilog2()) << 4
         });
     }
-    tally.finish(&[
+    tally.0.finish(&[
         ("new", &[0, 1, 2]),
         ("from_bytes", &[0, 1, 2, 3, 5]),
         ("from_image", &[0, 1, 2, 8, 9]),
@@ -208,7 +196,7 @@ fn methods() {
         let again = Meter::from_bytes(d, w, meter.clone().into_bytes());
         assert!(again.as_ref() == Ok(&meter), "no call leaves what is no meter");
     }
-    tally.finish(&[
+    tally.0.finish(&[
         ("update", &[0, 4, 6]),
         ("estimate", &[0, 4]),
         ("widest", &[0]),
@@ -378,7 +366,9 @@ fn watch_lists() {
             assert!(meter.bytes() == memory.to_bytes(), "the memory after a call");
         }
     }
-    tally.finish(&[("from_bytes", &[0, 3, 5]), ("update", &[0, 4, 6, 11]), ("remove", &[0, 4])]);
+    tally
+        .0
+        .finish(&[("from_bytes", &[0, 3, 5]), ("update", &[0, 4, 6, 11]), ("remove", &[0, 4])]);
 }
 
 /// Every number is a result, whatever was linked; each reason says its number and has words of its own.
@@ -398,7 +388,7 @@ fn every_number() {
                     (refused.number(), refused.reason.number(), refused.place),
                     (number, number, 5)
                 );
-                assert_eq!(matches!(refused.reason, Reason::Unknown(_)), number > 11);
+                assert_eq!(matches!(refused.reason, Reason::Unknown(_)), number > LAST_NUMBER);
                 assert_eq!(refused.to_string(), format!("{} (number {number}, place 5)", refused.reason));
                 texts.insert(refused.reason.to_string());
                 let error: Box<dyn std::error::Error> = refused.into();
@@ -406,7 +396,7 @@ fn every_number() {
             }
         }
     }
-    assert_eq!(texts.len(), 12);
+    assert_eq!(texts.len(), 14);
 }
 
 #[test]

@@ -1,4 +1,4 @@
-//! The two meters that the proved one is compared with: the same rule in plain C, and a Count-Min with counters of 64 bits.
+//! The meters that the proved ones are compared with: the same rules in plain C, and a Count-Min with counters of 64 bits.
 
 use meter::Answer;
 
@@ -67,6 +67,55 @@ mod ffi {
             place: *mut u64,
             figure: *mut u64,
         ) -> u32;
+        pub fn salsa_signed_clear(
+            d: usize,
+            w: usize,
+            memory: *mut u8,
+            memory_len: usize,
+            place: *mut u64,
+            figure: *mut u64,
+        ) -> u32;
+        pub fn salsa_signed_update(
+            d: usize,
+            w: usize,
+            memory: *mut u8,
+            memory_len: usize,
+            key: *const u8,
+            key_len: usize,
+            amount: i32,
+            place: *mut u64,
+            figure: *mut u64,
+        ) -> u32;
+        pub fn salsa_signed_estimate(
+            d: usize,
+            w: usize,
+            memory: *const u8,
+            memory_len: usize,
+            key: *const u8,
+            key_len: usize,
+            place: *mut u64,
+            figure: *mut i64,
+        ) -> u32;
+        pub fn salsa_signed_unite(
+            d: usize,
+            w: usize,
+            memory: *mut u8,
+            memory_len: usize,
+            source: *const u8,
+            source_len: usize,
+            place: *mut u64,
+            figure: *mut u64,
+        ) -> u32;
+        pub fn salsa_signed_subtract(
+            d: usize,
+            w: usize,
+            memory: *mut u8,
+            memory_len: usize,
+            source: *const u8,
+            source_len: usize,
+            place: *mut u64,
+            figure: *mut u64,
+        ) -> u32;
         pub fn hash_lanes(slots: *mut u32, d: usize, w: usize, key: *const u8, key_len: usize);
         pub fn hash_pairs(slots: *mut u32, d: usize, w: usize, key: *const u8, key_len: usize);
         pub fn countmin_update(d: usize, w: usize, counters: *mut u64, key: *const u8, key_len: usize, amount: u32);
@@ -76,13 +125,13 @@ mod ffi {
 }
 
 #[inline]
-fn call(f: impl FnOnce(*mut u64, *mut u64) -> u32) -> Answer {
-    let (mut place, mut figure) = (0, 0);
+fn call<F: Default>(f: impl FnOnce(*mut u64, *mut F) -> u32) -> Answer<F> {
+    let (mut place, mut figure) = (0, F::default());
     let number = f(&mut place, &mut figure);
     Answer { number, place, figure }
 }
 
-/// The same rule in plain C, in the shape of the proved calls.
+/// The same rules in plain C, in the shape of the proved calls.
 pub mod plain {
     use super::{call, ffi};
     use meter::Answer;
@@ -127,6 +176,34 @@ pub mod plain {
                 p,
                 f,
             )
+        })
+    }
+
+    pub fn signed_clear(d: usize, w: usize, memory: &mut [u8]) -> Answer {
+        call(|p, f| unsafe { ffi::salsa_signed_clear(d, w, memory.as_mut_ptr(), memory.len(), p, f) })
+    }
+
+    #[inline]
+    pub fn signed_update(d: usize, w: usize, memory: &mut [u8], key: &[u8], amount: i32) -> Answer {
+        call(|p, f| unsafe {
+            ffi::salsa_signed_update(d, w, memory.as_mut_ptr(), memory.len(), key.as_ptr(), key.len(), amount, p, f)
+        })
+    }
+
+    #[inline]
+    pub fn signed_estimate(d: usize, w: usize, memory: &[u8], key: &[u8]) -> Answer<i64> {
+        call(|p, f| unsafe { ffi::salsa_signed_estimate(d, w, memory.as_ptr(), memory.len(), key.as_ptr(), key.len(), p, f) })
+    }
+
+    pub fn signed_unite(d: usize, w: usize, memory: &mut [u8], source: &[u8]) -> Answer {
+        call(|p, f| unsafe {
+            ffi::salsa_signed_unite(d, w, memory.as_mut_ptr(), memory.len(), source.as_ptr(), source.len(), p, f)
+        })
+    }
+
+    pub fn signed_subtract(d: usize, w: usize, memory: &mut [u8], source: &[u8]) -> Answer {
+        call(|p, f| unsafe {
+            ffi::salsa_signed_subtract(d, w, memory.as_mut_ptr(), memory.len(), source.as_ptr(), source.len(), p, f)
         })
     }
 }

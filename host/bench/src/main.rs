@@ -1,5 +1,5 @@
-//! The proved meter beside the same rule in plain C and a Count-Min with counters of 64 bits, in one run: `bench/run`. With the argument
-//! `watch` only what a watch list costs.
+//! The proved meters beside the same rules in plain C and a Count-Min with counters of 64 bits, in one run: `bench/run`. With the argument
+//! `watch` only what a watch list costs, with `signed` only signed meters.
 //!
 //! Each case is measured five times for each, turn by turn, by processor time, and the median is printed. Outputs are compared as
 //! it goes. Memories are cleared, or copied from the same start, before each measured run, and that is not measured.
@@ -420,6 +420,27 @@ enum Kind {
     AllLevels,
 }
 
+/// Packets for Zipf keys.
+fn traffic(rng: &mut Rng, packets: usize) -> Vec<([u8; 8], u32)> {
+    static RANKS: OnceLock<Zipf> = OnceLock::new();
+    let ranks = RANKS.get_or_init(|| Zipf::new(KEYS));
+    (0..packets)
+        .map(|_| {
+            let key = (ranks.pick(rng) as u64).wrapping_mul(0x9e37_79b9_7f4a_7c15).to_le_bytes();
+            (key, packet(rng))
+        })
+        .collect()
+}
+
+/// A packet's bytes with plus or with minus.
+fn changed(amount: u32, rng: &mut Rng) -> i32 {
+    if rng.below(2) == 0 {
+        amount as i32
+    } else {
+        -(amount as i32)
+    }
+}
+
 const KINDS: [Kind; 3] = [Kind::NothingMerged, Kind::Traffic, Kind::AllLevels];
 
 impl Kind {
@@ -429,6 +450,40 @@ impl Kind {
             Kind::Traffic => "after traffic",
             Kind::AllLevels => "all levels",
         }
+    }
+
+    /// Such a signed meter, whose sum with any other such and difference from it are accepted.
+    fn filled_signed(self, d: usize, w: usize, seed: u64) -> Vec<u8> {
+        let mut rng = Rng(seed);
+        let mut memory = self.filled(d, w, seed);
+        match self {
+            // Odd magnitudes below 64: so none is minus zero.
+            Kind::NothingMerged => {
+                for row in memory.chunks_mut(w / 8 * 9) {
+                    row[..w].fill_with(|| (rng.draw() as u8 & 0xbf) | 1);
+                }
+            }
+            Kind::Traffic => {
+                memory.fill(0);
+                for (key, amount) in traffic(&mut rng, 3 * w) {
+                    let amount = changed(amount, &mut rng);
+                    assert_eq!(meter::signed_update(d, w, &mut memory, &key, amount).number, 0, "an update");
+                }
+            }
+            // Odd magnitudes, and a whole group's below 2^62.
+            Kind::AllLevels => {
+                for row in memory.chunks_mut(w / 8 * 9) {
+                    let (counts, merges) = row.split_at_mut(w);
+                    for (group, merge) in counts.chunks_mut(8).zip(merges) {
+                        group.iter_mut().for_each(|byte| *byte |= 1);
+                        if *merge == 0x7f {
+                            group[7] = rng.draw() as u8 & 0xbf;
+                        }
+                    }
+                }
+            }
+        }
+        memory
     }
 
     /// Such a meter, whose union with any other such is accepted.
@@ -442,17 +497,8 @@ impl Kind {
                 }
             }
             Kind::Traffic => {
-                static RANKS: OnceLock<Zipf> = OnceLock::new();
-                let ranks = RANKS.get_or_init(|| Zipf::new(KEYS));
-                for _ in 0..3 * w {
-                    let key = (ranks.pick(&mut rng) as u64)
-                        .wrapping_mul(0x9e37_79b9_7f4a_7c15)
-                        .to_le_bytes();
-                    assert_eq!(
-                        meter::update(d, w, &mut memory, &key, packet(&mut rng)).number,
-                        0,
-                        "an update"
-                    );
+                for (key, amount) in traffic(&mut rng, 3 * w) {
+                    assert_eq!(meter::update(d, w, &mut memory, &key, amount).number, 0, "an update");
                 }
             }
             Kind::AllLevels => {
@@ -473,43 +519,71 @@ impl Kind {
     }
 }
 
+/// A call that puts a source into a meter.
+type Combine = fn(usize, usize, &mut [u8], &[u8]) -> meter::Answer;
+
+/// Puts each source into its start, by the proved call and by the C version; the times of both, and of what else is to be measured.
+fn combine(
+    (d, w): (usize, usize),
+    [proved, plain]: [Combine; 2],
+    starts: &[Vec<u8>],
+    sources: &[Vec<u8>],
+    other: Option<&mut dyn FnMut()>,
+) -> Vec<f64> {
+    let cells = [RefCell::new(starts.to_vec()), RefCell::new(starts.to_vec())];
+    let restore = |at: usize| {
+        for (m, start) in cells[at].borrow_mut().iter_mut().zip(starts) {
+            m.copy_from_slice(start);
+        }
+    };
+    let call = |at: usize, call: Combine| {
+        for (m, source) in cells[at].borrow_mut().iter_mut().zip(sources) {
+            black_box(call(d, w, m, source));
+        }
+    };
+    let (mut nothing, mut restore_first, mut restore_second) = (|| {}, || restore(0), || restore(1));
+    let (mut first, mut second) = (|| call(0, proved), || call(1, plain));
+    let mut runs: Vec<Measured> = vec![(&mut restore_first, &mut first), (&mut restore_second, &mut second)];
+    if let Some(other) = other {
+        runs.push((&mut nothing, other));
+    }
+    let times = time(runs);
+    let [a, b] = cells.map(RefCell::into_inner);
+    assert!(a == b, "the proved memory and the C version's");
+    assert!(a.iter().zip(starts).all(|(m, start)| m != start), "accepted");
+    times
+}
+
 const WHOLE: [&str; 4] = ["union", "union with a copy", "image written", "image read"];
+
+/// How many meters are taken in a round.
+fn repeats(d: usize, w: usize) -> usize {
+    (65_536 * 8 / (d * w)).max(1) * 4
+}
 
 /// A union of two meters of one kind and of one with its copy, an image written and an image read; how often, and the times of all.
 /// No meter is taken twice in a round, so that what the processor remembers of one does not help with the next.
 fn whole(d: usize, w: usize, kind: Kind) -> [(usize, Vec<f64>); 4] {
-    let repeat = (65_536 * 8 / (d * w)).max(1) * 4;
+    let repeat = repeats(d, w);
     let mut seeds = 11..;
     let mut meters = || -> Vec<Vec<u8>> { (&mut seeds).take(repeat).map(|seed| kind.filled(d, w, seed)).collect() };
     let (starts, others) = (meters(), meters());
 
     let [unions, copies] = [&others, &starts].map(|sources| {
-        let mut a = starts.clone();
-        let mut b = starts.clone();
-        let cells = (RefCell::new(&mut a), RefCell::new(&mut b));
-        let restore = |meters: &mut [Vec<u8>]| meters.iter_mut().zip(&starts).for_each(|(m, start)| m.copy_from_slice(start));
         let mut count_min = CountMin::new(d, w);
         let count_source = CountMin::new(d, w);
-        let times = time(vec![
-            (&mut || restore(&mut cells.0.borrow_mut()), &mut || {
-                for (m, source) in cells.0.borrow_mut().iter_mut().zip(sources) {
-                    black_box(meter::unite(d, w, m, source));
-                }
-            }),
-            (&mut || restore(&mut cells.1.borrow_mut()), &mut || {
-                for (m, source) in cells.1.borrow_mut().iter_mut().zip(sources) {
-                    black_box(plain::unite(d, w, m, source));
-                }
-            }),
-            (&mut || {}, &mut || {
-                for _ in 0..repeat {
-                    count_min.unite(black_box(&count_source));
-                }
-            }),
-        ]);
-        assert!(a == b, "union: the proved memory and the C version's");
-        assert!(a.iter().zip(&starts).all(|(m, start)| m != start), "union: accepted");
-        times
+        let mut unite_count_min = || {
+            for _ in 0..repeat {
+                count_min.unite(black_box(&count_source));
+            }
+        };
+        combine(
+            (d, w),
+            [meter::unite, plain::unite],
+            &starts,
+            sources,
+            Some(&mut unite_count_min),
+        )
     });
 
     let room = d * w + d * w / 32 + 2;
@@ -629,6 +703,90 @@ fn whole_meters() {
     }
 }
 
+/// Updates and estimates of signed meters, and sums and differences of whole ones.
+fn signed() {
+    let mut updates = Vec::new();
+    let mut estimates = Vec::new();
+    for length in [4, 13, 37] {
+        let calls = Calls::new(length, true);
+        let mut rng = Rng(9);
+        let calls: Vec<(&[u8], i32)> = calls.each().map(|(key, amount)| (key, changed(amount, &mut rng))).collect();
+        for d in [1, 3, 5, 7] {
+            for w in [1_024, 65_536] {
+                let name = format!("d {d}, w {w}, {length} bytes");
+                let (a, b) = (RefCell::new(vec![0; size(d, w)]), RefCell::new(vec![0; size(d, w)]));
+                let times = time(vec![
+                    (&mut || a.borrow_mut().fill(0), &mut || {
+                        let mut m = a.borrow_mut();
+                        for &(key, amount) in &calls {
+                            black_box(meter::signed_update(d, w, &mut m, key, amount));
+                        }
+                    }),
+                    (&mut || b.borrow_mut().fill(0), &mut || {
+                        let mut m = b.borrow_mut();
+                        for &(key, amount) in &calls {
+                            black_box(plain::signed_update(d, w, &mut m, key, amount));
+                        }
+                    }),
+                ]);
+                let (a, b) = (a.into_inner(), b.into_inner());
+                assert!(
+                    a == b && a.iter().any(|&x| x > 0),
+                    "{name}: the proved memory and the C version's"
+                );
+                updates.push((name.clone(), times));
+
+                for &(key, _) in &calls {
+                    let figure = meter::signed_estimate(d, w, &a, key);
+                    assert_eq!(figure, plain::signed_estimate(d, w, &b, key), "{name}: estimates");
+                    assert_eq!(figure.number, 0, "{name}: estimates");
+                }
+                let times = time(vec![
+                    (&mut || {}, &mut || {
+                        for &(key, _) in &calls {
+                            black_box(meter::signed_estimate(d, w, &a, key));
+                        }
+                    }),
+                    (&mut || {}, &mut || {
+                        for &(key, _) in &calls {
+                            black_box(plain::signed_estimate(d, w, &b, key));
+                        }
+                    }),
+                ]);
+                estimates.push((name, times));
+            }
+        }
+    }
+    heading("signed update, Zipf, calls a second");
+    for (name, times) in &updates {
+        line(name, CALLS, times);
+    }
+    heading("signed estimate, Zipf, calls a second");
+    for (name, times) in &estimates {
+        line(name, CALLS, times);
+    }
+
+    heading("signed meters, d 5, calls a second");
+    let senses: [(&str, [Combine; 2]); 2] = [
+        ("sum", [meter::signed_unite, plain::signed_unite]),
+        ("difference", [meter::signed_subtract, plain::signed_subtract]),
+    ];
+    for w in [1_024, 65_536] {
+        let repeat = repeats(5, w);
+        for kind in KINDS {
+            let mut seeds = 11..;
+            let [starts, others] = [0, 1].map(|_| -> Vec<Vec<u8>> {
+                let seeds = (&mut seeds).take(repeat);
+                seeds.map(|seed| kind.filled_signed(5, w, seed)).collect()
+            });
+            for (sense, calls) in senses {
+                let times = combine((5, w), calls, &starts, &others, None);
+                line(&format!("{sense}, w {w}, {}", kind.name()), repeat, &times);
+            }
+        }
+    }
+}
+
 /// The cost of a call by the width: time for one group.
 fn growth() {
     println!("\n| nanoseconds a group, d 8, proved (plain C) | w 32 | w 256 | w 1,024 | w 8,192 | w 65,536 |");
@@ -661,8 +819,10 @@ fn main() {
         env!("RUSTC_VERSION")
     );
     println!("Median of {ROUNDS} rounds; {CALLS} calls a round on {KEYS} keys.");
-    if std::env::args().nth(1).is_some_and(|only| only == "watch") {
-        return watched();
+    match std::env::args().nth(1).as_deref() {
+        Some("watch") => return watched(),
+        Some("signed") => return signed(),
+        _ => {}
     }
     keyed();
     by_rows();
@@ -671,4 +831,5 @@ fn main() {
     feeds();
     whole_meters();
     growth();
+    signed();
 }

@@ -4,17 +4,23 @@
 mod common;
 
 use bench::plain;
-use common::{amount, key, lend_bytes, lend_words, memory, record, seed, some_image, Lent, Rng};
+use common::{
+    amount, key, lend_bytes, lend_words, memory, record, seed, signed_amount, signed_memory, some_image, Lent, Numbers, Rng,
+};
 use reference::Memory;
-use std::collections::BTreeMap;
 
-fn same(call: &'static str, c: meter::Answer, model: reference::Answer, given: &mut BTreeMap<(&'static str, u32), u64>) {
+fn same<F: Copy + PartialEq + std::fmt::Debug>(
+    call: &'static str,
+    c: meter::Answer<F>,
+    model: reference::Answer<F>,
+    given: &mut Numbers,
+) {
     assert_eq!(
         (c.number, c.place, c.figure),
         (model.number, model.place, model.figure),
         "{call}"
     );
-    *given.entry((call, c.number)).or_default() += 1;
+    given.note(call, c.number);
 }
 
 fn compare(call: &str, c: &Lent<u8>, model: &Memory) {
@@ -24,7 +30,7 @@ fn compare(call: &str, c: &Lent<u8>, model: &Memory) {
 #[test]
 fn plain_c_follows_the_paper() {
     let mut rng = Rng::new(seed("plain_c_follows_the_paper"));
-    let mut given = BTreeMap::new();
+    let mut given = Numbers::default();
     for _ in 0..40_000 {
         let (d, w) = (rng.within(1..9), rng.pick(&[32, 64, 128]));
         let (bytes, source) = (memory(&mut rng, d, w), memory(&mut rng, d, w));
@@ -84,4 +90,62 @@ fn plain_c_follows_the_paper() {
         }
     }
     println!("{given:?}");
+}
+
+#[test]
+fn plain_signed_c_follows_the_paper() {
+    let mut rng = Rng::new(seed("plain_signed_c_follows_the_paper"));
+    let mut given = Numbers::default();
+    for _ in 0..60_000 {
+        let (d, w) = (rng.pick(&[1, 3, 5, 7]), rng.pick(&[32, 64, 128]));
+        let bytes = signed_memory(&mut rng, d, w);
+        let mut c = lend_bytes(&bytes);
+        let mut model = bytes;
+        let compare = |call: &str, c: &Lent<u8>, model: &[u8]| {
+            assert!(c.guards_stand() && c.get() == model, "{call}: the memory");
+        };
+        for _ in 0..3 {
+            let (key, amount) = (key(&mut rng), signed_amount(&mut rng));
+            let a = plain::signed_estimate(d, w, c.get(), &key);
+            same("estimate", a, reference::signed_estimate(d, w, &model, &key), &mut given);
+            let a = plain::signed_update(d, w, c.get_mut(), &key, amount);
+            same(
+                "update",
+                a,
+                reference::signed_update(d, w, &mut model, &key, amount),
+                &mut given,
+            );
+            compare("update", &c, &model);
+        }
+        let source = signed_memory(&mut rng, d, w);
+        let a = plain::signed_unite(d, w, c.get_mut(), &source);
+        same("unite", a, reference::signed_unite(d, w, &mut model, &source), &mut given);
+        compare("unite", &c, &model);
+        let source = signed_memory(&mut rng, d, w);
+        let a = plain::signed_subtract(d, w, c.get_mut(), &source);
+        same(
+            "subtract",
+            a,
+            reference::signed_subtract(d, w, &mut model, &source),
+            &mut given,
+        );
+        compare("subtract", &c, &model);
+        if rng.once_in(50) {
+            let (d, w) = (rng.within(0..10), rng.pick(&[0, 32, 33, 64, 131_072]));
+            same(
+                "clear",
+                plain::signed_clear(d, w, c.get_mut()),
+                reference::signed_clear(d, w, &mut model),
+                &mut given,
+            );
+            compare("clear", &c, &model);
+        }
+    }
+    given.finish(&[
+        ("clear", &[0, 1, 2, 3, 12]),
+        ("update", &[0, 4, 5, 6, 13]),
+        ("estimate", &[0, 4, 5, 13]),
+        ("unite", &[0, 5, 6, 13]),
+        ("subtract", &[0, 5, 6, 13]),
+    ]);
 }

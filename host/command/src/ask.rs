@@ -1,6 +1,6 @@
 //! `meter ask`: figures of keys.
 
-use crate::cli::{decimal, refused, shown, usage, Arguments, Outcome};
+use crate::cli::{refused, shown, usage, Arguments, Outcome};
 use crate::files::{self, Output, Progress};
 use crate::image;
 use crate::text;
@@ -40,8 +40,7 @@ fn parse(part: &[u8], ip: bool) -> Result<Asked, String> {
         return parse_address(part).ok_or_else(|| format!("{} is no IP address", shown(part)));
     }
     let key = text::parse_key(part)?;
-    let mut name = String::new();
-    text::show_key(key.bytes(), &mut name);
+    let name = show(key.bytes(), false);
     Ok(Asked { key, name })
 }
 
@@ -60,8 +59,20 @@ fn parse_address(part: &[u8]) -> Option<Asked> {
     Some(Asked { key, name })
 }
 
+/// A key by its name: as an address, if that is asked for and it is one, else as text has it.
+pub fn show(key: &[u8], ip: bool) -> String {
+    match address_of(key).filter(|_| ip) {
+        Some(address) => address.to_string(),
+        None => {
+            let mut name = String::new();
+            text::show_key(key, &mut name);
+            name
+        }
+    }
+}
+
 /// The address that a key of 4 or 16 bytes is.
-pub fn address_of(bytes: &[u8]) -> Option<IpAddr> {
+fn address_of(bytes: &[u8]) -> Option<IpAddr> {
     let four = <[u8; 4]>::try_from(bytes).map(IpAddr::from);
     four.or_else(|_| <[u8; 16]>::try_from(bytes).map(IpAddr::from)).ok()
 }
@@ -71,13 +82,7 @@ pub fn run(given: &[OsString]) -> Outcome {
     let Some((file, parts)) = arguments.rest.split_first() else {
         return usage("an image is missing");
     };
-    let top = match arguments.value("--top").map(OsStrExt::as_bytes) {
-        None => None,
-        Some(digits) => match decimal(digits) {
-            Some(n) => Some(usize::try_from(n).unwrap_or(usize::MAX)),
-            None => return usage(format_args!("--top takes a number, not {}", shown(digits))),
-        },
-    };
+    let top = arguments.top()?;
     let ip = arguments.has("--ip");
     let keys = arguments.value("--keys");
     if parts.is_empty() && keys.is_none() {

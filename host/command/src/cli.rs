@@ -101,6 +101,17 @@ impl Arguments {
         }
     }
 
+    /// How many `--top` says.
+    pub fn top(&self) -> Outcome<Option<usize>> {
+        let Some(digits) = self.value("--top").map(OsStrExt::as_bytes) else {
+            return Ok(None);
+        };
+        match decimal(digits) {
+            Some(n) => Ok(Some(usize::try_from(n).unwrap_or(usize::MAX))),
+            None => usage(format_args!("--top takes a number, not {}", shown(digits))),
+        }
+    }
+
     /// The file to write; left out, standard output.
     pub fn output(&self) -> &OsStr {
         self.value("-o").unwrap_or(OsStr::new("-"))

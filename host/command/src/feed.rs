@@ -5,8 +5,7 @@ use crate::files::{self, Input, Progress};
 use crate::packet::{self, By, Skip};
 use crate::pcap::Capture;
 use crate::text;
-use crate::words::Feed;
-use std::collections::HashSet;
+use crate::words::{Feed, Key, Keys};
 use std::ffi::{OsStr, OsString};
 use std::os::unix::ffi::OsStrExt;
 
@@ -81,17 +80,18 @@ pub fn run(given: &[OsString]) -> Outcome {
     }
 }
 
+/// The feed that a file of text describes.
+pub fn read_text(file: &OsStr, progress: &mut Progress) -> Outcome<Vec<u8>> {
+    let content = files::read_all(file, progress)?;
+    text::to_feed(&content, progress)
+        .or_else(|mistake| refused(format_args!("{}: line {}: {}", files::name(file), mistake.line, mistake.what)))
+}
+
 fn from_text(arguments: &Arguments) -> Outcome {
     let file = arguments.file()?;
     files::not_to_a_terminal(arguments.output())?;
-    let mut progress = Progress::new("feed");
-    let content = files::read_all(file, &mut progress)?;
-    let made = text::to_feed(&content, &mut progress);
-    drop(progress);
-    match made {
-        Ok(feed) => files::write(arguments.output(), &feed),
-        Err(mistake) => refused(format_args!("{}: line {}: {}", files::name(file), mistake.line, mistake.what)),
-    }
+    let feed = read_text(file, &mut Progress::new("feed"))?;
+    files::write(arguments.output(), &feed)
 }
 
 fn to_text(arguments: &Arguments) -> Outcome {
@@ -106,22 +106,61 @@ fn to_text(arguments: &Arguments) -> Outcome {
     }
 }
 
+/// What `--key` says that a capture is counted by.
+pub fn counted_by(arguments: &Arguments) -> Outcome<By> {
+    match arguments.value("--key").map(OsStr::as_bytes) {
+        Some(b"src") => Ok(By::Source),
+        Some(b"dst") => Ok(By::Destination),
+        Some(b"flow") => Ok(By::Flow),
+        Some(other) => usage(format_args!("--key is src, dst or flow, not {}", crate::cli::shown(other))),
+        None => usage("--key src, dst or flow says what to count by"),
+    }
+}
+
+/// How many packets of a capture have no key, and why.
 #[derive(Default)]
-struct Skipped {
+pub struct Skipped {
     packets: u64,
     not_ip: u64,
     short: u64,
     malformed: u64,
 }
 
+impl Skipped {
+    /// A line for whoever waits, if there are any.
+    pub fn say(&self, of: &str) {
+        let all = self.not_ip + self.short + self.malformed;
+        if all > 0 {
+            crate::say(format_args!(
+                "meter {of}: {all} of {} packets skipped: {} not IP, {} captured too short, {} malformed",
+                self.packets, self.not_ip, self.short, self.malformed
+            ));
+        }
+    }
+}
+
+/// Hands out the key and the length of each packet of a capture that has a key.
+pub fn packets(capture: &OsStr, by: By, progress: &mut Progress, mut each: impl FnMut(Key, u32) -> Outcome) -> Outcome<Skipped> {
+    let mut capture = Capture::open(Input::open(capture)?)?;
+    let mut skipped = Skipped::default();
+    loop {
+        let (at, length) = capture.position();
+        progress.now_at(at, length, "bytes");
+        let Some(packet) = capture.next()? else {
+            return Ok(skipped);
+        };
+        skipped.packets += 1;
+        match packet::key(packet.bytes, by) {
+            Ok(key) => each(key, packet.original)?,
+            Err(Skip::NotIp) => skipped.not_ip += 1,
+            Err(Skip::Short) => skipped.short += 1,
+            Err(Skip::Malformed) => skipped.malformed += 1,
+        }
+    }
+}
+
 fn from_capture(capture: &OsStr, arguments: &Arguments) -> Outcome {
-    let by = match arguments.value("--key").map(OsStr::as_bytes) {
-        Some(b"src") => By::Source,
-        Some(b"dst") => By::Destination,
-        Some(b"flow") => By::Flow,
-        Some(other) => return usage(format_args!("--key is src, dst or flow, not {}", crate::cli::shown(other))),
-        None => return usage("--key src, dst or flow says what to count by"),
-    };
+    let by = counted_by(arguments)?;
     let (d, w) = match arguments.values("--geometry") {
         Some([d, w]) => geometry(d.as_bytes(), w.as_bytes()).or_else(usage)?,
         _ => text::DEFAULT,
@@ -133,52 +172,30 @@ fn from_capture(capture: &OsStr, arguments: &Arguments) -> Outcome {
     if !list {
         files::not_to_a_terminal(arguments.output())?;
     }
-    let mut capture = Capture::open(Input::open(capture)?)?;
-    let mut progress = Progress::new("feed");
     let mut feed = Feed::new(d, w);
-    let mut keys = Vec::new();
-    let mut known = HashSet::new();
-    let mut skipped = Skipped::default();
-    loop {
-        let (at, length) = capture.position();
-        progress.now_at(at, length, "bytes");
-        let Some(packet) = capture.next()? else { break };
-        skipped.packets += 1;
-        match packet::key(packet.bytes, by) {
-            Ok(key) => {
-                if !list {
-                    feed.update(&key, packet.original);
-                }
-                if (ask || list) && !known.contains(key.bytes()) {
-                    known.insert(key.bytes().to_vec());
-                    keys.push(key);
-                }
-            }
-            Err(Skip::NotIp) => skipped.not_ip += 1,
-            Err(Skip::Short) => skipped.short += 1,
-            Err(Skip::Malformed) => skipped.malformed += 1,
+    let mut keys = Keys::default();
+    let skipped = packets(capture, by, &mut Progress::new("feed"), |key, length| {
+        if !list {
+            feed.update(&key, length);
         }
-    }
-    drop(progress);
+        if ask || list {
+            keys.note(key);
+        }
+        Ok(())
+    })?;
     if list {
         let mut text = String::new();
-        for key in &keys {
+        for key in &keys.all {
             text::show_hexadecimal(key.bytes(), &mut text);
             text.push('\n');
         }
         files::write(arguments.output(), text.as_bytes())?;
     } else {
-        for key in keys.iter().filter(|_| ask) {
+        for key in &keys.all {
             feed.ask(key);
         }
         files::write(arguments.output(), &feed.ended())?;
     }
-    let all = skipped.not_ip + skipped.short + skipped.malformed;
-    if all > 0 {
-        crate::say(format_args!(
-            "meter feed: {all} of {} packets skipped: {} not IP, {} captured too short, {} malformed",
-            skipped.packets, skipped.not_ip, skipped.short, skipped.malformed
-        ));
-    }
+    skipped.say("feed");
     Ok(())
 }

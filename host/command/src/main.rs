@@ -3,6 +3,7 @@
 mod ask;
 mod chart;
 mod cli;
+mod compare;
 mod feed;
 mod files;
 mod image;
@@ -34,6 +35,7 @@ usage: meter SUBCOMMAND ...
   unite    add images up into one
   ask      what a meter's image has counted for keys
   watch    run a feed and list the keys that got heavy
+  compare  which keys changed most from one feed, text or capture to another
   new      write the image of a clear meter
   size     what d rows of w slots take, and what they tell apart
   chart    draw an image
@@ -58,6 +60,7 @@ fn subcommand(name: &str) -> Option<Subcommand> {
         "unite" => (make::UNITE_HELP, make::unite),
         "ask" => (ask::HELP, ask::run),
         "watch" => (watch::HELP, watch::run),
+        "compare" => (compare::HELP, compare::run),
         "new" => (make::NEW_HELP, make::new),
         "size" => (make::SIZE_HELP, make::size),
         "chart" => (chart::HELP, chart::run),

@@ -1,9 +1,9 @@
 //! `meter watch`: the heavy keys of a feed.
 
-use crate::ask::address_of;
+use crate::ask::show;
 use crate::cli::{decimal, refused, shown, usage, Arguments, Failure, Outcome};
+use crate::feed::read_text;
 use crate::files::{self, Progress};
-use crate::text;
 use crate::words::{Record, Records};
 use meter::{Entry, Meter, Refused, WatchList};
 use std::cmp::Reverse;
@@ -53,17 +53,6 @@ fn count(
     Ok(())
 }
 
-fn show(key: &[u8], ip: bool) -> String {
-    match address_of(key).filter(|_| ip) {
-        Some(address) => address.to_string(),
-        None => {
-            let mut name = String::new();
-            text::show_key(key, &mut name);
-            name
-        }
-    }
-}
-
 /// The list as a table, and its mark in words.
 fn table(list: &WatchList, threshold: u64, sort: bool, ip: bool) -> String {
     let mut entries: Vec<(usize, Entry)> = list.iter().enumerate().collect();
@@ -110,13 +99,11 @@ pub fn run(given: &[OsString]) -> Outcome {
     };
     let name = files::name(file);
     let mut progress = Progress::new("watch");
-    let mut content = files::read_all(file, &mut progress)?;
-    if arguments.has("--text") {
-        content = match text::to_feed(&content, &mut progress) {
-            Ok(feed) => feed,
-            Err(mistake) => return refused(format_args!("{name}: line {}: {}", mistake.line, mistake.what)),
-        };
-    }
+    let content = if arguments.has("--text") {
+        read_text(file, &mut progress)?
+    } else {
+        files::read_all(file, &mut progress)?
+    };
     let mut list = WatchList::new();
     let mut clean = true;
     let counted = Records::open(&content).and_then(|(mut meter, mut records)| {

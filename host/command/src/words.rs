@@ -1,6 +1,7 @@
 //! Words of feeds: 32 bits, high byte first in files; the top four bits are the kind, the low 28 the payload.
 
 use meter::{feed_taken, Meter, Reason, Refused};
+use std::collections::HashSet;
 
 pub const HEAD: u32 = 1;
 pub const END: u32 = 4;
@@ -64,6 +65,22 @@ impl Key {
 
     pub fn bytes(&self) -> &[u8] {
         &self.bytes[..self.length]
+    }
+}
+
+/// Distinct keys, in the order they came.
+#[derive(Default)]
+pub struct Keys {
+    pub all: Vec<Key>,
+    known: HashSet<Vec<u8>>,
+}
+
+impl Keys {
+    pub fn note(&mut self, key: Key) {
+        if !self.known.contains(key.bytes()) {
+            self.known.insert(key.bytes().to_vec());
+            self.all.push(key);
+        }
     }
 }
 

@@ -10,7 +10,9 @@ use std::process::{Command, Stdio};
 use std::thread;
 use std::time::Duration;
 
-const SUBCOMMANDS: [&str; 9] = ["feed", "run", "image", "unite", "ask", "watch", "new", "size", "chart"];
+const SUBCOMMANDS: [&str; 10] = [
+    "feed", "run", "image", "unite", "ask", "watch", "compare", "new", "size", "chart",
+];
 
 #[test]
 fn help_and_version() {
@@ -63,6 +65,8 @@ fn what_cannot_be_read_or_written_is_1() {
         &["unite", &missing, "-o", "-"],
         &["ask", &missing, "A"],
         &["watch", &missing, "--threshold", "1"],
+        &["compare", &missing, "-"],
+        &["compare", "--from-pcap", &missing, "-", "--key", "src"],
         &["chart", &missing, "-o", "-"],
     ] {
         assert!(bad(wrong, b"", 1).contains("missing: No such file"), "{wrong:?}");
@@ -104,11 +108,13 @@ fn closed_pipes() {
     let image = folder.path("image");
     good(&["new", "8", "65536", "-o", &image], b"");
     let feed = to_bytes(&random_feed(&mut Rng::new("closed_pipes"), 1, 32, 100_000));
+    let empty = folder.put("empty", &to_bytes(&[head(1, 32), 0x4000_0001]));
     for (arguments, input) in [
         (&["image", "dump", &image][..], &b""[..]),
         (&["run"], &feed),
         (&["feed", "--text"], &feed),
         (&["watch", "--threshold", "1"], &feed),
+        (&["compare", &empty, "-"], &feed),
         (&["chart", &image, "-o", "-"], b""),
         (&["--help"], b""),
     ] {

@@ -2,18 +2,8 @@
 
 mod common;
 
-use common::{bad, good, head, meter, random_feed, record, text, to_bytes, Folder, Rng};
+use common::{bad, feed, good, meter, named, random_feed, text, to_bytes, Folder, Rng};
 use reference::{feed_record, watch_update, Memory, Record, Watch, WATCH_SIZE};
-
-/// A feed of these updates, of one row of 32.
-fn feed(updates: &[(&[u8], u32)]) -> Vec<u8> {
-    let mut words = vec![head(1, 32)];
-    for (key, amount) in updates {
-        words.extend(record(key, Some(*amount)));
-    }
-    words.push(0x4000_0000 | words.len() as u32);
-    to_bytes(&words)
-}
 
 /// The list that the reference comes to.
 fn watched(d: usize, w: usize, words: &[u32], threshold: u64) -> Watch {
@@ -32,15 +22,6 @@ fn watched(d: usize, w: usize, words: &[u32], threshold: u64) -> Watch {
             Record::End => return Watch::parse(&list).expect("a list"),
         }
     }
-}
-
-/// A key as it is shown: itself if it is printable, else in hexadecimal digits.
-fn named(key: &[u8]) -> String {
-    if key.iter().all(u8::is_ascii_graphic) && !key.starts_with(b"0x") && !key.starts_with(b"0X") {
-        return text(key);
-    }
-    let digits: String = key.iter().map(|byte| format!("{byte:02x}")).collect();
-    format!("0x{digits}")
 }
 
 /// What a line of the table says: when the key joined, its estimate and its name.

@@ -5,21 +5,23 @@
 //! tries all of them. Bytes are made from a tree where a memory has to be compared, and read only where one comes from outside.
 #![forbid(unsafe_code)]
 
+mod signed;
 mod watch;
 
 use std::sync::OnceLock;
 
+pub use signed::{row_sign, signed_clear, signed_estimate, signed_subtract, signed_unite, signed_update};
 pub use watch::{watch_clear, watch_remove, watch_update, Place, Watch, WATCH_SIZE};
 
 /// The answer of a call: the paper's number, place and figure.
 #[derive(Clone, Copy, Debug, PartialEq, Eq)]
-pub struct Answer {
+pub struct Answer<F = u64> {
     pub number: u32,
     pub place: u64,
-    pub figure: u64,
+    pub figure: F,
 }
 
-fn accepted(figure: u64) -> Answer {
+fn accepted<F>(figure: F) -> Answer<F> {
     Answer {
         number: 0,
         place: 0,
@@ -30,13 +32,13 @@ fn accepted(figure: u64) -> Answer {
 /// Why a call is refused: number and place.
 type Refused = (u32, usize);
 
-fn answer(outcome: Result<u64, Refused>) -> Answer {
+fn answer<F: Default>(outcome: Result<F, Refused>) -> Answer<F> {
     match outcome {
         Ok(figure) => accepted(figure),
         Err((number, place)) => Answer {
             number,
             place: place as u64,
-            figure: 0,
+            figure: F::default(),
         },
     }
 }
@@ -124,6 +126,24 @@ fn layouts() -> &'static Layouts {
         }
         Layouts { all, code }
     })
+}
+
+/// The least layout that merges all that these merge bits do and each of whose counters will do; none if there is no such layout.
+fn least_layout(merged: u8, will_do: impl Fn(usize) -> bool) -> Option<&'static Layout> {
+    let suitable: Vec<&(u8, Layout)> = layouts()
+        .all
+        .iter()
+        .filter(|(merge, _)| merge & merged == merged)
+        .filter(|(_, layout)| layout.iter().all(|&n| will_do(n)))
+        .collect();
+    if suitable.is_empty() {
+        return None;
+    }
+    let (_, layout) = suitable
+        .iter()
+        .find(|(merge, _)| suitable.iter().all(|(other, _)| merge & other == *merge))
+        .expect("one layout is inside all others");
+    Some(layout)
 }
 
 /// The number of layouts of a group.
@@ -270,19 +290,7 @@ impl Tree {
         for (n, sum) in total.iter_mut().enumerate().skip(ROOT) {
             *sum = self.total(n) + source.total(n);
         }
-        let suitable: Vec<&(u8, Layout)> = layouts()
-            .all
-            .iter()
-            .filter(|(merge, _)| merge & merged == merged)
-            .filter(|(_, layout)| layout.iter().all(|&n| total[n] < limit(level(n))))
-            .collect();
-        if suitable.is_empty() {
-            return None;
-        }
-        let (_, layout) = suitable
-            .iter()
-            .find(|(merge, _)| suitable.iter().all(|(other, _)| merge & other == *merge))
-            .expect("one layout is inside all others");
+        let layout = least_layout(merged, |n| total[n] < limit(level(n)))?;
         let mut tree = Tree::empty(layout);
         for &n in layout {
             tree.counter[n] = Some(total[n] as u64);

@@ -2,6 +2,7 @@
 #![allow(dead_code)]
 
 use reference::{Memory, Place, Watch, WATCH_SIZE};
+use std::collections::BTreeMap;
 use std::ops::Range;
 
 /// SplitMix64.
@@ -54,6 +55,39 @@ pub fn seed(test: &str) -> u64 {
     };
     println!("{test}: seed {seed} (METER_SEED={seed} runs it again)");
     seed
+}
+
+/// The last of the numbers.
+pub const LAST_NUMBER: u32 = 13;
+
+/// How often each call gave each number.
+#[derive(Default, Debug)]
+pub struct Numbers(BTreeMap<(&'static str, u32), u64>);
+
+impl Numbers {
+    pub fn note(&mut self, call: &'static str, number: u32) {
+        *self.0.entry((call, number)).or_default() += 1;
+    }
+
+    pub fn has(&self, call: &'static str, number: u32) -> bool {
+        self.0.contains_key(&(call, number))
+    }
+
+    pub fn calls(&self) -> u64 {
+        self.0.values().sum()
+    }
+
+    /// Prints the counts; fails where a possible number was never given, or one that is not possible was.
+    pub fn finish(&self, possible: &[(&'static str, &[u32])]) {
+        println!("{} calls; how often each gave each number:", self.calls());
+        for (call, numbers) in possible {
+            let counts = (0..=LAST_NUMBER).filter_map(|n| self.0.get(&(*call, n)).map(|count| format!("{n}: {count}")));
+            println!("  {call:<12} {}", counts.collect::<Vec<_>>().join(", "));
+            for n in 0..=LAST_NUMBER {
+                assert_eq!(self.has(call, n), numbers.contains(&n), "{call} and number {n}");
+            }
+        }
+    }
 }
 
 const GUARD: usize = 24;
@@ -244,6 +278,166 @@ pub fn memory(rng: &mut Rng, d: usize, w: usize) -> Vec<u8> {
             let at = rng.below(d) * stride + w + rng.below(w / 8);
             bytes[at] = rng.next() as u8;
         }
+    }
+    bytes
+}
+
+/// Amounts of either sign near every limit of a signed meter's counters.
+pub fn signed_amount(rng: &mut Rng) -> i32 {
+    match rng.below(8) {
+        0 => 0,
+        1 => rng.pick(&[i32::MIN, i32::MIN + 1, i32::MAX, i32::MAX - 1]),
+        2 => rng.pick(&[1, -1]),
+        3 => rng.pick(&[127, 128, -127, -128]),
+        4 => rng.pick(&[32_767, 32_768, -32_767, -32_768]),
+        5 => rng.next() as i32,
+        6 => (rng.next() as i32) >> rng.below(32),
+        _ => rng.within(0..256) as i32 - 128,
+    }
+}
+
+/// The counters of a valid layout: the slots of each.
+pub fn counters(merge: u8) -> Vec<Range<usize>> {
+    let merged = |bit: usize| usize::from(merge >> bit & 1);
+    let mut all = Vec::new();
+    let mut at = 0;
+    while at < 8 {
+        let level = merged(at & 6) + merged((at & 4) + 1) + merged(3);
+        all.push(at..at + (1 << level));
+        at += 1 << level;
+    }
+    all
+}
+
+/// What magnitudes of a counter of so many slots stay below.
+pub fn signed_limit(slots: usize) -> i128 {
+    1 << (8 * slots - 1)
+}
+
+/// The number in a counter's bytes, sign and magnitude; of minus zero 0.
+pub fn signed_number(counter: &[u8]) -> i128 {
+    let limit = signed_limit(counter.len());
+    let bits = counter.iter().rev().fold(0, |bits, byte| bits << 8 | i128::from(*byte));
+    if bits & limit == 0 {
+        bits
+    } else {
+        limit - bits
+    }
+}
+
+/// Puts a number into a counter's bytes.
+pub fn put_signed(counter: &mut [u8], number: i128) {
+    let limit = signed_limit(counter.len());
+    assert!(number.abs() < limit);
+    let bits = if number < 0 { limit - number } else { number };
+    counter.copy_from_slice(&bits.to_le_bytes()[..counter.len()]);
+}
+
+/// Puts minus zero into a counter's bytes.
+pub fn put_minus_zero(counter: &mut [u8]) {
+    counter.fill(0);
+    counter[counter.len() - 1] = 0x80;
+}
+
+/// A number for a counter of so many slots: at either end, near it, small or of any magnitude. Two numbers for a whole group overflow
+/// only where the meter is full.
+fn signed_figure(rng: &mut Rng, slots: usize, full: bool) -> i128 {
+    let most = signed_limit(slots) - 1;
+    let magnitude = match rng.below(8) {
+        0 => 0,
+        1 | 2 => most,
+        3 => most - rng.below(300) as i128 % most,
+        4 => rng.below(100) as i128,
+        _ => i128::from(rng.next() >> rng.below(64)) % (most + 1),
+    };
+    let magnitude = if slots == 8 && !full { magnitude / 4 } else { magnitude };
+    magnitude * rng.pick(&[1, -1])
+}
+
+/// A group of a memory of rows of w slots: the offsets of its count bytes and of its merge byte.
+pub fn group_at(w: usize, row: usize, group: usize) -> (Range<usize>, usize) {
+    let start = row * (w + w / 8);
+    (start + 8 * group..start + 8 * group + 8, start + w + group)
+}
+
+/// Plants minus zero in some counter of a memory whose merge bytes are valid.
+pub fn plant_minus_zero(rng: &mut Rng, bytes: &mut [u8], w: usize) {
+    let row = rng.below(bytes.len() / (w + w / 8));
+    let (counts, merge) = group_at(w, row, rng.below(w / 8));
+    let all = counters(bytes[merge]);
+    let slots = all[rng.below(all.len())].clone();
+    put_minus_zero(&mut bytes[counts][slots]);
+}
+
+/// The memory of a signed meter: clear, with nothing merged, of any layouts and numbers, mostly merged whole, some full; or with minus
+/// zeros, damaged merge bytes or both; or random.
+pub fn signed_memory(rng: &mut Rng, d: usize, w: usize) -> Vec<u8> {
+    let kind = rng.below(16);
+    let mut bytes = vec![0; d * (w + w / 8)];
+    if kind == 0 {
+        return bytes;
+    }
+    if kind == 1 {
+        return rng.bytes(bytes.len());
+    }
+    let merges = reference::valid_merges();
+    let full = rng.once_in(4);
+    let whole = rng.pick(&[0, 0, 2, 4]);
+    // Of the sums of two such meters none passes 127, or few do, or many.
+    let limit = rng.pick(&[64, 66, 128]);
+    for row in 0..d {
+        for group in 0..w / 8 {
+            let (counts, at) = group_at(w, row, group);
+            let merge = if rng.below(5) < whole { 0x7f } else { rng.pick(&merges) };
+            if kind > 4 {
+                bytes[at] = merge;
+            }
+            for slots in counters(bytes[at]) {
+                let number = match kind {
+                    2..=4 => rng.below(limit) as i128 * rng.pick(&[1, -1]),
+                    _ => signed_figure(rng, slots.len(), full),
+                };
+                put_signed(&mut bytes[counts.clone()][slots], number);
+            }
+        }
+    }
+    if matches!(kind, 2 | 5 | 6) {
+        for _ in 0..rng.within(1..4) {
+            plant_minus_zero(rng, &mut bytes, w);
+        }
+    }
+    if matches!(kind, 6 | 7) {
+        let (_, merge) = group_at(w, rng.below(d), rng.below(w / 8));
+        bytes[merge] = rng.next() as u8;
+    }
+    bytes
+}
+
+/// A depth and a width as told: mostly the meter's own.
+pub fn told(rng: &mut Rng, d: usize, w: usize) -> (usize, usize) {
+    match rng.below(40) {
+        0 => (rng.pick(&[0, 9, 10, 16, 256, usize::MAX, 1 << 32]), w),
+        1 => (
+            d,
+            rng.pick(&[0, 1, 16, 31, 33, 48, 96, 65_535, 65_537, 131_072, 1 << 32, usize::MAX]),
+        ),
+        2 => (0, 33),
+        3 => (rng.within(1..9), w),
+        4 => (d, 32 << rng.below(12)),
+        // Other rows of the same memory.
+        5 if d & 1 == 0 && w < 65_536 => (d / 2, w * 2),
+        6 if d <= 4 && w > 32 => (d * 2, w / 2),
+        _ => (d, w),
+    }
+}
+
+/// Bytes of another length: one more or less, or none.
+pub fn other_length(rng: &mut Rng, bytes: &[u8]) -> Vec<u8> {
+    let mut bytes = bytes.to_vec();
+    match rng.below(3) {
+        0 => bytes.clear(),
+        1 => drop(bytes.pop()),
+        _ => bytes.push(0),
     }
     bytes
 }

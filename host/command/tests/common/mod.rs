@@ -220,3 +220,22 @@ pub fn random_feed(rng: &mut Rng, d: usize, w: usize, records: usize) -> Vec<u32
     words.push(0x4000_0000 | words.len() as u32);
     words
 }
+
+/// A feed of these updates, of one row of 32.
+pub fn feed(updates: &[(&[u8], u32)]) -> Vec<u8> {
+    let mut words = vec![head(1, 32)];
+    for (key, amount) in updates {
+        words.extend(record(key, Some(*amount)));
+    }
+    words.push(0x4000_0000 | words.len() as u32);
+    to_bytes(&words)
+}
+
+/// A key as it is shown: itself if it is printable, else in hexadecimal digits.
+pub fn named(key: &[u8]) -> String {
+    if key.iter().all(u8::is_ascii_graphic) && !key.starts_with(b"0x") && !key.starts_with(b"0X") {
+        return text(key);
+    }
+    let digits: String = key.iter().map(|byte| format!("{byte:02x}")).collect();
+    format!("0x{digits}")
+}
