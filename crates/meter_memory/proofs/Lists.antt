@@ -52,7 +52,7 @@ module _ (r stride : ℕ) (memory ys : List ℕ) (k : r * stride + stride ≤ le
   back-behind = rw (back, next-row r stride) (drop-at (take (r * stride) memory ++ ys) (drop (r * stride + stride) memory) (r * stride + stride) front-length)
 
 -- rows read one by one
-module _ (f : ℕ → List ℕ → ℕ) (stride : ℕ) where
+module _ {A : Type 0} (f : ℕ → List ℕ → A) (stride : ℕ) where
   pub rows-read : (d r : ℕ) (memory : List ℕ) → r < d
       → ofRows f stride (d - r) r (drop (r * stride) memory)
       ≡ f r (take stride (drop (r * stride) memory)) ∷ ofRows f stride (d - (r + 1)) (r + 1) (drop ((r + 1) * stride) memory)

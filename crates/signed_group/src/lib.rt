@@ -14,6 +14,7 @@ use signed_words::no_minus_zero;
 use signed_words::sum_fits;
 use signed_words::times_sign;
 ghost use mathlib.Core.Path.{_≡_};
+ghost use Prim.Native.Nat.{_<_, _^_};
 ghost use Rattle.group.specs.Group.{settle};
 ghost use Rattle.group_block.specs.Sum.{SumOf};
 ghost use Rattle.signed_number.specs.Number.{integer};
@@ -45,6 +46,7 @@ pub fn bad_group(g: Group) -> u8
 // The counter that a slot is in.
 pub fn counter(g: Group, slot: usize) -> Reading
     ensures { λ r. ⌜ r ≡ read g slot ⌝ }
+    ensures { λ r. ⌜ r .value .magnitude < 2 ^ 63 ⌝ }
 {
     let counts = g.counts;
     let status = bad_group(g);

@@ -1,10 +1,10 @@
 // Integers as sign and magnitude, as the counters of a signed meter hold them.
 ghost use mathlib.Core.Path.{_≡_};
 ghost use mathlib.Core.Bool.{cond, Bool·beq};
-ghost use Prim.Native.Nat.{_+_, _≤_, _<_, _^_};
+ghost use Prim.Native.Nat.{ℕ, _+_, _≤_, _<_, _^_};
 ghost use lib.Dec.{ltb};
 ghost use lib.IntN.{_+ℤ_, natAbs, subℕ};
-ghost use Rattle.signed_number.specs.Number.{integer, integerOf, signedOf};
+ghost use Rattle.signed_number.specs.Number.{timesSign, integer, integerOf, signedOf};
 
 pub struct Signed {
     pub minus: bool,
@@ -36,6 +36,13 @@ pub fn to_int(minus: bool, magnitude: u64) -> i64
 {
     let value = magnitude as i64;
     if minus { -value } else { value }
+}
+
+// A sign times a sign.
+pub fn times(sign: bool, minus: bool) -> bool
+    ensures { λ r. ⌜ ((m : ℕ) → integer r m ≡ timesSign sign (integer minus m)) ⌝ }
+{
+    sign != minus
 }
 
 // A sign and a magnitude with zero as plus.
