@@ -4,6 +4,7 @@ use mathlib.Core.Path.{_≡_}
 use mathlib.Core.List.{List}
 use lib.ListN.{getD}
 use lib.IntN.{ℤ}
+use Rattle.answer.specs.Order.{earliest}
 use Rattle.hash.specs.Hash.{slotOf, signOf}
 use Rattle.group.specs.declared.Group.{Group}
 use Rattle.group.specs.declared.Outcome.{Outcome}
@@ -11,7 +12,7 @@ use Rattle.signed_group.specs.declared.Reading.{Reading}
 use Rattle.signed_group.specs.Group.{read}
 use Rattle.signed_number.specs.Number.{timesSign, integerOf}
 use Rattle.geometry.specs.Geometry.{stride}
-use Rattle.meter_memory.specs.Rows.{rowOf, mapRows, groupAt, withGroup}
+use Rattle.meter_memory.specs.Rows.{rowOf, mapRows, ofRows, groupAt, withGroup}
 use Rattle.signed_row.specs.Row.{addedIn}
 
 -- an update of a row by the hash there: what it leaves of the group, and the row with a group stored
@@ -21,9 +22,12 @@ addedBy w hash amount row = addedIn w row (slotOf hash w) (timesSign (signOf has
 abbrev pub storedBy : ℕ → ℕ → Group → List ℕ → List ℕ
 storedBy w hash x row = withGroup w row (slotOf hash w / 8) x
 
--- of row r, by a list of hashes
+-- of row r, by a list of hashes, and the first status of d rows
 abbrev pub addedStatus : ℕ → List ℕ → ℤ → ℕ → List ℕ → ℕ
 addedStatus w hashes amount r row = addedBy w (getD hashes r 0) amount row .status
+
+abbrev pub triedStatus : ℕ → ℕ → List ℕ → ℤ → List ℕ → ℕ
+triedStatus d w hashes amount memory = earliest (ofRows (addedStatus w hashes amount) (stride w) d 0 memory)
 
 abbrev pub hashAdded : ℕ → List ℕ → ℤ → ℕ → List ℕ → List ℕ
 hashAdded w hashes amount r row = storedBy w (getD hashes r 0) (addedBy w (getD hashes r 0) amount row .group) row

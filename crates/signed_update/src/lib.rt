@@ -7,12 +7,11 @@ ghost use mathlib.Core.Path.{_≡_};
 ghost use mathlib.Core.Bool.{true, cond};
 ghost use lib.Dec.{eqb};
 ghost use lib.ListN.{length};
-ghost use Rattle.answer.specs.Order.{earliest};
 ghost use Rattle.geometry.specs.Geometry.{validWidth, RowIn, RowsIn};
 ghost use Rattle.geometry.specs.Geometry as geometry;
-ghost use Rattle.meter_memory.specs.Rows.{rowOf, ofRows};
+ghost use Rattle.meter_memory.specs.Rows.{rowOf};
 ghost use Rattle.signed_number.specs.Number.{integer};
-ghost use Rattle.signed_row.specs.Hashes.{addedBy, storedBy, addedStatus, Added, addedRows};
+ghost use Rattle.signed_row.specs.Hashes.{addedBy, storedBy, triedStatus, Added, addedRows};
 
 // What an amount, times the sign of a hash, leaves in the group of the hash's slot in row r. Stores nothing.
 fn add_at(w: usize, memory: &[u8], r: usize, hash: u32, minus: bool, magnitude: u32) -> Outcome
@@ -32,7 +31,7 @@ struct Trial {
 // An amount added in the group of each row. Stores nothing.
 fn try_rows(d: usize, w: usize, memory: &[u8], hashes: &[u32; 8], minus: bool, magnitude: u32) -> Trial
     requires { ⌜ RowsIn d w (length (now memory)) ⌝ }
-    ensures { λ t. ⌜ t .status ≡ earliest (ofRows (addedStatus w (now (hashes .entry)) (integer minus magnitude)) (geometry.stride w) d 0 (now (memory .entry))) ⌝ }
+    ensures { λ t. ⌜ t .status ≡ triedStatus d w (now (hashes .entry)) (integer minus magnitude) (now (memory .entry)) ⌝ }
     ensures { λ t. ⌜ Added d w (now (memory .entry)) (now (hashes .entry)) (integer minus magnitude) (t .groups) ⌝ }
 {
     let none = Group {
@@ -65,7 +64,7 @@ fn store_at(row: &mut [u8], w: usize, hash: u32, x: Group)
 // An update of each row, once every row is known to take it; the first status.
 pub fn update_rows(d: usize, w: usize, memory: &mut [u8], hashes: &[u32; 8], minus: bool, magnitude: u32) -> u8
     requires { ⌜ RowsIn d w (length (now memory)) ⌝ }
-    ensures { λ s. ⌜ s ≡ earliest (ofRows (addedStatus w (now (hashes .entry)) (integer minus magnitude)) (geometry.stride w) d 0 (now (memory .entry))) ⌝ }
+    ensures { λ s. ⌜ s ≡ triedStatus d w (now (hashes .entry)) (integer minus magnitude) (now (memory .entry)) ⌝ }
     ensures { λ s. ⌜ now (memory .exit) ≡ cond (eqb s 0) (addedRows d w (now (hashes .entry)) (integer minus magnitude) (now (memory .entry))) (now (memory .entry)) ⌝ }
 {
     let t = try_rows(d, w, memory, hashes, minus, magnitude);
