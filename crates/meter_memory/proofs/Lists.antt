@@ -1,8 +1,8 @@
 -- Laws of copies and of rows lent out.
-use mathlib.Core.Path.{_≡_, sym, ap, _∙_}
+use mathlib.Core.Path.{_≡_, refl, sym, ap, ap₂, _∙_}
 use mathlib.Core.List.{List, [], _∷_, _++_, append-assoc}
 use Prim.Native.Nat.{ℕ, zero, suc, _+_, _-_, _*_, _≤_, _<_, max}
-use native.Mathlib.Nat.{max-zero, zero-mul, add-mul, one-mul, sub-zero}
+use native.Mathlib.Nat.{max-zero, zero-mul, suc-mul, add-mul, one-mul, add-zero, sub-zero}
 use native.Mathlib.Numerals.{sub-one}
 use native.Mathlib.Decide.{decLt}
 use native.Mathlib.Omega.{arith}
@@ -163,3 +163,18 @@ filled-more f l i x z h e p k m =
       | yes b ↦ getD-set-other l i k x z (λ q. omega arith) ∙ p k b
       | no b ↦ let q : k ≡ i = omega arith in rw q (getD-set-same l i x z h ∙ e)
     ]
+
+-- a list that has at place k what is read of row k: its first n are what is read of n rows
+pub rows-list : {A : Type 0} (f : ℕ → List ℕ → A) (stride n r : ℕ) (memory : List ℕ) (xs : List A) (z : A) → n ≤ length xs
+    → ((k : ℕ) → k < n → getD xs k z ≡ f (r + k) (take stride (drop (k * stride) memory))) → take n xs ≡ ofRows f stride n r memory
+unfolding ofRows
+rows-list f stride zero r memory xs z l h = refl
+rows-list f stride (suc n) r memory [] z l h = absurd (omega arith)
+rows-list {A} f stride (suc n) r memory (x ∷ xs) z l h =
+    let first : x ≡ f r (take stride memory) = rw (zero-mul stride, add-zero r) at (h 0 (omega arith)) in
+    let rest = rows-list f stride n (r + 1) (drop stride memory) xs z (omega arith)
+    (λ k q.
+    let at : suc k * stride ≡ stride + k * stride = omega (arith, suc-mul k stride) in
+    let index : r + suc k ≡ r + 1 + k = omega arith in
+    rw (drop-drop (k * stride) stride memory, ← at, ← index) (h (suc k) (omega arith))) in
+    ap₂ _∷_ first rest
