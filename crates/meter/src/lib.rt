@@ -48,7 +48,7 @@ fn bad_call(d: usize, w: usize, memory: &[u8], key: &[u8]) -> u8
 
 // A whole slice, lent anew. A slice that is handed on is copied as one value of 16 bytes right after its two halves were stored, which
 // stalls the processor; of one that is lent anew the halves are passed each by itself.
-fn whole(bytes: &[u8]) -> &[u8]
+pub fn whole(bytes: &[u8]) -> &[u8]
     ensures { λ s. ⌜ now s ≡ now (bytes .entry) ⌝ }
 {
     &bytes[0..bytes.len()]

@@ -22,7 +22,7 @@ module _ {A : Type 0} (s : ℕ) (f g : ℕ → List ℕ → A) where
   first : (n r : ℕ) (memory other : List ℕ) → Agree (suc n) r memory other → f r (take s memory) ≡ g r (take s other)
   first n r memory other h = rw (zero-mul s, add-zero r) at (h 0 (omega arith))
 
-pub reads-same : (s : ℕ) (f g : ℕ → List ℕ → ℕ) (n r : ℕ) (memory other : List ℕ) → Agree s f g n r memory other → ofRows f s n r memory ≡ ofRows g s n r other
+pub reads-same : {A : Type 0} (s : ℕ) (f g : ℕ → List ℕ → A) (n r : ℕ) (memory other : List ℕ) → Agree s f g n r memory other → ofRows f s n r memory ≡ ofRows g s n r other
 unfolding ofRows
 reads-same s f g zero r memory other h = refl
 reads-same s f g (suc n) r memory other h =
