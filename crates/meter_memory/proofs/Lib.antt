@@ -4,3 +4,4 @@ pub mod Gather
 pub mod Agree
 pub mod Pairs
 pub mod Written
+pub mod Tried

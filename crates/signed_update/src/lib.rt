@@ -19,7 +19,13 @@ fn add_at(w: usize, memory: &[u8], r: usize, hash: u32, minus: bool, magnitude: 
     ensures { λ o. ⌜ o ≡ addedBy w hash (integer minus magnitude) (rowOf w (now (memory .entry)) r) ⌝ }
 {
     let sign = signed_number::times(hash::sign(hash), minus);
-    signed_row::add_in_row(row_at(w, memory, r), w, hash::scaled(hash, w), sign, magnitude)
+    signed_row::add_in_row(
+        row_at(w, memory, r),
+        w,
+        hash::scaled(hash, w),
+        sign,
+        magnitude,
+    )
 }
 
 // The groups that an update leaves in the rows, and the first status.
@@ -29,7 +35,14 @@ struct Trial {
 }
 
 // An amount added in the group of each row. Stores nothing.
-fn try_rows(d: usize, w: usize, memory: &[u8], hashes: &[u32; 8], minus: bool, magnitude: u32) -> Trial
+fn try_rows(
+    d: usize,
+    w: usize,
+    memory: &[u8],
+    hashes: &[u32; 8],
+    minus: bool,
+    magnitude: u32,
+) -> Trial
     requires { ⌜ RowsIn d w (length (now memory)) ⌝ }
     ensures { λ t. ⌜ t .status ≡ triedStatus d w (now (hashes .entry)) (integer minus magnitude) (now (memory .entry)) ⌝ }
     ensures { λ t. ⌜ Added d w (now (memory .entry)) (now (hashes .entry)) (integer minus magnitude) (t .groups) ⌝ }
@@ -62,7 +75,14 @@ fn store_at(row: &mut [u8], w: usize, hash: u32, x: Group)
 }
 
 // An update of each row, once every row is known to take it; the first status.
-pub fn update_rows(d: usize, w: usize, memory: &mut [u8], hashes: &[u32; 8], minus: bool, magnitude: u32) -> u8
+pub fn update_rows(
+    d: usize,
+    w: usize,
+    memory: &mut [u8],
+    hashes: &[u32; 8],
+    minus: bool,
+    magnitude: u32,
+) -> u8
     requires { ⌜ RowsIn d w (length (now memory)) ⌝ }
     ensures { λ s. ⌜ s ≡ triedStatus d w (now (hashes .entry)) (integer minus magnitude) (now (memory .entry)) ⌝ }
     ensures { λ s. ⌜ now (memory .exit) ≡ cond (eqb s 0) (addedRows d w (now (hashes .entry)) (integer minus magnitude) (now (memory .entry))) (now (memory .entry)) ⌝ }

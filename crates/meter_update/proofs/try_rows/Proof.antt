@@ -7,67 +7,63 @@ use borrow.Author.Needs.{needs}
 use mir.Val.{Fits}
 use mir.Syntax.{w64}
 use mathlib.Core.List.{List}
-use lib.ListN.{length, getD, drop, set, length-set}
+use lib.ListN.{getD, drop, set}
 use Rattle.group.specs.declared.Group.{Group}
 use Rattle.group.specs.declared.Outcome.{Outcome}
 use Rattle.group.specs.declared.Reading.{Reading}
 use Rattle.group.specs.Group.{read, added}
 use Rattle.group.proofs.Laws.{added-kept}
 use Rattle.geometry.specs.Geometry.{stride}
-use Rattle.answer.specs.Order.{earlier, earliest}
+use Rattle.answer.specs.Order.{earlier}
 use Rattle.meter_memory.specs.Rows.{rowOf, groupAt, ofRows, leastOr}
 use Rattle.answer.proofs.Order.{earlier-none}
 use Rattle.geometry.proofs.Widths.{slot-in, group-in}
 use Rattle.meter_row.specs.Row.{addedIn}
-use Rattle.meter_memory.proofs.Gather.{status-turn, status-end, rows-start, least-turn, least-end, least-first}
+use Rattle.meter_memory.proofs.Gather.{rows-start, least-turn, least-end, least-first}
 use Rattle.geometry.proofs.Widths.{one-row}
-use Rattle.meter_memory.proofs.Lists.{rows-read-all, filled-more}
-use Rattle.meter_row.specs.Slots.{addedStatus, addedValue, Added}
+use Rattle.meter_memory.proofs.Lists.{rows-read-all}
+use Rattle.meter_memory.proofs.Tried.{Tried, tried-more, tried-all}
+use Rattle.meter_row.specs.Slots.{addedStatus, addedValue}
 use Rattle.meter_update.proofs.try_rows.Statement.{statement}
 use Rattle.meter_update.proofs.try_rows.Tie as tie
 
--- the rows before row r are tried
-abbrev Tried : ℕ → ℕ → List ℕ → List ℕ → ℕ → List Group → ℕ → ℕ → ℕ → Type 0
-Tried d w memory slots amount groups status value r = (r ≤ d)
-    × (earlier status (earliest (ofRows (addedStatus w slots amount) (stride w) (d - r) r (drop (r * stride w) memory))) ≡ earliest (ofRows (addedStatus w slots amount) (stride w) d 0 memory))
+-- what row r is left with
+abbrev outcome : ℕ → List ℕ → ℕ → ℕ → List ℕ → Outcome
+outcome w slots amount r row = addedIn w row (getD slots r 0) amount
+
+-- the rows before row r are tried, and their values are in the least
+abbrev Valued : ℕ → ℕ → List ℕ → List ℕ → ℕ → List Group → ℕ → ℕ → ℕ → Type 0
+Valued d w memory slots amount groups status value r = Tried (outcome w slots amount) d w memory groups status r
     × (leastOr value (ofRows (addedValue w slots amount) (stride w) (d - r) r (drop (r * stride w) memory)) ≡ leastOr (2 ^ 64 - 1) (ofRows (addedValue w slots amount) (stride w) d 0 memory))
     × (0 < r → addedValue w slots amount 0 (rowOf w memory 0) < 2 ^ 64)
-    × Added r w memory slots amount groups
-    × (length groups ≡ 8)
 
 abbrev Inv-loop : tie.InvT-loop
-Inv-loop d w memory slots amount t₀ status₀ value₀ r₀ t status value r = Tried d w memory slots amount (t .groups) status value r
+Inv-loop d w memory slots amount t₀ status₀ value₀ r₀ t status value r = Valued d w memory slots amount (t .groups) status value r
 
 abbrev μ-loop : tie.MeasureT-loop
 μ-loop d w memory slots amount t₀ status₀ value₀ r₀ t status value r = d - r
 
 -- one row more, by the group, the status and the value that it is left with
-tried-more : (d w : ℕ) (memory slots : List ℕ) (amount : ℕ) (groups : List Group) (status value r : ℕ)
-    → Tried d w memory slots amount groups status value r → d ≤ 8 → r < d
+valued-more : (d w : ℕ) (memory slots : List ℕ) (amount : ℕ) (groups : List Group) (status value r : ℕ)
+    → Valued d w memory slots amount groups status value r → r < d
     → (o : Outcome) (v : ℕ) → o ≡ addedIn w (rowOf w memory r) (getD slots r 0) amount → v ≡ read (o .group) (getD slots r 0) .value → v < 2 ^ 64
-    → Tried d w memory slots amount (set groups r (o .group)) (earlier status (o .status)) (min value v) (r + 1)
-tried-more d w memory slots amount groups status value r i e h o v is v-is l =
+    → Valued d w memory slots amount (set groups r (o .group)) (earlier status (o .status)) (min value v) (r + 1)
+valued-more d w memory slots amount groups status value r i h o v is v-is l =
     let left = v-is ∙ ap (λ (x : Outcome). read (x .group) (getD slots r 0) .value) is in (
-      omega arith,
-      status-turn (addedStatus w slots amount) w d r memory status (o .status) h (ap (λ (x : Outcome). x .status) is) ∙ i .1,
-      least-turn (addedValue w slots amount) w d memory r value v h left ∙ i .2,
+      tried-more (outcome w slots amount) d w memory groups status r (i .0) h o is,
+      least-turn (addedValue w slots amount) w d memory r value v h left ∙ i .1,
       λ _. first-in r refl,
-      λ z k l. filled-more (λ (n : ℕ). addedIn w (rowOf w memory n) (getD slots n 0) amount .group) groups r (o .group) z (omega (arith, i .5)) (ap (λ (x : Outcome). x .group) is) (i .4 z) k l,
-      length-set groups r (o .group) ∙ i .5,
     )
   where
     first-in : (n : ℕ) → r ≡ n → addedValue w slots amount 0 (rowOf w memory 0) < 2 ^ 64
     first-in zero z = rw z at (rw (v-is ∙ ap (λ (x : Outcome). read (x .group) (getD slots r 0) .value) is) at l)
-    first-in (suc n) z = i .3 (omega (arith, z))
+    first-in (suc n) z = i .2 (omega (arith, z))
 
 loop-holds : tie.Need-loop-holds Inv-loop μ-loop
 loop-holds c = let a = c .before .args in (
-  omega arith,
-  rows-start (addedStatus (a .w) (a .slots .now) (a .amount)) (a .w) (a .d) (a .memory .now),
+  (omega arith, c .before .pre .1 .0 .1, rows-start (addedStatus (a .w) (a .slots .now) (a .amount)) (a .w) (a .d) (a .memory .now), λ z k h. absurd (omega arith)),
   ap (leastOr (2 ^ 64 - 1)) (rows-read-all (addedValue (a .w) (a .slots .now) (a .amount)) (stride (a .w)) (a .d) (a .memory .now)),
   λ h. absurd (omega arith),
-  λ z k h. absurd (omega arith),
-  search needs,
 )
 
 row-at-requires : tie.Need-row-at-requires Inv-loop μ-loop
@@ -176,12 +172,12 @@ module _ (c : tie.After-add-in-place Inv-loop μ-loop) where
       → groups ≡ set (turn .before .loop .t .groups) (turn .before .loop .r) (o .group)
       → status ≡ earlier (turn .before .loop .status) (o .status)
       → value ≡ min (turn .before .loop .value) v
-      → Tried (s .args .d) (s .args .w) (s .args .memory .now) (s .args .slots .now) (s .args .amount) groups status value (turn .before .loop .r + 1)
+      → Valued (s .args .d) (s .args .w) (s .args .memory .now) (s .args .slots .now) (s .args .amount) groups status value (turn .before .loop .r + 1)
   row-tried groups status value o v is v-is lt e f g =
       let a = s .args in
       let l = turn .before .loop in
       rw (e, f, g)
-      (tried-more (a .d) (a .w) (a .memory .now) (a .slots .now) (a .amount) (l .t .groups) (l .status) (l .value) (l .r) (l .inv) (s .pre .1 .0 .1) (turn .loop-test .taken) o v (is ∙ group-is) v-is lt)
+      (valued-more (a .d) (a .w) (a .memory .now) (a .slots .now) (a .amount) (l .t .groups) (l .status) (l .value) (l .r) (l .inv) (turn .loop-test .taken) o v (is ∙ group-is) v-is lt)
 
 loop-again : tie.Need-loop-again Inv-loop μ-loop
 loop-again c = let b = c .before in
@@ -208,13 +204,14 @@ loop-again c = let b = c .before in
 
 returns : tie.Need-returns Inv-loop μ-loop
 returns c = let a = c .before .before .before .args in
-    let l = c .before .loop in (
-      sym (status-end (addedStatus (a .w) (a .slots .now) (a .amount)) (a .w) (a .d) (l .r) (a .memory .now) (l .status) (omega arith)) ∙ l .inv .1,
+    let l = c .before .loop in
+    let all = tried-all (outcome (a .w) (a .slots .now) (a .amount)) (a .d) (a .w) (a .memory .now) (l .t .groups) (l .status) (l .r) (l .inv .0) (omega arith) in (
+      all .0,
       (
         sym (least-end (addedValue (a .w) (a .slots .now) (a .amount)) (a .w) (a .d) (a .memory .now) (l .r) (l .value) (omega arith))
-            ∙ l .inv .2
-            ∙ least-first (addedValue (a .w) (a .slots .now) (a .amount)) (a .w) (a .d) (a .memory .now) (c .before .before .before .pre .0) (l .inv .3 (omega (arith, c .before .before .before .pre .0))),
-        λ z k h. l .inv .4 z k (omega arith),
+            ∙ l .inv .1
+            ∙ least-first (addedValue (a .w) (a .slots .now) (a .amount)) (a .w) (a .d) (a .memory .now) (c .before .before .before .pre .0) (l .inv .2 (omega (arith, c .before .before .before .pre .0))),
+        all .1,
       ),
     )
 

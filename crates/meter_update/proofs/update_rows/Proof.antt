@@ -1,15 +1,16 @@
 use mathlib.Core.Path.{_≡_, refl, sym, ap, _∙_}
 use mathlib.Core.List.{List, []}
-use Prim.Native.Nat.{ℕ, _+_, _-_, _*_, _≤_}
+use Prim.Native.Nat.{ℕ, _+_, _-_, _*_, _/_, _≤_}
 use native.Mathlib.Omega.{arith}
 use borrow.Author.Needs.{needs}
 use borrow.Author.Tests.{ne-eqb}
-use lib.ListN.{length}
+use lib.ListN.{length, getD}
 use Rattle.group.specs.declared.Group.{Group}
-use Rattle.meter_memory.specs.Rows.{mapRows}
+use Rattle.meter_memory.specs.Rows.{mapRows, withGroup}
 use Rattle.geometry.proofs.Widths.{one-row}
-use Rattle.meter_memory.proofs.Lists.{lent, rowsFrom, rows-start, rows-turn, rows-end}
-use Rattle.meter_update.proofs.Stored.{groupStored, stored-added}
+use Rattle.meter_memory.proofs.Lists.{lent, rowsFrom, rows-start, rows-turn}
+use Rattle.meter_memory.proofs.Tried.{keptStored, stored-all}
+use Rattle.meter_row.specs.Row.{addedIn}
 use Rattle.meter_update.proofs.update_rows.Statement.{statement}
 use Rattle.meter_update.proofs.update_rows.Tie as tie
 
@@ -17,9 +18,16 @@ use Rattle.meter_update.proofs.update_rows.Tie as tie
 abbrev none : Group
 none = record { counts = []; merge = 0 }
 
+-- a group stored in row r, and the one that was kept for it
+abbrev storedIn : ℕ → List ℕ → ℕ → Group → List ℕ → List ℕ
+storedIn w slots r x row = withGroup w row (getD slots r 0 / 8) x
+
+abbrev stored : ℕ → List ℕ → List Group → ℕ → List ℕ → List ℕ
+stored w slots groups = keptStored (storedIn w slots) groups none
+
 abbrev Inv-loop : tie.InvT-loop
 Inv-loop d w memory₀ slots amount t stride r₀ memory r = (r ≤ d)
-    × (rowsFrom (groupStored w slots (t .groups) none) stride d r memory ≡ mapRows (groupStored w slots (t .groups) none) stride d 0 memory₀)
+    × (rowsFrom (stored w slots (t .groups)) stride d r memory ≡ mapRows (stored w slots (t .groups)) stride d 0 memory₀)
     × (length memory ≡ length memory₀)
 
 abbrev μ-loop : tie.MeasureT-loop
@@ -47,7 +55,7 @@ stride-requires c κs = c .before .before .before .before .pre .1 .0 .0
 
 loop-holds : tie.Need-loop-holds Inv-loop μ-loop
 loop-holds c = let a = c .before .before .before .before .before .args in
-    (omega arith, rows-start (groupStored (a .w) (a .slots .now) (c .before .before .try-rows .result .groups) none) (c .stride .result) (a .d) (a .memory .now), refl)
+    (omega arith, rows-start (stored (a .w) (a .slots .now) (c .before .before .try-rows .result .groups)) (c .stride .result) (a .d) (a .memory .now), refl)
 
 mul-a : tie.Need-mul-a Inv-loop μ-loop
 mul-a c = omega (arith, row-end c)
@@ -96,8 +104,8 @@ loop-again c = let i = c .before .before .before .before .before .before in
     let a = s .args in
     let back = c .before .before .update-row in
     let fit = row-end i in
-    let e = back .ensures ∙ ap (λ (row : List ℕ). groupStored (a .w) (a .slots .now) groups none (l .r) row) (lent (l .r * stride) stride (l .memory)) in
-    (omega arith, rows-turn (groupStored (a .w) (a .slots .now) groups none) stride (a .d) (l .r) (l .memory) (back .last .0) (omega arith) fit (omega (arith, fit)) e ∙ l .inv .1, omega arith)
+    let e = back .ensures ∙ ap (λ (row : List ℕ). stored (a .w) (a .slots .now) groups (l .r) row) (lent (l .r * stride) stride (l .memory)) in
+    (omega arith, rows-turn (stored (a .w) (a .slots .now) groups) stride (a .d) (l .r) (l .memory) (back .last .0) (omega arith) fit (omega (arith, fit)) e ∙ l .inv .1, omega arith)
 
 same-length-2 : tie.Need-same-length-2 Inv-loop μ-loop
 same-length-2 c = search needs
@@ -110,10 +118,16 @@ returns-2 c = let l = c .before .loop in
       sym (c .before .before .before .if1 .left) ∙ t .ensures .0,
       (
         t .ensures .1 .0,
-        sym (rows-end (groupStored (a .w) (a .slots .now) (t .result .groups) none) (stride .result) (a .d) (l .r) (l .memory) (omega arith))
-            ∙ l .inv .1
-            ∙ ap (λ (s : ℕ). mapRows (groupStored (a .w) (a .slots .now) (t .result .groups) none) s (a .d) 0 (a .memory .now)) (stride .ensures)
-            ∙ stored-added (a .d) (a .w) (a .memory .now) (a .slots .now) (a .amount) (t .result .groups) none (t .ensures .1 .1),
+        stored-all (storedIn (a .w) (a .slots .now)) (λ (r : ℕ) (row : List ℕ). addedIn (a .w) row (getD (a .slots .now) r 0) (a .amount)) (a .d) (a .w) (a .memory .now)
+            (t .result .groups)
+            none
+            (t .ensures .1 .1)
+            (stride .result)
+            (l .r)
+            (l .memory)
+            (stride .ensures)
+            (omega arith)
+            (l .inv .1),
       ),
     )
 

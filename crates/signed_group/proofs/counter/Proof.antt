@@ -26,9 +26,11 @@ bad-group-requires c κs = search needs
 returns : tie.Need-returns
 unfolding read
 returns c = let b = c .before .bad-group in
-    let g = c .before .before .before .args .g in
-    (ap (λ (x : ℕ). record { status = x; value = record { minus = false; magnitude = 0 }; level = 0 }) (b .ensures)
-    ∙ rw (ne-eqb (badGroup g) 0 (λ z. c .if1 .taken (b .ensures ∙ z))), omega arith)
+    let g = c .before .before .before .args .g in (
+      ap (λ (x : ℕ). record { status = x; value = record { minus = false; magnitude = 0 }; level = 0 }) (b .ensures)
+          ∙ rw (ne-eqb (badGroup g) 0 (λ z. c .if1 .taken (b .ensures ∙ z))),
+      omega arith,
+    )
 
 number-of-requires : tie.Need-number-of-requires
 number-of-requires c κs = search needs
@@ -43,8 +45,7 @@ returns-2 c = let d = c .before in
     let a = n .before .before .before .before .args in
     let value : d .counter-at .result .value ≡ signedOf (counterValue (decode (a .g)) (a .slot % 8)) =
     d .counter-at .ensures .0 ∙ ap (λ (w : ℕ). signedOf (counterValue (signedBlock 3 w (a .g .merge)) (a .slot % 8))) (n .number-of .ensures) in
-    let most = d .counter-at .ensures .1 .1 in
-    (
+    let most = d .counter-at .ensures .1 .1 in (
       rw (eq-eqb (badGroup (a .g)) 0 (good (n .before)))
           (ap₂ (λ (v : Signed) (l : ℕ). record { status = 0; value = v; level = l }) value (d .counter-at .ensures .1 .0)),
       omega (arith, most .1, top-most (d .counter-at .result .level) (most .0)),
