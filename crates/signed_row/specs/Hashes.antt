@@ -1,7 +1,9 @@
 -- What an update and an estimate do in the rows of a memory by the hashes of a key in the rows. The code's own terms.
 use Prim.Native.Nat.{ℕ, _/_, _<_}
 use mathlib.Core.Path.{_≡_}
+use mathlib.Core.Bool.{cond}
 use mathlib.Core.List.{List}
+use lib.Dec.{eqb}
 use lib.ListN.{getD}
 use lib.IntN.{ℤ}
 use Rattle.answer.specs.Order.{earliest}
@@ -32,10 +34,15 @@ triedStatus d w hashes amount memory = earliest (ofRows (addedStatus w hashes am
 abbrev pub hashAdded : ℕ → List ℕ → ℤ → ℕ → List ℕ → List ℕ
 hashAdded w hashes amount r row = storedBy w (getD hashes r 0) (addedBy w (getD hashes r 0) amount row .group) row
 
--- the rows that updates of d rows leave, and groups that are those updates', not yet stored
+-- the rows that updates of d rows leave
 abbrev pub addedRows : ℕ → ℕ → List ℕ → ℤ → List ℕ → List ℕ
 addedRows d w hashes amount memory = mapRows (hashAdded w hashes amount) (stride w) d 0 memory
 
+-- the memory after an update of a status: refused, it writes nothing
+abbrev pub addedIf : ℕ → ℕ → ℕ → List ℕ → ℤ → List ℕ → List ℕ
+addedIf status d w hashes amount memory = cond (eqb status 0) (addedRows d w hashes amount memory) memory
+
+-- groups that are those updates', not yet stored
 abbrev pub Added : ℕ → ℕ → List ℕ → List ℕ → ℤ → List Group → Type 0
 Added d w memory hashes amount groups = (z : Group) (r : ℕ) → r < d → getD groups r z ≡ addedBy w (getD hashes r 0) amount (rowOf w memory r) .group
 

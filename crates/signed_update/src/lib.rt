@@ -4,14 +4,13 @@ use group::Group;
 use group::Outcome;
 use meter_memory::row_at;
 ghost use mathlib.Core.Path.{_≡_};
-ghost use mathlib.Core.Bool.{true, cond};
-ghost use lib.Dec.{eqb};
+ghost use mathlib.Core.Bool.{true};
 ghost use lib.ListN.{length};
 ghost use Rattle.geometry.specs.Geometry.{validWidth, RowIn, RowsIn};
 ghost use Rattle.geometry.specs.Geometry as geometry;
 ghost use Rattle.meter_memory.specs.Rows.{rowOf};
 ghost use Rattle.signed_number.specs.Number.{integer};
-ghost use Rattle.signed_row.specs.Hashes.{addedBy, storedBy, triedStatus, Added, addedRows};
+ghost use Rattle.signed_row.specs.Hashes.{addedBy, storedBy, triedStatus, Added, addedIf};
 
 // What an amount, times the sign of a hash, leaves in the group of the hash's slot in row r. Stores nothing.
 fn add_at(w: usize, memory: &[u8], r: usize, hash: u32, minus: bool, magnitude: u32) -> Outcome
@@ -85,7 +84,7 @@ pub fn update_rows(
 ) -> u8
     requires { ⌜ RowsIn d w (length (now memory)) ⌝ }
     ensures { λ s. ⌜ s ≡ triedStatus d w (now (hashes .entry)) (integer minus magnitude) (now (memory .entry)) ⌝ }
-    ensures { λ s. ⌜ now (memory .exit) ≡ cond (eqb s 0) (addedRows d w (now (hashes .entry)) (integer minus magnitude) (now (memory .entry))) (now (memory .entry)) ⌝ }
+    ensures { λ s. ⌜ now (memory .exit) ≡ addedIf s d w (now (hashes .entry)) (integer minus magnitude) (now (memory .entry)) ⌝ }
 {
     let t = try_rows(d, w, memory, hashes, minus, magnitude);
     if t.status != 0 {

@@ -1,7 +1,7 @@
 use mathlib.Core.Path.{_≡_, refl, sym, ap, _∙_}
 use mathlib.Core.Bool.{true}
 use mathlib.Core.Logic.{⊎-elim}
-use Prim.Native.Nat.{ℕ, zero, suc, _+_, _-_, _*_, _/_, _^_, _≤_, _<_, min}
+use Prim.Native.Nat.{ℕ, zero, suc, _+_, _-_, _*_, _/_, _^_, _<_, min}
 use native.Mathlib.Omega.{arith}
 use borrow.Author.Needs.{needs}
 use mir.Val.{Fits}
@@ -17,10 +17,9 @@ use Rattle.geometry.specs.Geometry.{stride}
 use Rattle.answer.specs.Order.{earlier}
 use Rattle.meter_memory.specs.Rows.{rowOf, groupAt, ofRows, leastOr}
 use Rattle.answer.proofs.Order.{earlier-none}
-use Rattle.geometry.proofs.Widths.{slot-in, group-in}
+use Rattle.geometry.proofs.Widths.{slot-in, group-in, one-row}
 use Rattle.meter_row.specs.Row.{addedIn}
 use Rattle.meter_memory.proofs.Gather.{rows-start, least-turn, least-end, least-first}
-use Rattle.geometry.proofs.Widths.{one-row}
 use Rattle.meter_memory.proofs.Lists.{rows-read-all}
 use Rattle.meter_memory.proofs.Tried.{Tried, tried-more, tried-all}
 use Rattle.meter_row.specs.Slots.{addedStatus, addedValue}
