@@ -8,7 +8,7 @@ use lib.ListN.{getD, replicate}
 use Rattle.little_endian.specs.Bytes.{number, bytes}
 use Rattle.little_endian.proofs.Bytes.{number-bytes, bytes-length}
 use Rattle.group_layout.specs.Layout.{layout, valid}
-use Rattle.group_block.specs.Block.{Block, cap, Fits, shape, numberOf, block, counterAt, blockAs}
+use Rattle.group_block.specs.Block.{Block, cap, Fits, shape, numberOf, counterAt, blockAs}
 use Rattle.group_block.specs.Change.{change}
 use Rattle.group_block.proofs.Laws.{word-lt, shape-fill, fill-word, block-fits}
 use Rattle.group_slots.proofs.Changing.{change-fits, change-shape}

@@ -11,14 +11,17 @@ use lib.ListN.{length}
 use Rattle.little_endian.specs.Bytes.{number}
 use Rattle.laws.proofs.Lists.{Bytes}
 use Rattle.little_endian.proofs.Bytes.{number-lt, number-bytes, bytes-number}
-use Rattle.group_layout.specs.Layout.{valid}
+use Rattle.group_layout.specs.Layout.{layout, valid}
 use Rattle.group_layout.proofs.Laws.{valid-marks}
 use Rattle.group_block.specs.declared.Summed.{Summed}
-use Rattle.group_block.specs.Block.{Block, cap, Fits, shape, numberOf, block, counterAt, total}
-use Rattle.group_block.specs.Sum.{Sum, fits, over, add, unite, sumTotal}
-use Rattle.group_block.specs.Passed.{summed, summedAs}
-use Rattle.group_block.proofs.Adding.{Sound, total-lt}
-use Rattle.group_block.proofs.Laws.{word-lt, word-block, marks-block, block-is, block-fits}
+use Rattle.group_block.specs.Kind.{Kind}
+use Rattle.group_block.specs.Block.{BlockOf, Block, cap, Fits, shape, numberOf, allClean, blockAs, block, counterAt, total}
+use Rattle.group_block.specs.Sum.{SumOf, Sum, fits, over, add, unite, sumTotal}
+use Rattle.group_block.specs.Passed.{Passing, plain, summed, summedAs}
+use Rattle.group_block.proofs.Sums.{Sums, ordinary-sums}
+use Rattle.group_block.proofs.Codes.{Codes, ordinary-codes}
+use Rattle.group_block.proofs.Adding.{Sound, total-size}
+use Rattle.group_block.proofs.Laws.{all-clean, word-lt-of, word-block, word-block-of, marks-block, marks-block-of, block-is-of, block-fits}
 use Rattle.group_block.proofs.Adding.{add-total, add-sound, unite-total, unite-sound}
 use Rattle.group_slots.proofs.Places.{add-in-place}
 use Rattle.group.specs.declared.Group.{Group}
@@ -42,38 +45,64 @@ pub number-in : (xs : List ℕ) → Eight xs → number xs < cap 3
 unfolding cap
 number-in xs e = rw (e .long) at (number-lt xs (e .small))
 
--- Encoding and decoding are inverse: a valid group is the encoding of one block, and a block whose counters hold their values is
--- what its encoding stands for.
-pub encode-decode : (g : Group) → Eight (g .counts) → valid 3 (g .merge) ≡ true → encode (decode g) ≡ g
-unfolding encode decode
-encode-decode g e v =
-    rw (word-block 3 (number (g .counts)) (g .merge) (number-in (g .counts) e), marks-block 3 (number (g .counts)) (g .merge) v, ← e .long)
+-- Encoding and decoding are inverse: a valid group whose counters' bits are those of values is the encoding of one block, and a block
+-- whose counters hold their values is what its encoding stands for. For any kind of counter, and for the ordinary one.
+pub encode-decode-of : {K : Kind} (C : Codes K) (g : Group) → Eight (g .counts) → valid 3 (g .merge) ≡ true → allClean K (layout 3 (g .merge)) (number (g .counts)) ≡ true
+    → encode (blockAs K 3 (number (g .counts)) (g .merge)) ≡ g
+unfolding encode
+encode-decode-of {K} C g e v c =
+    rw (word-block-of C 3 (number (g .counts)) (g .merge) (number-in (g .counts) e) c, marks-block-of K 3 (number (g .counts)) (g .merge) v, ← e .long)
     (ap (λ (l : List ℕ). record { counts = l; merge = g .merge }) (bytes-number (g .counts) (e .small)))
 
-pub decode-encode : (b : Block 3) → Fits b → decode (encode b) ≡ b
-unfolding encode decode cap
-decode-encode b f = rw (number-bytes 8 (numberOf b) (word-lt b f)) (block-is b f)
+pub encode-decode : (g : Group) → Eight (g .counts) → valid 3 (g .merge) ≡ true → encode (decode g) ≡ g
+unfolding decode
+encode-decode g e v = encode-decode-of ordinary-codes g e v (all-clean (layout 3 (g .merge)) (number (g .counts)))
 
-pub encode-valid : (b : Block 3) → valid 3 (encode b .merge) ≡ true
+pub number-encode : {K : Kind} (C : Codes K) (b : BlockOf K 3) → Fits b → number (encode b .counts) ≡ numberOf b
+unfolding encode cap
+number-encode C b f = number-bytes 8 (numberOf b) (word-lt-of C b f)
+
+pub decode-encode-of : {K : Kind} (C : Codes K) (b : BlockOf K 3) → Fits b → blockAs K 3 (number (encode b .counts)) (encode b .merge) ≡ b
+unfolding encode
+decode-encode-of C b f = rw (number-encode C b f) (block-is-of C b f)
+
+pub decode-encode : (b : Block 3) → Fits b → decode (encode b) ≡ b
+unfolding decode
+decode-encode b f = decode-encode-of ordinary-codes b f
+
+pub encode-valid : {K : Kind} (b : BlockOf K 3) → valid 3 (encode b .merge) ≡ true
 unfolding encode
 encode-valid b = valid-marks (shape b)
 
 -- the code's answer, by what an addition or a union left
-settle-summed : (g : Group) (x : Sum 3) → summed x .over ≡ false → settle g x ≡ stored (summed x)
+pub settle-summed : {K : Kind} (P : Passing K) (g : Group) (x : SumOf K 3) → summedAs P x .over ≡ false → settle g x ≡ stored (summedAs P x)
 unfolding settle stored summedAs encode
-settle-summed g (fits b) e = refl
-settle-summed g (over s) e = absurd (true≢false e)
+settle-summed P g (fits b) e = refl
+settle-summed P g (over s) e = absurd (true≢false e)
+
+pub settle-past : {K : Kind} (P : Passing K) (g : Group) (x : SumOf K 3) → summedAs P x .over ≡ true → settle g x ≡ unchanged counterFull g
+unfolding settle summedAs
+settle-past P g (fits b) e = absurd (true≢false (sym e))
+settle-past P g (over s) e = refl
 
 -- by the sum's total
+pub fits-of : {K : Kind} (P : Passing K) (x : SumOf K 3) → Sound x → K .size (sumTotal x) < K .bound 3 → summedAs P x .over ≡ false
+unfolding summedAs Sound sumTotal
+fits-of P (fits b) f h = refl
+fits-of P (over s) f h = absurd (omega arith)
+
+pub over-of : {K : Kind} (S : Sums K) (P : Passing K) (x : SumOf K 3) → Sound x → K .bound 3 ≤ K .size (sumTotal x) → summedAs P x .over ≡ true
+unfolding summedAs Sound sumTotal
+over-of S P (fits b) f h = absurd (omega (arith, total-size S b f))
+over-of S P (over s) f h = refl
+
 pub settle-fits : (g : Group) (x : Sum 3) → Sound x → sumTotal x < 2 ^ 64 → settle g x ≡ stored (summed x)
-unfolding settle stored summedAs Sound sumTotal encode cap
-settle-fits g (fits b) f h = refl
-settle-fits g (over s) f h = absurd (omega arith)
+unfolding cap
+settle-fits g x f h = settle-summed plain g x (fits-of plain x f h)
 
 pub settle-over : (g : Group) (x : Sum 3) → Sound x → 2 ^ 64 ≤ sumTotal x → settle g x ≡ unchanged counterFull g
-unfolding settle Sound sumTotal cap
-settle-over g (fits b) f h = absurd (omega (arith, total-lt b f, cap-three))
-settle-over g (over s) f h = refl
+unfolding cap
+settle-over g x f h = settle-past plain g x (over-of ordinary-sums plain x f h)
 
 module _ (g : Group) (slot amount : ℕ) where
   pub added-invalid : valid 3 (g .merge) ≡ false → added g slot amount ≡ unchanged invalidContent g
@@ -91,7 +120,7 @@ module _ (g : Group) (slot amount : ℕ) where
 
   pub added-summed : (s : Summed) → valid 3 (g .merge) ≡ true → s .over ≡ false → s ≡ summed (add (decode g) (slot % 8) amount) → stored s ≡ added g slot amount
   unfolding added
-  added-summed s v o e = rw (v, e) (sym (settle-summed g (add (decode g) (slot % 8) amount) (sym (ap (λ (x : Summed). x .over) e) ∙ o)))
+  added-summed s v o e = rw (v, e) (sym (settle-summed plain g (add (decode g) (slot % 8) amount) (sym (ap (λ (x : Summed). x .over) e) ∙ o)))
 
   -- whether the counter holds the sum, by the group's validity
   pub holds-invalid : valid 3 (g .merge) ≡ false → holds g slot amount ≡ false

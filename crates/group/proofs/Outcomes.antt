@@ -8,19 +8,20 @@ use lib.ListN.{length}
 use Rattle.little_endian.proofs.Bytes.{bytes-length}
 use Rattle.group_layout.specs.Layout.{valid}
 use Rattle.group_block.specs.Block.{numberOf, counterAt}
-use Rattle.group_block.specs.Sum.{Sum, fits, over, add, unite}
+use Rattle.group_block.specs.Kind.{Kind}
+use Rattle.group_block.specs.Sum.{SumOf, Sum, fits, over, add, unite}
 use Rattle.group.specs.declared.Group.{Group}
 use Rattle.answer.specs.Numbers.{invalidContent}
 use Rattle.group.specs.declared.Reading.{Reading}
 use Rattle.group.specs.Group.{decode, encode, settle, unchanged, read, reading, added, unitedGroups}
 use Rattle.group.proofs.Laws.{encode-valid}
 
-settle-eight : (g : Group) (x : Sum 3) → length (g .counts) ≡ 8 → length (settle g x .group .counts) ≡ 8
+pub settle-eight : {K : Kind} (g : Group) (x : SumOf K 3) → length (g .counts) ≡ 8 → length (settle g x .group .counts) ≡ 8
 unfolding settle encode
 settle-eight g (fits b) h = bytes-length 8 (numberOf b)
 settle-eight g (over s) h = h
 
-settle-valid : (g : Group) (x : Sum 3) → settle g x .status ≡ 0 → valid 3 (settle g x .group .merge) ≡ true
+pub settle-valid : {K : Kind} (g : Group) (x : SumOf K 3) → settle g x .status ≡ 0 → valid 3 (settle g x .group .merge) ≡ true
 unfolding settle
 settle-valid g (fits b) e = encode-valid b
 settle-valid g (over s) e = absurd (omega arith)

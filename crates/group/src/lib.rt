@@ -59,7 +59,7 @@ pub fn counter(g: Group, slot: usize) -> Reading
 }
 
 // The group of the count bytes and merge bits that an addition or a union left.
-fn settled(s: Summed) -> Outcome
+pub fn settled(s: Summed) -> Outcome
     ensures { λ r. ⌜ r ≡ stored s ⌝ }
 {
     Outcome {
@@ -72,7 +72,7 @@ fn settled(s: Summed) -> Outcome
 }
 
 // A refused group, as it was.
-fn unchanged(status: u8, g: Group) -> Outcome
+pub fn unchanged(status: u8, g: Group) -> Outcome
     ensures { λ r. ⌜ r ≡ spec.unchanged status g ⌝ }
 {
     Outcome { status, group: g }

@@ -22,7 +22,7 @@ pub struct Counter {
 }
 
 // What an addition or a union leaves of a block: its count bytes as one number and its merge bits or, if `over`, the sum, which no
-// counter of the block's level holds.
+// counter of the block's level holds: its magnitude, and in `merge` 1 where it is below 0.
 pub struct Summed {
     pub over: bool,
     pub word: u64,

@@ -3,3 +3,5 @@ pub mod Places
 pub mod Bits
 pub mod Twins
 pub mod Changing
+pub mod Gaps
+pub mod AnyKind

@@ -12,10 +12,12 @@ use Rattle.group_layout.specs.Layout.{Layout, merged, halves, layout}
 use Rattle.group_layout.specs.Merged.{isMerged}
 unfoldable pub use Rattle.group_layout.specs.Layout.{levelOf}
 use Rattle.group_block.specs.declared.Counter.{Counter}
-use Rattle.group_block.specs.Block.{Block, counter, split, cap, Fits, shape, block, counterAt, total, blockAs}
+use Rattle.group_block.specs.Kind.{Kind}
+use Rattle.group_block.specs.Block.{BlockOf, Block, counter, split, cap, Fits, shape, block, counterAt, total, blockAs}
 use Rattle.group_block.specs.Change.{change}
 use Rattle.group_block.proofs.Laws.{shape-fill}
-use Rattle.group_block.proofs.Adding.{total-lt}
+use Rattle.group_block.proofs.Sums.{Sums}
+use Rattle.group_block.proofs.Adding.{total-size, total-lt}
 
 pub counter-halves : {n : ℕ} (l r : Block n) (k : ℕ) (P : Counter → Type 0)
     → (ltb k (2 ^ n) ≡ true → P (counterAt l k))
@@ -185,10 +187,10 @@ whole-total (split {n} l r) k e = absurd (omega (arith, below))
     below : counterAt (split l r) k .level ≤ n
     below = counter-halves l r k (λ c. c .level ≤ n) (λ e. level-le l k) (λ e. level-le r (k - 2 ^ n))
 
-pub halves-sum : {n : ℕ} (b : Block (suc n)) → Fits b → isMerged (shape b) ≡ false → total b < cap n + cap n
+pub halves-sum : {K : Kind} (S : Sums K) {n : ℕ} (b : BlockOf K (suc n)) → Fits b → isMerged (shape b) ≡ false → K .size (total b) < K .bound n + K .bound n
 unfolding total Fits shape isMerged
-halves-sum (counter v) f e = absurd (true≢false e)
-halves-sum (split l r) f e = omega (arith, total-lt l (f .0), total-lt r (f .1))
+halves-sum S (counter v) f e = absurd (true≢false e)
+halves-sum S (split l r) f e = omega (arith, S .triangle (total l) (total r), total-size S l (f .0), total-size S r (f .1))
 
 pub halves-total : {n : ℕ} (b : Block (suc n)) (k : ℕ) → Fits b → (counterAt b k .level ≡ suc n → ⊥) → total b < cap n + cap n
 unfolding total counterAt Fits

@@ -10,12 +10,14 @@ use lib.Bits.{bitAnd, bitOr, and-mask, or-shr, or-step}
 use Rattle.group_layout.specs.Layout.{bit, layout, valid, levelOf}
 use Rattle.group_layout.specs.Merged.{isMerged}
 use Rattle.group_layout.proofs.Laws.{own-bit}
+use Rattle.group_block.specs.Kind.{Kind}
 use Rattle.group_block.specs.Block.{cap, numberOf, block, counterAt, total, blockAs}
 use Rattle.group_block.specs.Change.{change}
 use Rattle.group_block.specs.Sum.{add}
 use Rattle.group_block.specs.Passed.{summed, summedAs}
 use Rattle.group_block.proofs.Adding.{Sound}
-use Rattle.group_block.proofs.Laws.{word-lt, shape-fill, word-block, marks-block, block-fits}
+use Rattle.group_block.proofs.Coded.{Coded, ordinary-coded}
+use Rattle.group_block.proofs.Laws.{word-lt, shape-fill-of, word-block, marks-block, block-fits, block-fits-of}
 use Rattle.group_block.proofs.Adding.{add-sound}
 use Rattle.group_slots.proofs.Changing.{change-fits}
 use Rattle.group_slots.proofs.Slots.{level-block, halves-sum}
@@ -68,11 +70,15 @@ module _ (w m k L q : ℕ) (h : w < cap 3) (i : k < 8) (e : counterAt (block 3 w
     value-put r f = omega (arith, new-word)
 
 -- a group whose own bit is clear has two halves
+pub bit-total-of : {K : Kind} (D : Coded K) (w m : ℕ) → w < cap 3 → m / 8 % 2 ≡ 0 → K .size (total (blockAs K 3 w m)) < K .bound 2 + K .bound 2
+unfolding blockAs bit
+bit-total-of {K} D w m h z =
+    halves-sum (D .sums) (blockAs K 3 w m) (block-fits-of (D .codes) 3 w m h)
+    (ap isMerged (shape-fill-of K (layout 3 m) w) ∙ own-bit 3 m (omega arith) ∙ ne-eqb (m / 8 % 2) 1 (λ e. omega arith))
+
 pub bit-total : (w m : ℕ) → w < cap 3 → m / 8 % 2 ≡ 0 → total (block 3 w m) < 2 ^ 33
-unfolding blockAs cap bit
-bit-total w m h z =
-    halves-sum (block 3 w m) (block-fits 3 w m h)
-    (ap isMerged (shape-fill (layout 3 m) w) ∙ own-bit 3 m (omega arith) ∙ ne-eqb (m / 8 % 2) 1 (λ e. omega arith))
+unfolding cap
+bit-total w m h z = bit-total-of ordinary-coded w m h z
 
 pub both-clear : (m n : ℕ) → bitAnd (bitOr m n / 8) 1 ≡ 0 → (m / 8 % 2 ≡ 0) × (n / 8 % 2 ≡ 0)
 both-clear m n z =

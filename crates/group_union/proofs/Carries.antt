@@ -20,11 +20,7 @@ use Rattle.group_block.specs.Passed.{summed, Sane, summedAs}
 use Rattle.group_block_laws.specs.Least.{Suits, Least}
 use Rattle.group_block.proofs.Laws.{cap-square, high-lt, shape-fill}
 use Rattle.group_block_laws.proofs.Least.{unite-least}
-
--- the lowest bit of each counter but the first
-unfoldable pub bounds : {n : ℕ} → Layout n → ℕ
-bounds merged = 0
-bounds (halves {n} l r) = (1 + bounds r) * cap n + bounds l
+use Rattle.group_slots.proofs.Gaps.{bounds}
 
 cap-above : (n : ℕ) → 1 < cap n
 unfolding cap

@@ -8,14 +8,20 @@ use borrow.Author.Tests.{lt-ltb, le-ltb, ltb-true, ltb-false, ne-eqb, eq-eqb}
 use lib.Dec.{ltb, eqb}
 use lib.Pow.{pow-pos, pow-mono}
 use lib.IntN.{ℤ, pos, negsuc, negℤ, natAbs, +ℤ-comm, +ℤ-assoc}
+use Rattle.group_layout.specs.Layout.{layout}
+use Rattle.group_layout.specs.Merged.{isMerged}
 use Rattle.group_block.specs.Kind.{cap}
+use Rattle.group_block.specs.Block.{total}
+use Rattle.group_block.proofs.Laws.{block-fits-of, block-merged-of}
+use Rattle.group_block.proofs.Adding.{total-size}
 use Rattle.group_block.proofs.Sums.{Sums}
 use Rattle.group_block.proofs.Codes.{Codes}
 use Rattle.group_block.proofs.Coded.{Coded}
-use Rattle.signed_number.specs.Number.{timesSign, integer}
-use Rattle.signed_number.proofs.Integers.{triangle, abs-neg}
+use Rattle.signed_number.specs.declared.Signed.{Signed}
+use Rattle.signed_number.specs.Number.{timesSign, integer, integerOf}
+use Rattle.signed_number.proofs.Integers.{triangle, abs-neg, minus-nonzero, size-is}
 use Rattle.signed_block.specs.Signed.{top, signBits, signRead, notMinusZero, signed}
-use Rattle.signed_block.specs.Passed.{signBit, signedPassing}
+use Rattle.signed_block.specs.Passed.{signBit, signedPassing, signedBlock, Canonical}
 
 -- the sign bit and the magnitude are the counter's bits
 pub top-twice : (n : ℕ) → top n + top n ≡ cap n
@@ -44,6 +50,11 @@ pub top-most : (n : ℕ) → n ≤ 3 → top n ≤ 2 ^ 63
 unfolding top
 top-most n h = top-mono n 3 h
 
+-- the counters of a block of two halves, in its halves, hold less
+pub top-half : (n : ℕ) → n ≤ 2 → top n ≤ 2 ^ 31
+unfolding top
+top-half n h = top-mono n 2 h
+
 pub signed-sums : Sums signed
 signed-sums = record { comm = +ℤ-comm; assoc = +ℤ-assoc; triangle = triangle; double = top-double }
 
@@ -58,12 +69,16 @@ unfolding signBits notMinusZero
 bits-clean n (pos m) h = rw (ne-eqb m (top n) (λ e. omega arith))
 bits-clean n (negsuc m) h = rw (ne-eqb (top n + suc m) (top n) (λ e. omega arith))
 
+pub read-minus : (n w : ℕ) → top n ≤ w → signRead n w ≡ negℤ (pos (w - top n))
+unfolding signRead
+read-minus n w h = rw (le-ltb w (top n) h)
+
 read-bits : (n : ℕ) (v : ℤ) → natAbs v < top n → signRead n (signBits n v) ≡ v
 unfolding signBits signRead
 read-bits n (pos m) h = rw (lt-ltb m (top n) h)
 read-bits n (negsuc m) h =
     let e : top n + suc m - top n ≡ suc m = omega arith in
-    rw (le-ltb (top n + suc m) (top n) (omega arith), e)
+    read-minus n (top n + suc m) (omega arith) ∙ ap (λ (k : ℕ). negℤ (pos k)) e
 
 read-holds : (n w : ℕ) → w < cap n → natAbs (signRead n w) < top n
 unfolding signRead
@@ -73,10 +88,32 @@ read-holds n w h = go (ltb w (top n)) refl
     go true e = ltb-true w (top n) e
     go false e = rw (abs-neg (pos (w - top n))) (omega (arith, top-twice n, top-pos n))
 
-bits-neg : (n m : ℕ) → 0 < m → signBits n (negℤ (pos m)) ≡ top n + m
+pub bits-neg : (n m : ℕ) → 0 < m → signBits n (negℤ (pos m)) ≡ top n + m
 unfolding signBits
 bits-neg n zero h = absurd (omega arith)
 bits-neg n (suc m) h = refl
+
+-- the bits of a value by its sign and its magnitude, and how a sum that no counter holds is passed
+pub bits-minus : (n : ℕ) (s : Signed) → Canonical s → s .minus ≡ true → signBits n (integerOf s) ≡ top n + s .magnitude
+unfolding timesSign
+bits-minus n s c e = rw e (bits-neg n (s .magnitude) (minus-nonzero s c e))
+
+pub bits-plus : (n : ℕ) (s : Signed) → s .minus ≡ false → signBits n (integerOf s) ≡ s .magnitude
+unfolding timesSign signBits
+bits-plus n s e = rw e
+
+neg-bit : (m : ℕ) → 0 < m → signBit (negℤ (pos m)) ≡ 1
+unfolding signBit
+neg-bit zero h = absurd (omega arith)
+neg-bit (suc m) h = refl
+
+pub sign-minus : (s : Signed) → Canonical s → s .minus ≡ true → signBit (integerOf s) ≡ 1
+unfolding timesSign
+sign-minus s c e = rw e (neg-bit (s .magnitude) (minus-nonzero s c e))
+
+pub sign-plus : (s : Signed) → s .minus ≡ false → signBit (integerOf s) ≡ 0
+unfolding timesSign signBit
+sign-plus s e = rw e
 
 -- bits that are not minus zero are those of the value that they stand for
 bits-read : (n w : ℕ) → w < cap n → notMinusZero n w ≡ true → signBits n (signRead n w) ≡ w
@@ -104,3 +141,12 @@ back-is (negsuc m) = refl
 
 abbrev pub signed-coded : Coded signed
 signed-coded = record { sums = signed-sums; codes = signed-codes; passing = signedPassing; back-is = back-is }
+
+-- a block's total by sign and magnitude
+pub total-small : (n w m : ℕ) → w < cap n → (s : Signed) → integerOf s ≡ total (signedBlock n w m) → s .magnitude < top n
+total-small n w m h s e = rw (size-is s (total (signedBlock n w m)) e) (total-size signed-sums (signedBlock n w m) (block-fits-of signed-codes n w m h))
+
+-- that of one counter is what it stands for
+pub total-merged : (n w m : ℕ) → isMerged (layout n m) ≡ true → signRead n w ≡ total (signedBlock n w m)
+unfolding total
+total-merged n w m e = rw (block-merged-of signed n w m e)

@@ -12,7 +12,7 @@ use signed_number::Signed;
 use signed_number::plus;
 ghost use mathlib.Core.Path.{_≡_};
 ghost use Prim.Native.Nat.{ℕ, _+_, _≤_, _<_, _^_};
-ghost use lib.IntN.{_+ℤ_, natAbs};
+ghost use lib.IntN.{_+ℤ_};
 ghost use Rattle.group_block.specs.Block.{cap};
 ghost use Rattle.group_block.specs.Block as block_spec;
 ghost use Rattle.group_block.specs.Sum.{sumTotal};
@@ -20,7 +20,7 @@ ghost use Rattle.group_block.specs.Sum as sum_spec;
 ghost use Rattle.signed_number.specs.Number.{integerOf};
 ghost use Rattle.signed_block.specs.Signed.{signBits, signRead};
 ghost use Rattle.signed_block.specs.Signed as spec;
-ghost use Rattle.signed_block.specs.Passed.{signedBlock, signedSummed, signedSum, SignedSane, SignedApt, Canonical};
+ghost use Rattle.signed_block.specs.Passed.{signedBlock, signedSummed, signedSum, SignedSane, SignedApt, SignedRoom, Canonical};
 
 // The sign bit of a counter of a level.
 pub fn top(level: u32) -> u64
@@ -54,8 +54,9 @@ pub fn bits(level: u32, value: Signed) -> u64
     requires { ⌜ level ≤ 3 ⌝ ∗ ⌜ value .magnitude < spec.top level ⌝ ∗ ⌜ Canonical value ⌝ }
     ensures { λ r. ⌜ r ≡ signBits level (integerOf value) ⌝ }
 {
+    let sign = top(level);
     if value.minus {
-        return top(level) + value.magnitude;
+        return sign + value.magnitude;
     }
     value.magnitude
 }
@@ -72,7 +73,10 @@ pub fn total(level: u32, word: u64, merge: u8) -> Signed
     let half = level - 1;
     let left = left_half(half, word, merge);
     let right = right_half(half, word, merge);
-    plus(total(half, left.word, left.merge), total(half, right.word, right.merge))
+    plus(
+        total(half, left.word, left.merge),
+        total(half, right.word, right.merge),
+    )
 }
 
 // A sum stored in the one counter of a block, if it holds it.
@@ -94,11 +98,18 @@ pub fn held(level: u32, sum: Signed) -> Summed
     }
 }
 
+// The sum of two values stored so.
+fn held_sum(level: u32, a: Signed, b: Signed) -> Summed
+    requires { ⌜ level ≤ 3 ⌝ ∗ ⌜ a .magnitude + b .magnitude < 2 ^ 64 ⌝ }
+    ensures { λ r. ⌜ r ≡ signedSummed (sum_spec.held level (integerOf a +ℤ integerOf b)) ⌝ }
+{
+    held(level, plus(a, b))
+}
+
 // The total of what an addition or a union left.
 fn sum_total(level: u32, s: Summed) -> Signed
     requires { ⌜ level ≤ 3 ⌝ ∗ ⌜ SignedApt level s ⌝ }
     ensures { λ r. ⌜ integerOf r ≡ sumTotal (signedSum level s) ⌝ }
-    ensures { λ r. ⌜ r .magnitude ≡ natAbs (sumTotal (signedSum level s)) ⌝ }
 {
     if s.over {
         return Signed {
@@ -111,15 +122,15 @@ fn sum_total(level: u32, s: Summed) -> Signed
 
 // The sum of two halves as one counter.
 fn formed(half: u32, left: Summed, right: Summed) -> Summed
-    requires { ⌜ half ≤ 2 ⌝ ∗ ⌜ SignedApt half left ⌝ ∗ ⌜ SignedApt half right ⌝ ∗ ⌜ natAbs (sumTotal (signedSum half left)) + natAbs (sumTotal (signedSum half right)) < 2 ^ 64 ⌝ }
+    requires { ⌜ half ≤ 2 ⌝ ∗ ⌜ SignedApt half left ⌝ ∗ ⌜ SignedApt half right ⌝ ∗ ⌜ SignedRoom half left right ⌝ }
     ensures { λ r. ⌜ r ≡ signedSummed (sum_spec.held (half + 1) (sumTotal (signedSum half left) +ℤ sumTotal (signedSum half right))) ⌝ }
 {
-    held(half + 1, plus(sum_total(half, left), sum_total(half, right)))
+    held_sum(half + 1, sum_total(half, left), sum_total(half, right))
 }
 
 // Two halves side by side or, where one is over, their sum as one counter.
 fn join(half: u32, left: Summed, right: Summed) -> Summed
-    requires { ⌜ half ≤ 2 ⌝ ∗ ⌜ SignedApt half left ⌝ ∗ ⌜ SignedApt half right ⌝ ∗ ⌜ natAbs (sumTotal (signedSum half left)) + natAbs (sumTotal (signedSum half right)) < 2 ^ 64 ⌝ }
+    requires { ⌜ half ≤ 2 ⌝ ∗ ⌜ SignedApt half left ⌝ ∗ ⌜ SignedApt half right ⌝ ∗ ⌜ SignedRoom half left right ⌝ }
     ensures { λ r. ⌜ r ≡ signedSummed (sum_spec.join (signedSum half left) (signedSum half right)) ⌝ }
 {
     if left.over {
@@ -141,7 +152,7 @@ pub fn add(level: u32, word: u64, merge: u8, slot: usize, amount: Signed) -> Sum
     ensures { λ r. ⌜ r ≡ signedSummed (sum_spec.add (signedBlock level word merge) slot (integerOf amount)) ⌝ }
 {
     if is_merged(level, merge) {
-        return held(level, plus(value(level, word), amount));
+        return held_sum(level, value(level, word), amount);
     }
     let half = level - 1;
     let left = left_half(half, word, merge);
@@ -163,10 +174,14 @@ pub fn unite(level: u32, word: u64, merge: u8, other_word: u64, other_merge: u8)
     ensures { λ r. ⌜ r ≡ signedSummed (sum_spec.unite (signedBlock level word merge) (signedBlock level «other_word» «other_merge»)) ⌝ }
 {
     if is_merged(level, merge) {
-        return held(level, plus(value(level, word), total(level, other_word, other_merge)));
+        return held_sum(
+            level,
+            value(level, word),
+            total(level, other_word, other_merge),
+        );
     }
     if is_merged(level, other_merge) {
-        return held(level, plus(total(level, word, merge), value(level, other_word)));
+        return held_sum(level, total(level, word, merge), value(level, other_word));
     }
     let half = level - 1;
     let left = left_half(half, word, merge);

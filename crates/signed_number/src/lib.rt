@@ -1,7 +1,9 @@
 // Integers as sign and magnitude, as the counters of a signed meter hold them.
 ghost use mathlib.Core.Path.{_≡_};
+ghost use mathlib.Core.Bool.{cond, Bool·beq};
 ghost use Prim.Native.Nat.{_+_, _≤_, _<_, _^_};
-ghost use lib.IntN.{pos, negℤ, _+ℤ_};
+ghost use lib.Dec.{ltb};
+ghost use lib.IntN.{_+ℤ_, natAbs, subℕ};
 ghost use Rattle.signed_number.specs.Number.{integer, integerOf, signedOf};
 
 pub struct Signed {
@@ -36,33 +38,54 @@ pub fn to_int(minus: bool, magnitude: u64) -> i64
     if minus { -value } else { value }
 }
 
-// Two integers added. Zero is plus.
+// A sign and a magnitude with zero as plus.
+pub fn canonical(minus: bool, magnitude: u64) -> Signed
+    ensures { λ r. ⌜ r ≡ signedOf (integer minus magnitude) ⌝ }
+{
+    Signed {
+        minus: if magnitude == 0 { false } else { minus },
+        magnitude,
+    }
+}
+
+// The sign of a sum: that of the larger magnitude.
+fn sum_sign(a: Signed, b: Signed) -> bool
+    ensures { λ r. ⌜ r ≡ cond (ltb (a .magnitude) (b .magnitude)) (b .minus) (a .minus) ⌝ }
+{
+    if a.magnitude < b.magnitude {
+        return b.minus;
+    }
+    a.minus
+}
+
+// By how much two magnitudes differ.
+fn distance(a: u64, b: u64) -> u64
+    ensures { λ r. ⌜ r ≡ natAbs (subℕ a b) ⌝ }
+{
+    if a < b {
+        return b - a;
+    }
+    a - b
+}
+
+// The magnitude of a sum. Both cases are computed, so that no branch is taken by signs, which are as good as random.
+fn sum_magnitude(a: Signed, b: Signed) -> u64
+    requires { ⌜ a .magnitude + b .magnitude < 2 ^ 64 ⌝ }
+    ensures { λ r. ⌜ r ≡ cond (Bool·beq (a .minus) (b .minus)) (a .magnitude + b .magnitude) (natAbs (subℕ (a .magnitude) (b .magnitude))) ⌝ }
+{
+    let sum = a.magnitude + b.magnitude;
+    let apart = distance(a.magnitude, b.magnitude);
+    if a.minus == b.minus {
+        return sum;
+    }
+    apart
+}
+
+// Two integers added.
 pub fn plus(a: Signed, b: Signed) -> Signed
     requires { ⌜ a .magnitude + b .magnitude < 2 ^ 64 ⌝ }
     ensures { λ r. ⌜ r ≡ signedOf (integerOf a +ℤ integerOf b) ⌝ }
     ensures { λ r. ⌜ r .magnitude ≤ a .magnitude + b .magnitude ⌝ }
 {
-    if a.minus == b.minus {
-        let sum = a.magnitude + b.magnitude;
-        return Signed {
-            minus: if sum == 0 { false } else { a.minus },
-            magnitude: sum,
-        };
-    }
-    if a.magnitude == b.magnitude {
-        return Signed {
-            minus: false,
-            magnitude: 0,
-        };
-    }
-    if a.magnitude < b.magnitude {
-        return Signed {
-            minus: b.minus,
-            magnitude: b.magnitude - a.magnitude,
-        };
-    }
-    Signed {
-        minus: a.minus,
-        magnitude: a.magnitude - b.magnitude,
-    }
+    canonical(sum_sign(a, b), sum_magnitude(a, b))
 }

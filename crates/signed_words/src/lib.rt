@@ -1,6 +1,12 @@
 // What a signed group's calls compute of its count bytes, taken as one number, and its merge byte: whether a counter is minus zero,
 // every counter with the other sign, the counter of a slot, and an addition that its counter holds.
+use group_sums::with_value;
+use signed_block::bits;
+use signed_block::top;
+use signed_block::total;
+use signed_block::value;
 use signed_number::Signed;
+use signed_number::canonical;
 use signed_number::plus;
 ghost use mathlib.Core.Path.{_≡_};
 ghost use mathlib.Core.Bool.{true};
@@ -9,6 +15,7 @@ ghost use Rattle.group_layout.specs.Layout.{layout, valid, levelOf};
 ghost use Rattle.group_block.specs.Block.{numberOf, allClean, counterValue};
 ghost use Rattle.signed_number.specs.Number.{integerOf, signedOf};
 ghost use Rattle.signed_block.specs.Signed.{signed, timesBlock};
+ghost use Rattle.signed_block.specs.Signed as sign_spec;
 ghost use Rattle.signed_block.specs.Passed.{signedBlock};
 ghost use Rattle.signed_words.specs.Words as spec;
 
@@ -21,10 +28,13 @@ fn tops(merge: u8) -> u64
 }
 
 // Of these sign bits those of counters whose magnitude is not 0: what a magnitude and the largest one add up to passes the largest.
-fn nonzero(word: u64, tops: u64) -> u64
+fn nonzero(word: u64, merge: u8) -> u64
+    requires { ⌜ valid 3 merge ≡ true ⌝ }
+    ensures { λ r. ⌜ r ≡ spec.nonzero (layout 3 merge) word ⌝ }
 {
-    let rest = tops ^ 18446744073709551615;
-    ((word & rest) + rest) & tops
+    let signs = tops(merge);
+    let rest = signs ^ 18446744073709551615;
+    ((word & rest) + rest) & signs
 }
 
 // Whether no counter is minus zero: no sign bit is set where the magnitude is 0.
@@ -32,14 +42,88 @@ pub fn no_minus_zero(word: u64, merge: u8) -> bool
     requires { ⌜ valid 3 merge ≡ true ⌝ }
     ensures { λ r. ⌜ r ≡ allClean signed (layout 3 merge) word ⌝ }
 {
-    let t = tops(merge);
-    (nonzero(word, t) ^ t) & word == 0
+    (nonzero(word, merge) ^ tops(merge)) & word == 0
 }
 
 // The count bytes, taken as one number, with the other sign in every counter that is not 0.
-pub fn negated(word: u64, merge: u8) -> u64
+fn negated(word: u64, merge: u8) -> u64
     requires { ⌜ valid 3 merge ≡ true ⌝ ∗ ⌜ allClean signed (layout 3 merge) word ≡ true ⌝ }
     ensures { λ r. ⌜ r ≡ numberOf (timesBlock true (signedBlock 3 word merge)) ⌝ }
 {
-    word ^ nonzero(word, tops(merge))
+    word ^ nonzero(word, merge)
+}
+
+// The count bytes, taken as one number, with every counter times a sign.
+pub fn times_sign(minus: bool, word: u64, merge: u8) -> u64
+    requires { ⌜ valid 3 merge ≡ true ⌝ ∗ ⌜ allClean signed (layout 3 merge) word ≡ true ⌝ }
+    ensures { λ r. ⌜ r ≡ numberOf (timesBlock minus (signedBlock 3 word merge)) ⌝ }
+{
+    if minus {
+        return negated(word, merge);
+    }
+    word
+}
+
+// Whether the sum of all counters of a group and of all of another times a sign has a magnitude below 2 ^ 63. It has where neither
+// group is one counter.
+pub fn sum_fits(minus: bool, word: u64, merge: u8, other_word: u64, other_merge: u8) -> bool
+    ensures { λ r. ⌜ r ≡ spec.sumFits minus word merge «other_word» «other_merge» ⌝ }
+{
+    if ((merge | other_merge) >> 3) & 1 == 0 {
+        return true;
+    }
+    let other = total(3, other_word, other_merge);
+    let signed = Signed {
+        minus: minus != other.minus,
+        magnitude: other.magnitude,
+    };
+    plus(total(3, word, merge), signed).magnitude < 9223372036854775808
+}
+
+// A counter's value and level.
+pub struct Counter {
+    pub value: Signed,
+    pub level: u32,
+}
+
+// The counter that a slot is in.
+pub fn counter_at(word: u64, merge: u8, slot: usize) -> Counter
+    requires { ⌜ valid 3 merge ≡ true ⌝ ∗ ⌜ slot < 8 ⌝ }
+    ensures { λ r. ⌜ r .value ≡ signedOf (counterValue (signedBlock 3 word merge) slot) ⌝ }
+    ensures { λ r. ⌜ r .level ≡ levelOf (layout 3 merge) slot ⌝ }
+    ensures { λ r. ⌜ r .level ≤ 3 ⌝ }
+    ensures { λ r. ⌜ r .value .magnitude < sign_spec.top (r .level) ⌝ }
+{
+    let c = group_sums::counter_at(word, merge, slot);
+    let v = value(c.level, c.value);
+    Counter {
+        value: canonical(v.minus, v.magnitude),
+        level: c.level,
+    }
+}
+
+// The count bytes, taken as one number, after an addition that its counter holds; 0 elsewhere.
+pub struct InPlace {
+    pub held: bool,
+    pub word: u64,
+}
+
+// An amount added to the counter that a slot is in, if the counter holds the sum. The layout stays.
+pub fn add_in_place(word: u64, merge: u8, slot: usize, amount: Signed) -> InPlace
+    requires { ⌜ valid 3 merge ≡ true ⌝ ∗ ⌜ slot < 8 ⌝ ∗ ⌜ allClean signed (layout 3 merge) word ≡ true ⌝ ∗ ⌜ amount .magnitude < 2 ^ 63 ⌝ }
+    ensures { λ r. ⌜ r .held ≡ spec.holdsAt word merge slot (integerOf amount) ⌝ }
+    ensures { λ r. ⌜ (r .held ≡ true → spec.Stays word merge slot (integerOf amount) (r .word)) ⌝ }
+{
+    let c = counter_at(word, merge, slot);
+    let sum = plus(c.value, amount);
+    if sum.magnitude >= top(c.level) {
+        return InPlace {
+            held: false,
+            word: 0,
+        };
+    }
+    InPlace {
+        held: true,
+        word: with_value(word, merge, slot, bits(c.level, sum)),
+    }
 }
