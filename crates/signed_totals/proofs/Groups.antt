@@ -51,21 +51,18 @@ module _ {t : Totals signed} {g : ℕ} {x : Group} (h : Holds t g x) where
   number-in : number (x .counts) < cap 3
   number-in = rw (h .is, number-encode signed-codes (h .block) (h .sound)) (word-lt-of signed-codes (h .block) (h .sound))
 
-  -- what a slot reads: the total of the block of its counter's level that the slot is in
-  abbrev levelAt : ℕ → ℕ
-  levelAt slot = levelOf (layout 3 (x .merge)) (slot % 8)
+  -- what a slot reads: its counter's level, and the total of the block of that level that the slot is in
+  pub level-is : (slot : ℕ) → read x slot .level ≡ levelOf (layout 3 (x .merge)) (slot % 8)
+  unfolding read
+  level-is slot = rw (eq-eqb (badGroup x) 0 good)
 
   pub read-is : (slot : ℕ) → slot / 8 ≡ g
-      → read x slot ≡ record { status = 0; value = signedOf (t (levelAt slot) (slot / 2 ^ levelAt slot)); level = levelAt slot }
+      → read x slot ≡ record { status = 0; value = signedOf (t (read x slot .level) (slot / 2 ^ read x slot .level)); level = read x slot .level }
   unfolding read
   read-is slot e =
       rw (eq-eqb (badGroup x) 0 good, decode-is, layout-is)
       (ap (λ (v : ℤ). record { status = 0; value = signedOf v; level = levelOf (shape (h .block)) (slot % 8) })
       (value-counts signed t g slot (h .block) e (h .counts)))
-
-  pub level-is : (slot : ℕ) → read x slot .level ≡ levelAt slot
-  unfolding read
-  level-is slot = rw (eq-eqb (badGroup x) 0 good)
 
 -- a cleared group holds totals of nothing
 read-zero : (n : ℕ) → signRead n 0 ≡ pos 0
