@@ -23,7 +23,7 @@ use Rattle.signed_claim.proofs.Steps.{start-holds, update-step, combine
 use Rattle.signed_claim.proofs.Answers.{counters, estimate-is, copy-taken, copy-left}
 
 -- a refused call leaves the memory as it was
-kept : (d w d′ w′ : ℕ) (call : Call) (memory : List ℕ) → eqb (done d w d′ w′ call memory .status) 0 ≡ false → done d w d′ w′ call memory .memory ≡ memory
+pub kept : (d w d′ w′ : ℕ) (call : Call) (memory : List ℕ) → eqb (done d w d′ w′ call memory .status) 0 ≡ false → done d w d′ w′ call memory .memory ≡ memory
 unfolding done cleared updated combinedMeters
 kept d w d′ w′ clear memory e = finish-kept _ _ _ _ e
 kept d w d′ w′ (update key amount) memory e = finish-kept _ _ _ _ e
