@@ -1,10 +1,9 @@
--- Refused calls of every kind, with each number that the kind can give; and what calls give on damaged contents. Document 02, request 3.
--- Cited by theorems.
+-- Refused calls of every kind, with each number of the kind, and calls on damaged contents. Document 02, request 3. Cited by theorems.
 use Prim.Native.Nat.{ℕ, _<_}
 use mathlib.Core.Path.{_≡_}
 use mathlib.Core.Bool.{true, false}
 use mathlib.Core.List.{List, [], _∷_, _++_}
-use lib.IntN.{ℤ, pos}
+use lib.IntN.{pos}
 use lib.ListN.{replicate}
 use Rattle.signed_claim.specs.Calls.{Call, clear, update, estimate, combine, from, raw, Calls, none, then, traffic, run, done, Faithful}
 use Rattle.signed_cases.specs.Cases.{minus-10, plus-12, plus-16, minus, _▸_}

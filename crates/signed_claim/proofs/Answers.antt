@@ -1,8 +1,8 @@
 -- What a memory that holds a traffic answers: its counters, the estimate of every key, and a copy of it taken away.
 use mathlib.Core.Path.{_≡_, refl, sym, ap, ap₂, _∙_}
 use mathlib.Core.Bool.{true}
-use mathlib.Core.List.{List, [], _∷_, _++_}
-use Prim.Native.Nat.{ℕ, zero, suc, _+_, _*_, _/_, _%_, _^_, _≤_, _<_}
+use mathlib.Core.List.{List, [], _∷_}
+use Prim.Native.Nat.{ℕ, zero, suc, _+_, _*_, _/_, _%_, _^_, _<_}
 use native.Mathlib.Nat.{zero-mul}
 use native.Mathlib.Omega.{arith}
 use borrow.Author.Tests.{eq-eqb}
@@ -32,7 +32,7 @@ use Rattle.signed_group.specs.Group.{combined}
 use Rattle.signed_totals.proofs.Groups as group
 use Rattle.signed_row.specs.Row.{readRow, readStatus, rowFigure, sourceStatus}
 use Rattle.signed.specs.Signed.{badShape, badCall, estimated, signedAnswer, combinedMeters}
-use Rattle.signed_claim.specs.Traffic.{Pair, blockTotal, timesPairs}
+use Rattle.signed_claim.specs.Traffic.{Pair, blockTotal}
 use Rattle.signed_claim.specs.Claim.{upTo}
 use Rattle.signed_claim.proofs.Totals.{totals-itself}
 use Rattle.signed_claim.proofs.Holds.{Holds, counterOf}

@@ -1,20 +1,18 @@
 -- What an accepted call of a signed meter leaves, group by group.
 use mathlib.Core.Path.{_≡_, sym, ap, _∙_}
-use mathlib.Core.Bool.{Bool, true}
+use mathlib.Core.Bool.{Bool}
 use mathlib.Core.List.{List, [], _∷_}
 use Prim.Native.Nat.{ℕ, _/_, _<_}
-use native.Mathlib.Omega.{arith}
 use lib.IntN.{ℤ}
 use lib.ListN.{length}
-use Rattle.answer.specs.Answers.{answerOf, finish, leaves}
+use Rattle.answer.specs.Answers.{finish}
 use Rattle.answer.specs.Order.{firstOf, earliest}
 use Rattle.answer.proofs.Answers.{status-is, left-after}
 use Rattle.answer.proofs.Order.{first-one, none-first}
 use Rattle.hash.specs.Hash.{basis}
-use Rattle.geometry.specs.Geometry.{validWidth, stride, RowsIn}
+use Rattle.geometry.specs.Geometry.{stride, RowsIn}
 use Rattle.geometry.specs.Checks.{badLength}
 use Rattle.geometry.proofs.Widths.{slot-in}
-use Rattle.group.specs.declared.Group.{Group}
 use Rattle.group.specs.declared.Outcome.{Outcome}
 use Rattle.meter_memory.specs.Rows.{rowOf, mapRows, ofRows, groupAt}
 use Rattle.meter_memory.specs.Pairs.{pairedAt}

@@ -1,9 +1,9 @@
 -- A cleared memory holds no traffic; an accepted update and an accepted source leave a memory that holds the new traffic, with no
 -- counter's level lower.
-use mathlib.Core.Path.{_≡_, sym, ap, subst, _∙_}
+use mathlib.Core.Path.{_≡_, sym, _∙_}
 use mathlib.Core.Bool.{Bool, true}
 use mathlib.Core.List.{List, [], _∷_, _++_}
-use Prim.Native.Nat.{ℕ, _/_, _≤_, _<_}
+use Prim.Native.Nat.{ℕ, _/_, _<_}
 use native.Mathlib.Decide.{ℕ-discrete}
 use native.Mathlib.Omega.{arith}
 use lib.IntN.{ℤ}
@@ -11,12 +11,10 @@ use lib.ListN.{length, replicate, length-replicate}
 use Rattle.hash.specs.Hash.{basis}
 use Rattle.geometry.specs.Geometry.{validDepth, validWidth, size, RowsIn}
 use Rattle.geometry.proofs.Widths.{depth-in, slot-in}
-use Rattle.group.specs.declared.Group.{Group}
 use Rattle.meter_memory.specs.Rows.{rowOf, groupAt}
 use Rattle.meter_keys.specs.Keys.{keySlot}
 use Rattle.meter_keys.proofs.Landing.{key-in}
 use Rattle.traffic.proofs.Steps.{zeros-at}
-use Rattle.signed_group.specs.Group.{read, combined}
 use Rattle.signed_totals.proofs.Groups as group
 use Rattle.signed_row.specs.Row.{addedIn, rowAmount}
 use Rattle.signed.specs.Signed.{updated, combinedMeters}

@@ -3,7 +3,7 @@
 use mathlib.Core.Path.{_≡_, refl, sym, ap, _∙_}
 use mathlib.Core.Bool.{Bool, true, false, true≢false}
 use mathlib.Core.List.{List}
-use Prim.Native.Nat.{ℕ, _%_, _≤_, _<_}
+use Prim.Native.Nat.{ℕ, _%_, _<_}
 use native.Mathlib.Omega.{arith}
 use borrow.Author.Tests.{eq-eqb, eqb-true}
 use lib.Dec.{eqb}
@@ -17,7 +17,7 @@ use Rattle.signed.specs.Signed.{badShape, cleared, updated, combinedMeters}
 use Rattle.signed_claim.specs.Traffic.{Pair}
 use Rattle.signed_claim.specs.Calls.{Call, clear, update, estimate, combine, Source, from, raw, Calls, none, then, traffic, after, behind, run, done, bytesOf, Faithful, Listed, LeftBy}
 use Rattle.signed_claim.specs.Claim.{counterAfter, Later, now, next, Claim, SignedClaim}
-use Rattle.signed_claim.proofs.Holds.{Holds, Grows, counterOf}
+use Rattle.signed_claim.proofs.Holds.{Holds, Grows}
 use Rattle.signed_claim.proofs.Calls.{finish-taken}
 use Rattle.signed_claim.proofs.Steps.{start-holds, update-step, combine-step}
 use Rattle.signed_claim.proofs.Answers.{counters, estimate-is, copy-taken, copy-left}

@@ -2,7 +2,6 @@
 use mathlib.Core.Path.{_≡_, refl, sym, ap, subst, _∙_}
 use mathlib.Core.Bool.{Bool, true}
 use Prim.Native.Nat.{ℕ, _/_, _%_, _^_, _≤_, _<_}
-use native.Mathlib.Omega.{arith}
 use borrow.Author.Tests.{eq-eqb, lt-ltb}
 use lib.ListN.{replicate}
 use lib.IntN.{ℤ, pos, _+ℤ_}
@@ -10,7 +9,7 @@ use Rattle.little_endian.specs.Bytes.{number, bytes}
 use Rattle.group_layout.specs.Layout.{layout, levelOf, marks, ones, bit}
 use Rattle.group_layout.proofs.Laws.{layout-marks}
 use Rattle.group_block.specs.Block.{BlockOf, cap, Fits, shape, numberOf, fill, blockAs}
-use Rattle.group_block.specs.Sum.{SumOf, fits, add, unite}
+use Rattle.group_block.specs.Sum.{SumOf, add, unite}
 use Rattle.group_block.proofs.Laws.{word-lt-of, block-fits-of, cap-pos}
 use Rattle.group_block_laws.specs.Counts.{Totals, Adds, Counts, SumCounts, Grows}
 use Rattle.group_block_laws.proofs.Counting.{clear-counts, Plus, off-counts, add-counts, unite-counts, value-counts, add-grows, unite-grows, inside-level}
@@ -23,7 +22,6 @@ use Rattle.group.proofs.Laws.{number-encode}
 use Rattle.signed_number.specs.Number.{timesSign, signedOf}
 use Rattle.signed_block.specs.Signed.{top, signBits, signRead, signed, timesBlock}
 use Rattle.signed_block.proofs.Counters.{top-pos, signed-codes, signed-sums}
-use Rattle.signed_group.specs.declared.Reading.{Reading}
 use Rattle.signed_group.specs.Group.{decode, badGroup, badPair, read, added, combined}
 use Rattle.signed_group.proofs.Laws.{decode-encode, encode-good, combined-settled}
 use Rattle.signed_group.proofs.Outcomes.{Left, added-accepted, combined-accepted}
