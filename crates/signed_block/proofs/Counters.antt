@@ -50,7 +50,7 @@ pub top-most : (n : ℕ) → n ≤ 3 → top n ≤ 2 ^ 63
 unfolding top
 top-most n h = top-mono n 3 h
 
--- the counters of a block of two halves, in its halves, hold less
+-- a counter in a half of a group holds at most 31 bits
 pub top-half : (n : ℕ) → n ≤ 2 → top n ≤ 2 ^ 31
 unfolding top
 top-half n h = top-mono n 2 h

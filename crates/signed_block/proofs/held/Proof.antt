@@ -1,12 +1,9 @@
-use mathlib.Core.Path.{_≡_, refl, sym, ap, ap₂, _∙_}
-use mathlib.Core.Bool.{Bool, true, false}
+use mathlib.Core.Path.{_≡_, sym, ap₂, _∙_}
+use mathlib.Core.Bool.{true, false}
 use Prim.Native.Nat.{ℕ, _<_, _≤_}
 use borrow.Author.Tests.{lt-ltb, le-ltb}
-use lib.Dec.{ltb}
-use lib.IntN.{ℤ, natAbs}
 use native.Mathlib.Omega.{arith}
 use Rattle.group_layout.specs.Layout.{marks, ones}
-use Rattle.group_block.specs.declared.Summed.{Summed}
 use Rattle.group_block.specs.Block.{shape, numberOf}
 use Rattle.group_block.specs.Sum.{held}
 use Rattle.group_block.specs.Passed.{summedAs}

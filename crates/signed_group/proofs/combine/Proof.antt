@@ -65,7 +65,7 @@ unite-requires : tie.Need-unite-requires
 unfolding cap
 unite-requires c κs = let n = c .before in
     let a = s n .args in
-    (omega arith, (((omega arith, clean n .0 .merges), target-clean n), ((omega arith, clean n .1 .merges), rw (c .times-sign .ensures) (turned-clean (a .minus) (n .number-of2 .result) (a .source .merge) (source-in n) (clean n .1 .merges)))))
+    (omega arith, (((omega arith, clean n .0 .merges), target-clean n), ((omega arith, clean n .1 .merges), rw (c .times-sign .ensures) (turned-clean _ (n .number-of2 .result) (a .source .merge) (source-in n) (clean n .1 .merges)))))
 
 outcome-requires : tie.Need-outcome-requires
 outcome-requires c κs = search needs

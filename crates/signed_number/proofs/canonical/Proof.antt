@@ -1,8 +1,6 @@
-use mathlib.Core.Path.{_≡_, refl, sym, _∙_}
+use mathlib.Core.Path.{_≡_, refl}
 use mathlib.Core.Bool.{Bool, true, false}
 use Prim.Native.Nat.{ℕ, zero, suc}
-use native.Mathlib.Omega.{arith}
-use lib.IntN.{pos}
 use Rattle.signed_number.specs.Number.{timesSign, integer, signedOf}
 use Rattle.signed_number.proofs.Integers.{times-zero}
 use Rattle.signed_number.proofs.canonical.Statement.{statement}

@@ -68,11 +68,11 @@ top-requires : tie.Need-top-requires
 top-requires c κs = search needs
 
 returns : tie.Need-returns
-returns c = let t = c .before .before in (sym (le-ltb (natAbs (sum t)) (top (level t)) (rw (← size-is t, ← bound-is t) (c .if1 .taken))), λ e. absurd (true≢false (sym e)))
+returns c = let t = c .before .before in (sym (le-ltb (natAbs (sum t)) (top (level t)) (omega (arith, size-is t, bound-is t))), λ e. absurd (true≢false (sym e)))
 
 bits-requires : tie.Need-bits-requires
 bits-requires c κs = let t = c .before .before in
-    (d t .counter-at .ensures .1 .1 .0, (rw (← t .top .ensures) (c .if1 .left), sum-is t ∙ ap signedOf (sym (ap integerOf (sum-is t) ∙ integer-of (sum t)))))
+    (d t .counter-at .ensures .1 .1 .0, (omega (arith, t .top .ensures), sum-is t ∙ ap signedOf (sym (ap integerOf (sum-is t) ∙ integer-of (sum t)))))
 
 with-value-requires : tie.Need-with-value-requires
 with-value-requires c κs = search needs
