@@ -3,11 +3,12 @@ use mathlib.Core.Path.{_≡_, refl, sym, ap, ap₂, _∙_}
 use mathlib.Core.Bool.{Bool, true, false, cond}
 use lib.Dec.{ltb}
 use mathlib.Core.Logic.{⊎-elim}
-use Prim.Native.Nat.{ℕ, suc, _+_, _-_, _*_, _/_, _%_, _^_}
+use Prim.Native.Nat.{ℕ, suc, _+_, _-_, _*_, _/_, _%_, _^_, _≤_}
 use native.Mathlib.Nat.{zero-mod, zero-div}
 use native.Mathlib.Decide.{ℕ-discrete}
 use native.Mathlib.Omega.{arith}
 use Rattle.group_layout.specs.Layout.{Layout, merged, halves, levelOf}
+use Rattle.group_layout.proofs.Laws.{level-le}
 use Rattle.group_block.specs.declared.Counter.{Counter}
 use Rattle.group_block.specs.Kind.{Kind}
 use Rattle.group_block.specs.Block.{BlockOf, Block, counter, split, cap, shape, fill, counterValue, counterAt, total}
@@ -55,7 +56,7 @@ pub record Plus (K : Kind) (t t′ : Totals K) (s : ℕ) (a : K .Value) : Type 0
 
 module _ (K : Kind) (t t′ : Totals K) (s : ℕ) (a : K .Value) (p : Plus K t t′ s a) where
   -- a block that the slot is not in
-  off-counts : {n : ℕ} (i : ℕ) (b : BlockOf K n) → (s / 2 ^ n ≡ i → ⊥) → Counts t i b → Counts t′ i b
+  pub off-counts : {n : ℕ} (i : ℕ) (b : BlockOf K n) → (s / 2 ^ n ≡ i → ⊥) → Counts t i b → Counts t′ i b
   unfolding Counts
   off-counts {n} i (counter v) e c = c ∙ sym (p .off n i e)
   off-counts i (split {n} l r) e c =
@@ -147,6 +148,18 @@ inside-refl : {n : ℕ} (L : Layout n) → Inside L L
 unfolding Inside
 inside-refl merged = tt
 inside-refl (halves l r) = (inside-refl l, inside-refl r)
+
+-- so the counter of a slot is of no lower a level
+pub inside-level : {n : ℕ} (L M : Layout n) (k : ℕ) → Inside L M → levelOf L k ≤ levelOf M k
+unfolding Inside levelOf
+inside-level L merged k p = level-le L k
+inside-level merged (halves l r) k p = absurd p
+inside-level (halves {n} l r) (halves l′ r′) k p = go (ltb k (2 ^ n)) (inside-level l l′ k (p .0)) (inside-level r r′ (k - 2 ^ n) (p .1))
+  where
+    go : (t : Bool) → levelOf l k ≤ levelOf l′ k → levelOf r (k - 2 ^ n) ≤ levelOf r′ (k - 2 ^ n)
+        → cond t (levelOf l k) (levelOf r (k - 2 ^ n)) ≤ cond t (levelOf l′ k) (levelOf r′ (k - 2 ^ n))
+    go true a b = a
+    go false a b = b
 
 pub add-grows : {K : Kind} {n : ℕ} (b : BlockOf K n) (k : ℕ) (a : K .Value) → Grows (shape b) (add b k a)
 unfolding add shape Grows

@@ -5,7 +5,7 @@ use native.Mathlib.Omega.{arith}
 use Rattle.group_layout.specs.Layout.{Layout, merged, halves}
 use Rattle.group_block.specs.Kind.{Kind}
 use Rattle.group_block.specs.Block.{BlockOf, Block, counter, split, cap, shape, total}
-use Rattle.group_block.specs.Sum.{SumOf, Sum, fits, over, held, join, unite, sumTotal}
+use Rattle.group_block.specs.Sum.{SumOf, fits, over, held, join, unite, sumTotal}
 use Rattle.group_block_laws.specs.Least.{Inside, Suits, Least}
 use Rattle.group_block.proofs.Sums.{Sums, ordinary-sums, cross}
 use Rattle.group_block.proofs.Adding.{held-cases, unite-total-of}
@@ -90,10 +90,13 @@ inside-same (halves l r) merged p q = absurd q
 inside-same (halves l r) (halves l′ r′) p q = ap₂ halves (inside-same l l′ (p .0) (q .0)) (inside-same r r′ (p .1) (q .1))
 
 -- a union that the first block's counters can hold keeps its layout
-pub unite-stays : {n : ℕ} (x y : Block n) → Suits (shape x) x y → (z : Block n) × (unite x y ≡ fits z) × (shape z ≡ shape x)
+pub unite-stays-of : {K : Kind} (S : Sums K) {n : ℕ} (x y : BlockOf K n) → Suits (shape x) x y → (z : BlockOf K n) × (unite x y ≡ fits z) × (shape z ≡ shape x)
 unfolding Least
-unite-stays {n} x y s = go (unite x y) refl (unite-least x y)
+unite-stays-of {K} S {n} x y s = go (unite x y) refl (unite-least-of S x y)
   where
-    go : (w : Sum n) → unite x y ≡ w → Least x y w → (z : Block n) × (unite x y ≡ fits z) × (shape z ≡ shape x)
+    go : (w : SumOf K n) → unite x y ≡ w → Least x y w → (z : BlockOf K n) × (unite x y ≡ fits z) × (shape z ≡ shape x)
     go (fits z) e l = (z, e, inside-same (shape z) (shape x) (l .1 (shape x) s) (suits-merges (shape z) x y (l .0) .0))
     go (over t) e l = absurd (l (shape x) s)
+
+pub unite-stays : {n : ℕ} (x y : Block n) → Suits (shape x) x y → (z : Block n) × (unite x y ≡ fits z) × (shape z ≡ shape x)
+unite-stays x y s = unite-stays-of ordinary-sums x y s

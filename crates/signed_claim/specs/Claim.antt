@@ -15,7 +15,7 @@ use Rattle.signed_group.specs.Group.{read}
 use Rattle.signed_median.specs.Median.{median}
 use Rattle.signed.specs.Signed.{estimated, signedAnswer}
 use Rattle.signed_claim.specs.Traffic.{blockTotal}
-use Rattle.signed_claim.specs.Calls.{Call, clear, combine, Source, from, Calls, then, traffic, run, Faithful}
+use Rattle.signed_claim.specs.Calls.{Call, clear, combine, from, Calls, then, traffic, run, Faithful}
 
 -- the counter of slot s of row r after a list
 abbrev pub counterAfter : ℕ → ℕ → Calls → ℕ → ℕ → Reading

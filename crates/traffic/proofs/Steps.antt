@@ -43,7 +43,7 @@ unfolding blockTotal amountSum
 no-total w r n i = refl
 
 module _ (d w : ℕ) (vw : validWidth w ≡ true) where
-  zeros-at : (r g : ℕ) → r < d → g < w / 8 → groupAt w (rowOf w (replicate (size d w) 0) r) g ≡ record { counts = replicate 8 0; merge = 0 }
+  pub zeros-at : (r g : ℕ) → r < d → g < w / 8 → groupAt w (rowOf w (replicate (size d w) 0) r) g ≡ record { counts = replicate 8 0; merge = 0 }
   unfolding groupAt rowOf size
   zeros-at r g p q =
       let i = group-in w g vw q in
