@@ -62,8 +62,7 @@ loop-again c = let l = c .before .before .before .before .before .loop in
     let s = c .before .before .before .before .before .before .before in
     let a = s .args in
     let f = c .before .before .read-at in
-    let is-v = toZ-ofZ {w = w64} {z = f .result .value} (search needs) in
-    (
+    let is-v = toZ-ofZ {w = w64} {z = f .result .value} (search needs) in (
       omega arith,
       rw (c .earlier .ensures)
           (status-turn (hashStatus (a .w) (a .hashes .now)) (a .w) (a .d) (l .r) (a .memory .now) (l .status) (f .result .status) (omega arith) (f .ensures .0) ∙ l .inv .1),
