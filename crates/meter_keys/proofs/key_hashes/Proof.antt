@@ -46,42 +46,46 @@ array-read-t29 c = search needs
 array-read-t32 : tie.Need-array-read-t32
 array-read-t32 c = search needs
 
+cast-t33 : tie.Need-cast-t33
+cast-t33 c = search needs
+
 returns-2 : tie.Need-returns-2
-returns-2 c = let a = c .before .before .before .before .before .args in
-    let e = c .before .before .before .four-hashes .ensures in
-    let rest : List ℕ = c .in-row .result .state ∷ 0 ∷ 0 ∷ 0 ∷ [] in
+returns-2 c = let i = c .before in
+    let a = i .before .before .before .before .before .args in
+    let e = i .before .before .before .four-hashes .ensures in
+    let rest : List ℕ = i .in-row .result .state ∷ 0 ∷ 0 ∷ 0 ∷ [] in
     λ r h. elim (decLt r 4) [
       | yes l ↦ in-four (λ (i : ℕ) (x : ℕ). x ≡ rowHash (a .start .state) i (a .key .now)) _ _ _ _ rest
           (e 0 (omega arith)) (e 1 (omega arith)) (e 2 (omega arith)) (e 3 (omega arith)) r l
-      | no l ↦ let i : r ≡ 4 = omega arith in rw i (c .in-row .ensures)
+      | no l ↦ let four : r ≡ 4 = omega arith in rw four (i .in-row .ensures)
     ]
 
 four-hashes-requires-2 : tie.Need-four-hashes-requires-2
 four-hashes-requires-2 c κs = search needs
 
-array-read-t35 : tie.Need-array-read-t35
-array-read-t35 c = search needs
+array-read-t36 : tie.Need-array-read-t36
+array-read-t36 c = search needs
 
-array-read-t38 : tie.Need-array-read-t38
-array-read-t38 c = search needs
+array-read-t39 : tie.Need-array-read-t39
+array-read-t39 c = search needs
 
-array-read-t41 : tie.Need-array-read-t41
-array-read-t41 c = search needs
+array-read-t42 : tie.Need-array-read-t42
+array-read-t42 c = search needs
 
-array-read-t44 : tie.Need-array-read-t44
-array-read-t44 c = search needs
+array-read-t45 : tie.Need-array-read-t45
+array-read-t45 c = search needs
 
-array-read-t47 : tie.Need-array-read-t47
-array-read-t47 c = search needs
+array-read-t48 : tie.Need-array-read-t48
+array-read-t48 c = search needs
 
-array-read-t50 : tie.Need-array-read-t50
-array-read-t50 c = search needs
+array-read-t51 : tie.Need-array-read-t51
+array-read-t51 c = search needs
 
-array-read-t53 : tie.Need-array-read-t53
-array-read-t53 c = search needs
+array-read-t54 : tie.Need-array-read-t54
+array-read-t54 c = search needs
 
-array-read-t56 : tie.Need-array-read-t56
-array-read-t56 c = search needs
+array-read-t57 : tie.Need-array-read-t57
+array-read-t57 c = search needs
 
 returns-3 : tie.Need-returns-3
 returns-3 c = let a = c .before .before .before .before .before .args in
@@ -106,14 +110,15 @@ key-hashes-spec =
     array-read-t26
     array-read-t29
     array-read-t32
+    cast-t33
     returns-2
     four-hashes-requires-2
-    array-read-t35
-    array-read-t38
-    array-read-t41
-    array-read-t44
-    array-read-t47
-    array-read-t50
-    array-read-t53
-    array-read-t56
+    array-read-t36
+    array-read-t39
+    array-read-t42
+    array-read-t45
+    array-read-t48
+    array-read-t51
+    array-read-t54
+    array-read-t57
     returns-3)
