@@ -1,5 +1,5 @@
--- Where a key lands in a row. Document 01, 'Where a key lands'. Its sign there. Document 02, request 3. And whether two keys are the same. Cited by
--- contracts and theorems.
+-- A key's slot and sign in a row, and whether two keys are the same. Cited by contracts and theorems. Document 01, 'Where a key lands',
+-- and document 02, request 3.
 use Prim.Native.Nat.{ℕ, _^_, _<_}
 use mathlib.Core.Bool.{Bool, true, false, _&&_}
 use mathlib.Core.List.{List, [], _∷_}

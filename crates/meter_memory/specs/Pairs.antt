@@ -1,5 +1,5 @@
--- What an operation on two groups does to a row of w slots and a source row, and to the rows of a meter and a source meter. Cited by
--- contracts and theorems.
+-- An operation on two groups, in a row of w slots and in the rows of a meter. Cited by contracts and theorems. The other group is a
+-- source's.
 use Prim.Native.Nat.{ℕ, zero, suc, _+_, _/_}
 use mathlib.Core.List.{List}
 use Rattle.group.specs.declared.Group.{Group}
