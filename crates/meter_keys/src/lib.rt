@@ -129,13 +129,26 @@ pub fn key_hashes(start: Hash, key: &[u8], d: usize) -> [usize; 8]
     requires { ⌜ d ≤ 8 ⌝ }
     ensures { λ s. ⌜ ((r : ℕ) → r < d → getD s r 0 ≡ rowHash (start .state) r (now (key .entry))) ⌝ }
 {
+    if d == 1 {
+        let only = start.in_row(0, key);
+        return [only.state as usize, 0, 0, 0, 0, 0, 0, 0];
+    }
     let low = four_hashes(start, key, 0);
     if d <= 4 {
         return [low[0], low[1], low[2], low[3], 0, 0, 0, 0];
     }
     if d == 5 {
         let fifth = start.in_row(4, key);
-        return [low[0], low[1], low[2], low[3], fifth.state as usize, 0, 0, 0];
+        return [
+            low[0],
+            low[1],
+            low[2],
+            low[3],
+            fifth.state as usize,
+            0,
+            0,
+            0,
+        ];
     }
     let high = four_hashes(start, key, 4);
     [

@@ -21,13 +21,7 @@ fn add_at(w: usize, memory: &[u8], r: usize, hash: usize, minus: bool, magnitude
 {
     let h = hash as u32;
     let sign = signed_number::times(hash::sign(h), minus);
-    signed_row::add_in_row(
-        row_at(w, memory, r),
-        w,
-        hash::scaled(h, w),
-        sign,
-        magnitude,
-    )
+    signed_row::add_in_row(row_at(w, memory, r), w, hash::scaled(h, w), sign, magnitude)
 }
 
 // The groups that an update leaves in the rows, and the first status.
