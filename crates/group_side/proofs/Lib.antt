@@ -1,3 +1,4 @@
+pub mod Slots
 pub mod Bytes
 pub mod Unions
 pub mod Exact

@@ -110,27 +110,45 @@ pub fn key_slots(start: Hash, w: usize, key: &[u8], d: usize) -> [usize; 8]
     ]
 }
 
-// The hashes of a key in four rows.
-fn four_hashes(start: Hash, key: &[u8], first: u8) -> [u32; 4]
+// The hashes of a key in four rows. As numbers of 32 bits side by side the compiler would advance them in a vector register, which is slower:
+// SSE2 has no product of four of them.
+fn four_hashes(start: Hash, key: &[u8], first: u8) -> [usize; 4]
     requires { ⌜ first ≤ 4 ⌝ }
     ensures { λ s. ⌜ ((r : ℕ) → r < 4 → getD s r 0 ≡ rowHash (start .state) (first + r) (now (key .entry))) ⌝ }
 {
     let h = Four::rows(start, first).run(key);
-    [h.a.state, h.b.state, h.c.state, h.d.state]
+    let a = h.a.state as usize;
+    let b = h.b.state as usize;
+    let c = h.c.state as usize;
+    let d = h.d.state as usize;
+    [a, b, c, d]
 }
 
 // The hashes of a key in the first d rows.
-pub fn key_hashes(start: Hash, key: &[u8], d: usize) -> [u32; 8]
+pub fn key_hashes(start: Hash, key: &[u8], d: usize) -> [usize; 8]
     requires { ⌜ d ≤ 8 ⌝ }
     ensures { λ s. ⌜ ((r : ℕ) → r < d → getD s r 0 ≡ rowHash (start .state) r (now (key .entry))) ⌝ }
 {
+    if d == 1 {
+        let only = start.in_row(0, key);
+        return [only.state as usize, 0, 0, 0, 0, 0, 0, 0];
+    }
     let low = four_hashes(start, key, 0);
     if d <= 4 {
         return [low[0], low[1], low[2], low[3], 0, 0, 0, 0];
     }
     if d == 5 {
         let fifth = start.in_row(4, key);
-        return [low[0], low[1], low[2], low[3], fifth.state, 0, 0, 0];
+        return [
+            low[0],
+            low[1],
+            low[2],
+            low[3],
+            fifth.state as usize,
+            0,
+            0,
+            0,
+        ];
     }
     let high = four_hashes(start, key, 4);
     [

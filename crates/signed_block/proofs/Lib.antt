@@ -1,2 +1,3 @@
+pub mod Widths
 pub mod Counters
 pub mod Times

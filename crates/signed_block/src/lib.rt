@@ -11,6 +11,7 @@ use group_layout::slots;
 use signed_number::Signed;
 use signed_number::plus;
 ghost use mathlib.Core.Path.{_≡_};
+ghost use mathlib.Core.Bool.{cond};
 ghost use Prim.Native.Nat.{ℕ, _+_, _≤_, _<_, _^_};
 ghost use lib.IntN.{_+ℤ_};
 ghost use Rattle.group_block.specs.Block.{cap};
@@ -37,16 +38,18 @@ pub fn value(level: u32, bits: u64) -> Signed
     ensures { λ r. ⌜ r .magnitude < spec.top level ⌝ }
 {
     let sign = top(level);
-    if bits < sign {
-        return Signed {
-            minus: false,
-            magnitude: bits,
-        };
-    }
     Signed {
-        minus: true,
-        magnitude: bits - sign,
+        minus: bits >= sign,
+        magnitude: bits & (sign - 1),
     }
+}
+
+// The sign bit of a counter of a level, if it is set.
+fn sign_bit(level: u32, minus: bool) -> u64
+    requires { ⌜ level ≤ 3 ⌝ }
+    ensures { λ r. ⌜ r ≡ cond minus (spec.top level) 0 ⌝ }
+{
+    (minus as u64) << ((8u32 << level) - 1)
 }
 
 // The bits of a value in a counter of a level that holds it.
@@ -54,11 +57,7 @@ pub fn bits(level: u32, value: Signed) -> u64
     requires { ⌜ level ≤ 3 ⌝ ∗ ⌜ value .magnitude < spec.top level ⌝ ∗ ⌜ Canonical value ⌝ }
     ensures { λ r. ⌜ r ≡ signBits level (integerOf value) ⌝ }
 {
-    let sign = top(level);
-    if value.minus {
-        return sign + value.magnitude;
-    }
-    value.magnitude
+    sign_bit(level, value.minus) + value.magnitude
 }
 
 // The sum of a block's counters.

@@ -55,14 +55,14 @@ pub fn canonical(minus: bool, magnitude: u64) -> Signed
     }
 }
 
-// The sign of a sum: that of the larger magnitude.
+// The sign of a sum: that of the larger magnitude. It is computed and not chosen, so that no branch is taken by signs, which are as good as
+// random.
 fn sum_sign(a: Signed, b: Signed) -> bool
     ensures { λ r. ⌜ r ≡ cond (ltb (a .magnitude) (b .magnitude)) (b .minus) (a .minus) ⌝ }
 {
-    if a.magnitude < b.magnitude {
-        return b.minus;
-    }
-    a.minus
+    let less = a.magnitude < b.magnitude;
+    let differ = a.minus != b.minus;
+    a.minus != (differ & less)
 }
 
 // By how much two magnitudes differ.

@@ -4,11 +4,12 @@ use answer::earlier;
 use meter_memory::row_at;
 use signed_median::median;
 ghost use mathlib.Core.Path.{_≡_};
-ghost use Prim.Native.Nat.{_≤_};
+ghost use Prim.Native.Nat.{_≤_, _<_, _^_};
 ghost use lib.ListN.{length};
 ghost use Rattle.answer.specs.Order.{earliest};
 ghost use Rattle.geometry.specs.Geometry.{RowIn, RowsIn};
 ghost use Rattle.geometry.specs.Geometry as geometry;
+ghost use Rattle.meter_keys.specs.Keys.{HashesIn};
 ghost use Rattle.meter_memory.specs.Rows.{rowOf, mapRows, ofRows};
 ghost use Rattle.signed_median.specs.Median as median_spec;
 ghost use Rattle.signed_row.specs.Row.{sourceStatus, sourceCombined};
@@ -21,13 +22,14 @@ pub struct Figure {
 }
 
 // The counter of a hash's slot in row r, times the hash's sign.
-fn read_at(w: usize, memory: &[u8], r: usize, hash: u32) -> Figure
-    requires { ⌜ RowIn w r (length (now memory)) ⌝ }
+fn read_at(w: usize, memory: &[u8], r: usize, hash: usize) -> Figure
+    requires { ⌜ RowIn w r (length (now memory)) ⌝ ∗ ⌜ hash < 2 ^ 32 ⌝ }
     ensures { λ f. ⌜ f .status ≡ readBy w hash (rowOf w (now (memory .entry)) r) .status ⌝ }
     ensures { λ f. ⌜ f .value ≡ figureBy w hash (rowOf w (now (memory .entry)) r) ⌝ }
 {
-    let c = signed_row::read_row(row_at(w, memory, r), w, hash::scaled(hash, w));
-    let sign = signed_number::times(hash::sign(hash), c.value.minus);
+    let h = hash as u32;
+    let c = signed_row::read_row(row_at(w, memory, r), w, hash::scaled(h, w));
+    let sign = signed_number::times(hash::sign(h), c.value.minus);
     Figure {
         status: c.status,
         value: signed_number::to_int(sign, c.value.magnitude),
@@ -35,8 +37,8 @@ fn read_at(w: usize, memory: &[u8], r: usize, hash: u32) -> Figure
 }
 
 // The first status of the rows' counters, and the median of their figures.
-pub fn read_rows(d: usize, w: usize, memory: &[u8], hashes: &[u32; 8]) -> Figure
-    requires { ⌜ 1 ≤ d ⌝ ∗ ⌜ RowsIn d w (length (now memory)) ⌝ }
+pub fn read_rows(d: usize, w: usize, memory: &[u8], hashes: &[usize; 8]) -> Figure
+    requires { ⌜ 1 ≤ d ⌝ ∗ ⌜ RowsIn d w (length (now memory)) ⌝ ∗ ⌜ HashesIn d (now hashes) ⌝ }
     ensures { λ f. ⌜ f .status ≡ earliest (ofRows (hashStatus w (now (hashes .entry))) (geometry.stride w) d 0 (now (memory .entry))) ⌝ }
     ensures { λ f. ⌜ f .value ≡ median_spec.median (ofRows (hashFigure w (now (hashes .entry))) (geometry.stride w) d 0 (now (memory .entry))) ⌝ }
 {

@@ -5,26 +5,23 @@ use group::Outcome;
 use meter_memory::row_at;
 ghost use mathlib.Core.Path.{_≡_};
 ghost use mathlib.Core.Bool.{true};
+ghost use Prim.Native.Nat.{_<_, _^_};
 ghost use lib.ListN.{length};
 ghost use Rattle.geometry.specs.Geometry.{validWidth, RowIn, RowsIn};
 ghost use Rattle.geometry.specs.Geometry as geometry;
+ghost use Rattle.meter_keys.specs.Keys.{HashesIn};
 ghost use Rattle.meter_memory.specs.Rows.{rowOf};
 ghost use Rattle.signed_number.specs.Number.{integer};
 ghost use Rattle.signed_row.specs.Hashes.{addedBy, storedBy, triedStatus, Added, addedIf};
 
 // What an amount, times the sign of a hash, leaves in the group of the hash's slot in row r. Stores nothing.
-fn add_at(w: usize, memory: &[u8], r: usize, hash: u32, minus: bool, magnitude: u32) -> Outcome
-    requires { ⌜ RowIn w r (length (now memory)) ⌝ }
+fn add_at(w: usize, memory: &[u8], r: usize, hash: usize, minus: bool, magnitude: u32) -> Outcome
+    requires { ⌜ RowIn w r (length (now memory)) ⌝ ∗ ⌜ hash < 2 ^ 32 ⌝ }
     ensures { λ o. ⌜ o ≡ addedBy w hash (integer minus magnitude) (rowOf w (now (memory .entry)) r) ⌝ }
 {
-    let sign = signed_number::times(hash::sign(hash), minus);
-    signed_row::add_in_row(
-        row_at(w, memory, r),
-        w,
-        hash::scaled(hash, w),
-        sign,
-        magnitude,
-    )
+    let h = hash as u32;
+    let sign = signed_number::times(hash::sign(h), minus);
+    signed_row::add_in_row(row_at(w, memory, r), w, hash::scaled(h, w), sign, magnitude)
 }
 
 // The groups that an update leaves in the rows, and the first status.
@@ -38,11 +35,11 @@ fn try_rows(
     d: usize,
     w: usize,
     memory: &[u8],
-    hashes: &[u32; 8],
+    hashes: &[usize; 8],
     minus: bool,
     magnitude: u32,
 ) -> Trial
-    requires { ⌜ RowsIn d w (length (now memory)) ⌝ }
+    requires { ⌜ RowsIn d w (length (now memory)) ⌝ ∗ ⌜ HashesIn d (now hashes) ⌝ }
     ensures { λ t. ⌜ t .status ≡ triedStatus d w (now (hashes .entry)) (integer minus magnitude) (now (memory .entry)) ⌝ }
     ensures { λ t. ⌜ Added d w (now (memory .entry)) (now (hashes .entry)) (integer minus magnitude) (t .groups) ⌝ }
 {
@@ -66,11 +63,11 @@ fn try_rows(
 }
 
 // A group stored in a row, where a hash's slot is.
-fn store_at(row: &mut [u8], w: usize, hash: u32, x: Group)
-    requires { ⌜ validWidth w ≡ true ⌝ ∗ ⌜ length (now row) ≡ geometry.stride w ⌝ }
+fn store_at(row: &mut [u8], w: usize, hash: usize, x: Group)
+    requires { ⌜ validWidth w ≡ true ⌝ ∗ ⌜ length (now row) ≡ geometry.stride w ⌝ ∗ ⌜ hash < 2 ^ 32 ⌝ }
     ensures { λ _. ⌜ now (row .exit) ≡ storedBy w hash x (now (row .entry)) ⌝ }
 {
-    meter_row::update_row(row, w, hash::scaled(hash, w), x);
+    meter_row::update_row(row, w, hash::scaled(hash as u32, w), x);
 }
 
 // An update of each row, once every row is known to take it; the first status.
@@ -78,11 +75,11 @@ pub fn update_rows(
     d: usize,
     w: usize,
     memory: &mut [u8],
-    hashes: &[u32; 8],
+    hashes: &[usize; 8],
     minus: bool,
     magnitude: u32,
 ) -> u8
-    requires { ⌜ RowsIn d w (length (now memory)) ⌝ }
+    requires { ⌜ RowsIn d w (length (now memory)) ⌝ ∗ ⌜ HashesIn d (now hashes) ⌝ }
     ensures { λ s. ⌜ s ≡ triedStatus d w (now (hashes .entry)) (integer minus magnitude) (now (memory .entry)) ⌝ }
     ensures { λ s. ⌜ now (memory .exit) ≡ addedIf s d w (now (hashes .entry)) (integer minus magnitude) (now (memory .entry)) ⌝ }
 {

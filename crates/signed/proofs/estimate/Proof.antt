@@ -5,6 +5,7 @@ use lib.ListN.{getD}
 use mir.Syntax.{w64}
 use mir.Facts.{toZ-ofZ}
 use Rattle.hash.specs.Hash.{rowHash}
+use Rattle.meter_keys.proofs.Landing.{hash-lt}
 use Rattle.signed_median.specs.Median.{median}
 use Rattle.signed.specs.Signed.{signedAnswer}
 use Rattle.signed.proofs.Tests.{call-rows}
@@ -35,8 +36,10 @@ key-hashes-requires c κs = let e = c .before .before in
     call-rows _ _ _ _ (sym (e .before .bad-call .ensures) ∙ e .if1 .left) .1 .1
 
 read-rows-requires : tie.Need-read-rows-requires
-read-rows-requires c κs = let e = c .before .before .before .before in
-    call-rows _ _ _ _ (sym (e .before .bad-call .ensures) ∙ e .if1 .left)
+read-rows-requires c κs = let k = c .before in
+    let e = k .before .before .before in
+    let p = call-rows _ _ _ _ (sym (e .before .bad-call .ensures) ∙ e .if1 .left) in
+    (p .0, (p .1, λ r h. rw (k .key-hashes .ensures r h) (hash-lt _ r _)))
 
 signed-answer-requires-2 : tie.Need-signed-answer-requires-2
 signed-answer-requires-2 c κs = search needs

@@ -9,6 +9,7 @@ use lib.ListN.{getD}
 use mir.Syntax.{w32}
 use mir.Facts.{toZ-ofZ}
 use Rattle.hash.specs.Hash.{rowHash}
+use Rattle.meter_keys.proofs.Landing.{hash-lt}
 use Rattle.signed_number.specs.declared.Signed.{Signed}
 use Rattle.signed_number.specs.Number.{integerOf}
 use Rattle.signed_number.proofs.Integers.{integer-of}
@@ -51,8 +52,9 @@ cast-update-rows : tie.Need-cast-update-rows
 cast-update-rows c = search needs
 
 update-rows-requires : tie.Need-update-rows-requires
-update-rows-requires c κs = let e = c .before .before .before .before .before .before .before in
-    call-rows _ _ _ _ (sym (e .before .bad-call .ensures) ∙ e .if1 .left) .1
+update-rows-requires c κs = let k = c .before .before .before .before in
+    let e = k .before .before .before in
+    (call-rows _ _ _ _ (sym (e .before .bad-call .ensures) ∙ e .if1 .left) .1, λ r h. rw (k .key-hashes .ensures r h) (hash-lt _ r _))
 
 answer-of-requires-2 : tie.Need-answer-of-requires-2
 answer-of-requires-2 c κs = search needs

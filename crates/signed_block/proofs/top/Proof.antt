@@ -1,16 +1,12 @@
-use mathlib.Core.Path.{_≡_}
-use Prim.Native.Nat.{ℕ, _-_, _*_, _%_, _^_, _≤_}
+use Prim.Native.Nat.{_-_, _*_, _^_}
 use native.Mathlib.Nat.{one-mul}
 use native.Mathlib.Omega.{arith}
-use lib.Pow.{pow-pos, pow-mono, shl-exact}
+use lib.Pow.{shl-exact}
 use Rattle.signed_block.specs.Signed.{top}
+use Rattle.signed_block.proofs.Widths.{width}
 use borrow.Author.Needs.{needs}
 use Rattle.signed_block.proofs.top.Statement.{statement}
 use Rattle.signed_block.proofs.top.Tie as tie
-
--- the bits of a counter of the level
-width : (n : ℕ) → n ≤ 3 → (8 * 2 ^ n % 2 ^ 32 ≡ 8 * 2 ^ n) × ((1 ≤ 8 * 2 ^ n) × (8 * 2 ^ n ≤ 64))
-width n h = let k : 2 ^ n ≤ 8 = pow-mono {i = n} {j = 3} h in (omega arith, (omega (arith, pow-pos n), omega arith))
 
 shl-result : tie.Need-shl-result
 shl-result c = search needs

@@ -15,11 +15,14 @@ use borrow.Author.Needs.{needs}
 use Rattle.signed_rows.proofs.read_at.Statement.{statement}
 use Rattle.signed_rows.proofs.read_at.Tie as tie
 
+cast-h : tie.Need-cast-h
+cast-h c = search needs
+
 row-at-requires : tie.Need-row-at-requires
 row-at-requires c κs = search needs
 
 scaled-requires : tie.Need-scaled-requires
-scaled-requires c κs = wide _ (c .before .before .pre .0) .shares
+scaled-requires c κs = wide _ (c .before .before .pre .0 .0) .shares
 
 read-row-requires : tie.Need-read-row-requires
 read-row-requires c κs = search needs
@@ -52,6 +55,7 @@ pub read-at-spec : {M : Type 1} → statement M
 read-at-spec =
     tie.close
     (tie.spec
+    cast-h
     row-at-requires
     scaled-requires
     read-row-requires

@@ -37,16 +37,17 @@ mul-read-at : tie.Need-mul-read-at Inv-loop μ-loop
 mul-read-at c = search needs
 
 element-copy-out-read-at : tie.Need-element-copy-out-read-at Inv-loop μ-loop
-element-copy-out-read-at c = let s = c .before .before .before in omega (arith, s .pre .1 .1)
+element-copy-out-read-at c = let s = c .before .before .before in omega (arith, s .pre .1 .0 .1)
 
 read-at-requires : tie.Need-read-at-requires Inv-loop μ-loop
-read-at-requires c κs = let s = c .before .before .before .before in one-row (s .args .d) (s .args .w) _ (s .pre .1) (c .before .loop-test .taken)
+read-at-requires c κs = let s = c .before .before .before .before in
+    (one-row (s .args .d) (s .args .w) _ (s .pre .1 .0) (c .before .loop-test .taken), s .pre .1 .1 (c .before .before .loop .r) (c .before .loop-test .taken))
 
 mul-values : tie.Need-mul-values Inv-loop μ-loop
 mul-values c = search needs
 
 array-set-from-values : tie.Need-array-set-from-values Inv-loop μ-loop
-array-set-from-values c = let s = c .before .before .before .before .before .before in omega (arith, s .pre .1 .1)
+array-set-from-values c = let s = c .before .before .before .before .before .before in omega (arith, s .pre .1 .0 .1)
 
 earlier-requires : tie.Need-earlier-requires Inv-loop μ-loop
 earlier-requires c κs = search needs
@@ -67,7 +68,7 @@ loop-again c = let l = c .before .before .before .before .before .loop in
       rw (c .earlier .ensures)
           (status-turn (hashStatus (a .w) (a .hashes .now)) (a .w) (a .d) (l .r) (a .memory .now) (l .status) (f .result .status) (omega arith) (f .ensures .0) ∙ l .inv .1),
       rw is-v
-          (filled-more (λ (k : ℕ). hashFigure (a .w) (a .hashes .now) k (rowOf (a .w) (a .memory .now) k)) (l .values) (l .r) (f .result .value) (pos 0) (omega (arith, s .pre .1 .1)) (f .ensures .1) (l .inv .2)),
+          (filled-more (λ (k : ℕ). hashFigure (a .w) (a .hashes .now) k (rowOf (a .w) (a .memory .now) k)) (l .values) (l .r) (f .result .value) (pos 0) (omega (arith, s .pre .1 .0 .1)) (f .ensures .1) (l .inv .2)),
       rw is-v (length-set (l .values) (l .r) (f .result .value) ∙ l .inv .3),
     )
 
@@ -81,7 +82,7 @@ returns c = let l = c .before .before .loop in
     let a = s .args in
     let at : l .r ≡ a .d = omega arith in
     let all : take (a .d) (l .values) ≡ ofRows (hashFigure (a .w) (a .hashes .now)) (stride (a .w)) (a .d) 0 (a .memory .now) =
-    rows-list (hashFigure (a .w) (a .hashes .now)) (stride (a .w)) (a .d) 0 (a .memory .now) (l .values) (pos 0) (omega (arith, s .pre .1 .1))
+    rows-list (hashFigure (a .w) (a .hashes .now)) (stride (a .w)) (a .d) 0 (a .memory .now) (l .values) (pos 0) (omega (arith, s .pre .1 .0 .1))
     (λ k h. l .inv .2 k (omega arith) ∙ ap (λ (i : ℕ). hashFigure (a .w) (a .hashes .now) i (rowOf (a .w) (a .memory .now) k)) (sym (zero-add k))) in (
       sym (status-end (hashStatus (a .w) (a .hashes .now)) (a .w) (a .d) (l .r) (a .memory .now) (l .status) (omega arith)) ∙ l .inv .1,
       toZ-ofZ {w = w64} {z = c .median .result} (record { sfits = c .median .ok }) ∙ c .median .ensures ∙ ap median all,

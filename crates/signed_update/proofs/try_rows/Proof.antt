@@ -25,22 +25,23 @@ abbrev μ-loop : tie.MeasureT-loop
 
 loop-holds : tie.Need-loop-holds Inv-loop μ-loop
 loop-holds c = let a = c .before .args in
-    (omega arith, c .before .pre .1, rows-start (addedStatus (a .w) (a .hashes .now) (integer (a .minus) (a .magnitude))) (a .w) (a .d) (a .memory .now), λ z k h. absurd (omega arith))
+    (omega arith, c .before .pre .0 .1, rows-start (addedStatus (a .w) (a .hashes .now) (integer (a .minus) (a .magnitude))) (a .w) (a .d) (a .memory .now), λ z k h. absurd (omega arith))
 
 mul-add-at : tie.Need-mul-add-at Inv-loop μ-loop
 mul-add-at c = search needs
 
 element-copy-out-add-at : tie.Need-element-copy-out-add-at Inv-loop μ-loop
-element-copy-out-add-at c = omega (arith, c .before .before .before .pre .1)
+element-copy-out-add-at c = omega (arith, c .before .before .before .pre .0 .1)
 
 add-at-requires : tie.Need-add-at-requires Inv-loop μ-loop
-add-at-requires c κs = one-row _ _ _ (c .before .before .before .before .pre) (c .before .loop-test .taken)
+add-at-requires c κs = let s = c .before .before .before .before in
+    (one-row _ _ _ (s .pre .0) (c .before .loop-test .taken), s .pre .1 (c .before .before .loop .r) (c .before .loop-test .taken))
 
 mul-g : tie.Need-mul-g Inv-loop μ-loop
 mul-g c = search needs
 
 element-set-from-g : tie.Need-element-set-from-g Inv-loop μ-loop
-element-set-from-g c = omega (arith, c .before .before .before .before .before .before .pre .1)
+element-set-from-g c = omega (arith, c .before .before .before .before .before .before .pre .0 .1)
 
 earlier-requires : tie.Need-earlier-requires Inv-loop μ-loop
 earlier-requires c κs = search needs

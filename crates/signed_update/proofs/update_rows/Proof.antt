@@ -38,7 +38,7 @@ abbrev μ-loop : tie.MeasureT-loop
 row-end : (c : tie.In-loop Inv-loop μ-loop) → c .before .loop .r * c .before .before .stride .result + c .before .before .stride .result ≤ length (c .before .loop .memory)
 row-end c =
     let s = c .before .before .before .before .before .before .before in
-    let i = one-row (s .args .d) (s .args .w) (c .before .loop .r) (s .pre) (c .loop-test .taken) in
+    let i = one-row (s .args .d) (s .args .w) (c .before .loop .r) (s .pre .0) (c .loop-test .taken) in
     rw (c .before .before .stride .ensures) (omega (arith, i .2))
 
 try-rows-requires : tie.Need-try-rows-requires Inv-loop μ-loop
@@ -52,7 +52,7 @@ returns c = let t = c .before .try-rows in
     (t .ensures .0, rw (ne-eqb (t .result .status) 0 (c .if1 .taken)))
 
 stride-requires : tie.Need-stride-requires Inv-loop μ-loop
-stride-requires c κs = c .before .before .before .before .pre .0
+stride-requires c κs = c .before .before .before .before .pre .0 .0
 
 loop-holds : tie.Need-loop-holds Inv-loop μ-loop
 loop-holds c = let a = c .before .before .before .before .before .args in
@@ -77,18 +77,18 @@ mul-store-at : tie.Need-mul-store-at Inv-loop μ-loop
 mul-store-at c = search needs
 
 element-copy-out-store-at : tie.Need-element-copy-out-store-at Inv-loop μ-loop
-element-copy-out-store-at c = omega (arith, c .before .before .before .before .before .before .before .before .pre .1)
+element-copy-out-store-at c = omega (arith, c .before .before .before .before .before .before .before .before .pre .0 .1)
 
 mul-store-at-2 : tie.Need-mul-store-at-2 Inv-loop μ-loop
 mul-store-at-2 c = search needs
 
 element-copy-out-store-at-2 : tie.Need-element-copy-out-store-at-2 Inv-loop μ-loop
-element-copy-out-store-at-2 c = omega (arith, c .before .before .before .before .before .before .before .before .before .pre .1)
+element-copy-out-store-at-2 c = omega (arith, c .before .before .before .before .before .before .before .before .before .pre .0 .1)
 
 store-at-requires : tie.Need-store-at-requires Inv-loop μ-loop
 store-at-requires c κs = let l = c .before .before .before in
     let s = l .before .before .before .before .before .before .before in
-    (s .pre .0, omega (arith, row-end l, l .before .before .stride .ensures))
+    (s .pre .0 .0, (omega (arith, row-end l, l .before .before .stride .ensures), s .pre .1 (l .before .loop .r) (l .loop-test .taken)))
 
 add-r : tie.Need-add-r Inv-loop μ-loop
 add-r c = search needs
