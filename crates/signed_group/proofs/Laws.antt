@@ -10,7 +10,7 @@ use Rattle.group_layout.specs.Layout.{ones, layout, valid}
 use Rattle.group_layout.proofs.Laws.{layout-marks}
 use Rattle.group_block.specs.Block.{BlockOf, cap, Fits, shape, allClean, total}
 use Rattle.group_block.specs.declared.Summed.{Summed}
-use Rattle.group_block.specs.Sum.{SumOf, over, add, unite, sumTotal}
+use Rattle.group_block.specs.Sum.{SumOf, add, unite, sumTotal}
 use Rattle.group_block.proofs.Adding.{Sound, unite-sound, unite-total-of}
 use Rattle.group_block.proofs.Laws.{word-clean, block-fits-of}
 use Rattle.answer.specs.Numbers.{invalidContent, counterFull, minusZero}
