@@ -13,16 +13,16 @@ use lib.Seq.{length-take-le}
 use Rattle.laws.proofs.Lists.{Bytes, bytes-drop, bytes-take}
 use Rattle.laws.proofs.Tests.{both-ways}
 use Rattle.little_endian.specs.Bytes.{number}
-use Rattle.little_endian.proofs.Bytes.{number-lt}
 use Rattle.group_layout.specs.Layout.{ones, marks, layout}
-use Rattle.group_block.specs.Block.{counter, cap, shape, fill, block, total, blockAs}
+use Rattle.group_block.specs.Block.{counter, cap, shape, fill, total, blockAs}
 use Rattle.group_block.specs.Sum.{Sum, fits, over, held, join, unite, sumTotal}
 use Rattle.group.specs.declared.Group.{Group}
 use Rattle.group.specs.Group.{decode, encode, settle, unitedGroups}
 use Rattle.group.proofs.Laws.{Eight}
 use Rattle.group_side.specs.Side.{fit, unmerged, stayUnmerged}
 use Rattle.group_side.proofs.Bytes.{fit-split}
-use Rattle.group_side.proofs.Unions.{filled, clear-halves, halves-of, unmerged-valid, unmerged-status, fit-united}
+use Rattle.group_side.proofs.Slots.{clear-halves, halves-of, number-below}
+use Rattle.group_side.proofs.Unions.{filled, unmerged-valid, unmerged-status, fit-united}
 
 -- bytes tested in two parts
 fit-both : (k : ℕ) (xs ys : List ℕ) → fit (take k xs) (take k ys) ≡ true → fit (drop k xs) (drop k ys) ≡ true → fit xs ys ≡ true
@@ -65,10 +65,6 @@ join-marks {n} (fits l) (fits r) e =
     (omega arith, omega (arith, high))
 join-marks {n} (fits l) (over t) e = absurd (held-marks n (total l + t) e)
 join-marks {n} (over s) y e = absurd (held-marks n (s + sumTotal y) e)
-
-number-below : (n : ℕ) (xs : List ℕ) → length xs ≡ 2 ^ n → Bytes xs → number xs < cap n
-unfolding cap
-number-below n xs l b = rw l at (number-lt xs b)
 
 slot-fit : (xs ys : List ℕ) → length xs ≡ 1 → length ys ≡ 1 → number xs + number ys < cap 0 → fit xs ys ≡ true
 unfolding fit number cap

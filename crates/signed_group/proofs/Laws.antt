@@ -6,16 +6,16 @@ use native.Mathlib.Omega.{arith}
 use borrow.Author.Tests.{eq-eqb, ne-eqb}
 use lib.IntN.{ℤ, _+ℤ_, natAbs}
 use Rattle.little_endian.specs.Bytes.{number}
-use Rattle.group_layout.specs.Layout.{layout, valid}
+use Rattle.group_layout.specs.Layout.{ones, layout, valid}
 use Rattle.group_layout.proofs.Laws.{layout-marks}
 use Rattle.group_block.specs.Block.{BlockOf, cap, Fits, shape, allClean, total}
 use Rattle.group_block.specs.declared.Summed.{Summed}
-use Rattle.group_block.specs.Sum.{SumOf, over, add, unite, sumTotal}
+use Rattle.group_block.specs.Sum.{SumOf, add, unite, sumTotal}
 use Rattle.group_block.proofs.Adding.{Sound, unite-sound, unite-total-of}
 use Rattle.group_block.proofs.Laws.{word-clean, block-fits-of}
 use Rattle.answer.specs.Numbers.{invalidContent, counterFull, minusZero}
 use Rattle.answer.specs.Order.{firstOf, unless}
-use Rattle.answer.proofs.Order.{none-earlier, none-first}
+use Rattle.answer.proofs.Order.{earlier-none, none-earlier, none-first}
 use Rattle.group.specs.declared.Group.{Group}
 use Rattle.group.specs.declared.Outcome.{Outcome}
 use Rattle.group.specs.Group.{encode, unchanged, settle}
@@ -60,6 +60,18 @@ good-clean g e =
 pub pair-clean : (g h : Group) → badPair g h ≡ 0 → Clean g × Clean h
 unfolding badPair
 pair-clean g h e = let p = none-earlier (badGroup g) (badGroup h) e in (good-clean g (p .0), good-clean h (p .1))
+
+pub clean-pair : (g h : Group) → Clean g → Clean h → badPair g h ≡ 0
+unfolding badPair
+clean-pair g h o p = rw (clean-good g o, clean-good h p) (earlier-none 0)
+
+-- one that is not merged
+pub unmerged-valid : valid 3 0 ≡ true
+unfolding valid ones
+unmerged-valid = refl
+
+pub unmerged-clean : (g : Group) → g .merge ≡ 0 → allClean signed (layout 3 0) (number (g .counts)) ≡ true → Clean g
+unmerged-clean g e c = record { merges = rw e unmerged-valid; counters = rw e c }
 
 -- a block whose counters hold their values is what its encoding stands for, and that encoding is refused by no line
 pub decode-encode : (b : BlockOf signed 3) → Fits b → decode (encode b) ≡ b

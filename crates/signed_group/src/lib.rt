@@ -14,6 +14,7 @@ use signed_words::no_minus_zero;
 use signed_words::sum_fits;
 use signed_words::times_sign;
 ghost use mathlib.Core.Path.{_≡_};
+ghost use mathlib.Core.Bool.{true};
 ghost use Prim.Native.Nat.{_<_, _^_};
 ghost use Rattle.group.specs.Group.{settle};
 ghost use Rattle.group_block.specs.Sum.{SumOf};
@@ -105,10 +106,28 @@ pub fn add(g: Group, slot: usize, minus: bool, magnitude: u32) -> Outcome
     outcome(g, signed_block::add(3, word, g.merge, k, amount))
 }
 
+// Whether two groups are not merged and no slot is minus zero. Of most groups that is so, and no more is asked of them.
+fn clean_pair(target: Group, source: Group) -> bool
+    ensures { λ r. ⌜ (r ≡ true → badPair target source ≡ 0) ⌝ }
+{
+    let counts = target.counts;
+    let source_counts = source.counts;
+    if target.merge | source.merge != 0 {
+        return false;
+    }
+    if !no_minus_zero(number_of(counts), 0) {
+        return false;
+    }
+    no_minus_zero(number_of(source_counts), 0)
+}
+
 // Why either of two groups is refused: 5 in either comes before 13 in either.
 fn bad_pair(target: Group, source: Group) -> u8
     ensures { λ r. ⌜ r ≡ badPair target source ⌝ }
 {
+    if clean_pair(target, source) {
+        return 0;
+    }
     earlier(bad_group(target), bad_group(source))
 }
 

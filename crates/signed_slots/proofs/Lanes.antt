@@ -1,10 +1,10 @@
 -- Sums of slots in the bytes of a number, byte by byte: for any number of bytes.
-use mathlib.Core.Path.{_≡_, refl, sym, ap, ap₂, _∙_}
+use mathlib.Core.Path.{_≡_, refl, ap, ap₂, _∙_}
 use mathlib.Core.List.{List, [], _∷_}
 use Prim.Native.Nat.{ℕ, zero, suc, _+_, _*_, _/_, _%_, _^_, _≤_, _<_}
 use native.Mathlib.Omega.{arith}
 use lib.Bits.{bitAnd, bitOr, bitXor, and-block, or-block, xor-block, and-mask, and-le-l, and-le-r, xor-lt}
-use lib.ListN.{length, getD}
+use lib.ListN.{length}
 use Rattle.laws.proofs.Lists.{Bytes}
 use Rattle.little_endian.specs.Bytes.{number}
 use Rattle.little_endian.proofs.Bytes.{number-lt}

@@ -1,18 +1,18 @@
 -- The sum of two slots: a byte each, sign and magnitude.
 use mathlib.Core.Path.{_≡_, refl, sym, ap, ap₂, _∙_}
 use mathlib.Core.Bool.{Bool, true, false, cond, not}
-use Prim.Native.Nat.{ℕ, zero, suc, _+_, _-_, _*_, _/_, _%_, _≤_, _<_}
+use Prim.Native.Nat.{ℕ, suc, _+_, _-_, _*_, _/_, _%_, _≤_, _<_}
 use native.Mathlib.Decide.{decLt}
 use native.Mathlib.Omega.{arith}
 use borrow.Author.Tests.{lt-ltb, le-ltb}
-use lib.Bits.{bitAnd, bitOr, bitXor, and-mask, and-zero-l, and-zero-r, or-zero-r, or-shifted-r, xor-zero-r, xor-self, xor-add-and}
+use lib.Bits.{bitAnd, bitOr, bitXor, and-mask, and-zero-l, or-zero-r, or-shifted-r, xor-zero-r, xor-self, xor-add-and}
 use lib.IntN.{ℤ, pos, _+ℤ_, negℤ, natAbs}
 use Rattle.signed_number.specs.Number.{timesSign, integer}
 use Rattle.signed_number.proofs.Integers.{abs-integer, times-plus, sum-parts}
 use Rattle.signed_block.specs.Signed.{top, signBits, signRead}
 use Rattle.signed_block.proofs.Counters.{bits-neg}
 use Rattle.signed_slots.specs.Slots.{signs, magnitudes, folded, apart, total, past, size, minus, sums, over}
-use Rattle.signed_slots.proofs.Lanes.{signs-is, magnitudes-is, total-lt, size-le}
+use Rattle.signed_slots.proofs.Lanes.{signs-is, magnitudes-is, size-le}
 
 -- a slot's value by its sign and its magnitude
 read-is : (w : ℕ) (s : Bool) → w / 128 ≡ cond s 1 0 → signRead 0 w ≡ integer s (w % 128)

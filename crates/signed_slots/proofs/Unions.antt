@@ -1,10 +1,10 @@
 -- The sums of slots in the bytes of two numbers are the union of two unmerged groups, where each slot holds its sum.
-use mathlib.Core.Path.{_≡_, refl, sym, ap, _∙_}
+use mathlib.Core.Path.{_≡_, refl, sym, _∙_}
 use mathlib.Core.List.{List, [], _∷_}
-use Prim.Native.Nat.{ℕ, zero, suc, _+_, _*_, _/_, _%_, _^_, _≤_, _<_}
+use Prim.Native.Nat.{ℕ, zero, suc, _+_, _*_, _/_, _^_, _<_}
 use native.Mathlib.Omega.{arith}
 use lib.Bits.{bitXor, and-le-l, and-le-r, xor-add-and}
-use lib.ListN.{length, getD}
+use lib.ListN.{length}
 use Rattle.laws.proofs.Lists.{Bytes}
 use Rattle.little_endian.specs.Bytes.{number, bytes}
 use Rattle.little_endian.proofs.Bytes.{number-bytes}

@@ -1,4 +1,4 @@
-use mathlib.Core.Path.{_≡_, ap, ap₂, _∙_}
+use mathlib.Core.Path.{ap₂}
 use lib.Bits.{bitXor}
 use Rattle.signed_slots.specs.Slots.{apart}
 use borrow.Author.Needs.{needs}

@@ -3,7 +3,7 @@ use Prim.Native.Nat.{ℕ, _*_}
 use native.Mathlib.Omega.{arith}
 use borrow.Author.Tests.{eqb-true}
 use lib.Bits.{bitOr}
-use Rattle.signed_slots.specs.Slots.{ones, lows, sums, Stay}
+use Rattle.signed_slots.specs.Slots.{ones, lows, sums}
 use Rattle.signed_slots.proofs.Unions.{stay, minus-product}
 use borrow.Author.Needs.{needs}
 use Rattle.signed_slots.proofs.unite_slots.Statement.{statement}
