@@ -16,7 +16,7 @@ use Rattle.little_endian.specs.Bytes.{number}
 use Rattle.little_endian.proofs.Bytes.{number-lt}
 use Rattle.group_layout.specs.Layout.{halves, bit, ones, layout, valid}
 use Rattle.group_block.specs.Kind.{Kind}
-use Rattle.group_block.specs.Block.{BlockOf, counter, split, cap, fill, allClean, blockAs, total}
+use Rattle.group_block.specs.Block.{counter, cap, fill, allClean, blockAs, total}
 use Rattle.group_block.specs.Sum.{fits, held, join, unite}
 use Rattle.group_block.specs.Passed.{Passing, summedAs}
 use Rattle.group_block.proofs.Codes.{Codes}
@@ -87,52 +87,45 @@ module _ {R : ℕ → ℕ → ℕ → Type 0} where
   each-of (x ∷ xs) (y ∷ ys) [] l m f = absurd (omega arith)
   each-of (x ∷ xs) (y ∷ ys) (z ∷ zs) l m f = more (f 0 (omega arith)) (each-of xs ys zs (omega arith) (omega arith) (λ i h. f (suc i) (omega arith)))
 
--- every counter of a block turned to another value
-pub record Turn (K : Kind) : Type 0 where
-  pub value : K .Value → K .Value
-  pub block : {n : ℕ} → BlockOf K n → BlockOf K n
-  pub counter-is : {n : ℕ} (v : K .Value) → block {n = n} (counter v) ≡ counter (value v)
-  pub split-is : {n : ℕ} (l r : BlockOf K n) → block (split l r) ≡ split (block l) (block r)
-
--- slot c holds the sum of slots a and b, b turned
-pub record Holds (K : Kind) (T : Turn K) (a b c : ℕ) : Type 0 where
+-- slot c holds the sum of slots a and b
+pub record Holds (K : Kind) (a b c : ℕ) : Type 0 where
   pub first : a < 256
   pub second : b < 256
-  pub small : K .size (K .plus (K .read 0 a) (T .value (K .read 0 b))) < K .bound 0
-  pub is : c ≡ K .bits 0 (K .plus (K .read 0 a) (T .value (K .read 0 b)))
+  pub small : K .size (K .plus (K .read 0 a) (K .read 0 b)) < K .bound 0
+  pub is : c ≡ K .bits 0 (K .plus (K .read 0 a) (K .read 0 b))
 
-module _ {K : Kind} (C : Codes K) (T : Turn K) where
-  third : {a b c : ℕ} → Holds K T a b c → c < 256
+module _ {K : Kind} (C : Codes K) where
+  third : {a b c : ℕ} → Holds K a b c → c < 256
   unfolding cap
   third r = rw (r .is) (C .bits-lt 0 _ (r .small))
 
-  pub each-bytes : {xs ys zs : List ℕ} → Each (Holds K T) xs ys zs → Bytes xs × Bytes ys × Bytes zs
+  pub each-bytes : {xs ys zs : List ℕ} → Each (Holds K) xs ys zs → Bytes xs × Bytes ys × Bytes zs
   each-bytes s = (λ i. at s i .0, λ i. at s i .1, λ i. at s i .2)
     where
-      at : {xs ys zs : List ℕ} → Each (Holds K T) xs ys zs → (i : ℕ) → (getD xs i 0 < 256) × (getD ys i 0 < 256) × (getD zs i 0 < 256)
+      at : {xs ys zs : List ℕ} → Each (Holds K) xs ys zs → (i : ℕ) → (getD xs i 0 < 256) × (getD ys i 0 < 256) × (getD zs i 0 < 256)
       at none i = (omega arith, omega arith, omega arith)
       at (more r s) zero = (r .first, r .second, third r)
       at (more r s) (suc i) = at s i
 
-  slot-united : {a b c : ℕ} → Holds K T a b c
-      → unite (counter {n = 0} (K .read 0 a)) (T .block (counter (K .read 0 b))) ≡ fits (counter (K .read 0 c))
+  slot-united : {a b c : ℕ} → Holds K a b c
+      → unite {K = K} (counter {n = 0} (K .read 0 a)) (counter (K .read 0 b)) ≡ fits (counter (K .read 0 c))
   unfolding unite total held
   slot-united {a} {b} {c} r =
-      rw (T .counter-is {n = 0} (K .read 0 b), lt-ltb (K .size (K .plus (K .read 0 a) (T .value (K .read 0 b)))) (K .bound 0) (r .small), r .is, C .read-bits 0 _ (r .small))
+      rw (lt-ltb (K .size (K .plus (K .read 0 a) (K .read 0 b))) (K .bound 0) (r .small), r .is, C .read-bits 0 _ (r .small))
 
-  one-united : {xs ys zs : List ℕ} → length xs ≡ 1 → Each (Holds K T) xs ys zs
-      → unite (counter {n = 0} (K .read 0 (number xs))) (T .block (counter (K .read 0 (number ys)))) ≡ fits (counter (K .read 0 (number zs)))
+  one-united : {xs ys zs : List ℕ} → length xs ≡ 1 → Each (Holds K) xs ys zs
+      → unite {K = K} (counter {n = 0} (K .read 0 (number xs))) (counter (K .read 0 (number ys))) ≡ fits (counter (K .read 0 (number zs)))
   one-united l none = absurd (omega arith)
   one-united l (more {a} {b} {c} r none) = rw (number-one a, number-one b, number-one c) (slot-united r)
   one-united l (more r (more q s)) = absurd (omega arith)
 
-  one-clean : {xs ys zs : List ℕ} → length xs ≡ 1 → Each (Holds K T) xs ys zs → K .clean 0 (number zs) ≡ true
+  one-clean : {xs ys zs : List ℕ} → length xs ≡ 1 → Each (Holds K) xs ys zs → K .clean 0 (number zs) ≡ true
   one-clean l none = absurd (omega arith)
   one-clean l (more {a} {b} {c} r none) = rw (number-one c, r .is) (C .bits-clean 0 _ (r .small))
   one-clean l (more r (more q s)) = absurd (omega arith)
 
   -- the numbers of bytes of two halves
-  module _ (n : ℕ) {xs ys zs : List ℕ} (l : length xs ≡ 2 ^ suc n) (s : Each (Holds K T) xs ys zs) where
+  module _ (n : ℕ) {xs ys zs : List ℕ} (l : length xs ≡ 2 ^ suc n) (s : Each (Holds K) xs ys zs) where
     low-long : length (take (2 ^ n) xs) ≡ 2 ^ n
     low-long = length-take-le (2 ^ n) xs (omega arith)
 
@@ -147,8 +140,8 @@ module _ {K : Kind} (C : Codes K) (T : Turn K) where
         (number-below n _ low-long (b .0), number-below n _ (m .0 ∙ low-long) (b .1), number-below n _ (m .1 ∙ low-long) (b .2))
 
   -- unmerged blocks of any level: the union, and no slot of it has bits of no value
-  slots-united : (n : ℕ) {xs ys zs : List ℕ} → length xs ≡ 2 ^ n → Each (Holds K T) xs ys zs
-      → unite (fill {K = K} (layout n 0) (number xs)) (T .block (fill (layout n 0) (number ys))) ≡ fits (fill (layout n 0) (number zs))
+  slots-united : (n : ℕ) {xs ys zs : List ℕ} → length xs ≡ 2 ^ n → Each (Holds K) xs ys zs
+      → unite (fill {K = K} (layout n 0) (number xs)) (fill (layout n 0) (number ys)) ≡ fits (fill (layout n 0) (number zs))
   unfolding fill unite join layout
   slots-united zero l s = one-united l s
   slots-united (suc n) {xs} {ys} {zs} l s =
@@ -156,12 +149,11 @@ module _ {K : Kind} (C : Codes K) (T : Turn K) where
       let x = halves-of n xs (b .0) in
       let y = halves-of n ys (b .1) in
       let z = halves-of n zs (b .2) in
-      let parts = T .split-is (fill (layout n 0) (number (take (2 ^ n) ys))) (fill (layout n 0) (number (drop (2 ^ n) ys))) in
       let low = slots-united n (low-long n l s) (each-take (2 ^ n) s) in
       let high = slots-united n (high-long n l s) (each-drop (2 ^ n) s) in
-      rw (clear-halves n, x .0, x .1, y .0, y .1, z .0, z .1, parts, low, high)
+      rw (clear-halves n, x .0, x .1, y .0, y .1, z .0, z .1, low, high)
 
-  slots-clean : (n : ℕ) {xs ys zs : List ℕ} → length xs ≡ 2 ^ n → Each (Holds K T) xs ys zs → allClean K (layout n 0) (number zs) ≡ true
+  slots-clean : (n : ℕ) {xs ys zs : List ℕ} → length xs ≡ 2 ^ n → Each (Holds K) xs ys zs → allClean K (layout n 0) (number zs) ≡ true
   unfolding allClean layout
   slots-clean zero l s = one-clean l s
   slots-clean (suc n) {xs} {ys} {zs} l s =
@@ -170,17 +162,17 @@ module _ {K : Kind} (C : Codes K) (T : Turn K) where
       let high = slots-clean n (high-long n l s) (each-drop (2 ^ n) s) in
       rw (clear-halves n, z .0, z .1, low, high)
 
-  module _ (n : ℕ) {xs ys zs : List ℕ} (l : length xs ≡ 2 ^ n) (s : Each (Holds K T) xs ys zs) where
+  module _ (n : ℕ) {xs ys zs : List ℕ} (l : length xs ≡ 2 ^ n) (s : Each (Holds K) xs ys zs) where
     pub sums-below : number zs < cap n
     sums-below = number-below n zs (each-long s .1 ∙ l) (each-bytes s .2)
 
-    pub sums-united : unite (blockAs K n (number xs) 0) (T .block (blockAs K n (number ys) 0)) ≡ fits (blockAs K n (number zs) 0)
+    pub sums-united : unite (blockAs K n (number xs) 0) (blockAs K n (number ys) 0) ≡ fits (blockAs K n (number zs) 0)
     unfolding blockAs
     sums-united = slots-united n l s
 
     -- as the code passes it
     pub sums-passed : (P : Passing K)
-        → record { over = false; word = number zs; merge = 0 } ≡ summedAs P (unite (blockAs K n (number xs) 0) (T .block (blockAs K n (number ys) 0)))
+        → record { over = false; word = number zs; merge = 0 } ≡ summedAs P (unite (blockAs K n (number xs) 0) (blockAs K n (number ys) 0))
     unfolding summedAs
     sums-passed P =
         rw (sums-united, word-block-of C n (number zs) 0 sums-below (slots-clean n l s), marks-block-of K n (number zs) 0 (clear-valid n))

@@ -8,15 +8,12 @@ use group::unchanged;
 use group_block::Summed;
 use little_endian::number_of;
 use signed_number::Signed;
-use signed_slots::Slots;
-use signed_slots::combine_slots;
 use signed_words::add_in_place;
 use signed_words::counter_at;
 use signed_words::no_minus_zero;
 use signed_words::sum_fits;
 use signed_words::times_sign;
 ghost use mathlib.Core.Path.{_≡_};
-ghost use mathlib.Core.Bool.{true};
 ghost use Prim.Native.Nat.{_<_, _^_};
 ghost use Rattle.group.specs.Group.{settle};
 ghost use Rattle.group_block.specs.Sum.{SumOf};
@@ -24,7 +21,6 @@ ghost use Rattle.signed_number.specs.Number.{integer};
 ghost use Rattle.signed_block.specs.Signed.{signed};
 ghost use Rattle.signed_block.specs.Passed.{signedSummed};
 ghost use Rattle.signed_group.specs.Group.{badGroup, read, added, badPair, combined};
-ghost use Rattle.signed_group.specs.Slots.{Unmerged};
 
 // A counter that was read, or why not.
 pub struct Reading {
@@ -134,21 +130,6 @@ pub fn combine_status(minus: bool, target: Group, source: Group) -> u8
     answer::COUNTER_FULL
 }
 
-// A source group times a sign united with a target slot by slot, if neither is merged and each slot holds its sum. Most groups are so.
-fn combine_unmerged(minus: bool, target: Group, source: Group) -> Slots
-    ensures { λ r. ⌜ (r .held ≡ true → Unmerged minus target source (r .counts)) ⌝ }
-{
-    let counts = target.counts;
-    let source_counts = source.counts;
-    if target.merge | source.merge != 0 {
-        return Slots {
-            held: false,
-            counts,
-        };
-    }
-    combine_slots(minus, counts, source_counts)
-}
-
 // A source group times a sign united with a target: added to it or, with a minus, taken away from it.
 pub fn combine(minus: bool, target: Group, source: Group) -> Outcome
     ensures { λ r. ⌜ r ≡ combined minus target source ⌝ }
@@ -159,19 +140,10 @@ pub fn combine(minus: bool, target: Group, source: Group) -> Outcome
     if status != 0 {
         return unchanged(status, target);
     }
-    let s = combine_unmerged(minus, target, source);
-    if s.held {
-        let counts = s.counts;
-        return settled(Summed {
-            over: false,
-            word: number_of(counts),
-            merge: 0,
-        });
-    }
     let word = number_of(target_counts);
     let source_word = times_sign(minus, number_of(source_counts), source.merge);
     outcome(
         target,
-        signed_block::unite(3, word, target.merge, source_word, source.merge),
+        signed_slots::unite(word, target.merge, source_word, source.merge),
     )
 }

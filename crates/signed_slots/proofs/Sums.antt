@@ -1,97 +1,202 @@
--- Sums of two slots: values as bytes raised above zero, and back.
-use mathlib.Core.Path.{_≡_, refl, sym, ap, _∙_}
-use mathlib.Core.Bool.{Bool, true, false, cond}
-use Prim.Native.Nat.{ℕ, zero, suc, _+_, _-_, _%_, _≤_, _<_}
+-- The sum of two slots: a byte each, sign and magnitude.
+use mathlib.Core.Path.{_≡_, refl, sym, ap, ap₂, _∙_}
+use mathlib.Core.Bool.{Bool, true, false, cond, not}
+use Prim.Native.Nat.{ℕ, zero, suc, _+_, _-_, _*_, _/_, _%_, _≤_, _<_}
 use native.Mathlib.Decide.{decLt}
 use native.Mathlib.Omega.{arith}
-use borrow.Author.Tests.{lt-ltb, le-ltb, ltb-true, ltb-false}
-use lib.Dec.{ltb}
-use lib.IntN.{ℤ, pos, negsuc, _+ℤ_, negℤ, natAbs, negℤ-negℤ}
-use Rattle.group_block.specs.Block.{cap}
-use Rattle.signed_number.proofs.Integers.{triangle, abs-times}
-use Rattle.signed_number.specs.Number.{timesSign}
+use borrow.Author.Tests.{lt-ltb, le-ltb}
+use lib.Bits.{bitAnd, bitOr, bitXor, and-mask, and-zero-l, and-zero-r, or-zero-r, or-shifted-r, xor-zero-r, xor-self, xor-add-and}
+use lib.IntN.{ℤ, pos, _+ℤ_, negℤ, natAbs}
+use Rattle.signed_number.specs.Number.{timesSign, integer}
+use Rattle.signed_number.proofs.Integers.{abs-integer, times-plus, sum-parts}
 use Rattle.signed_block.specs.Signed.{top, signBits, signRead}
-use Rattle.signed_block.proofs.Counters.{signed-codes}
-use Rattle.signed_slots.specs.Slots.{raised, magnitude, slotOf, slotSum}
+use Rattle.signed_block.proofs.Counters.{bits-neg}
+use Rattle.signed_slots.specs.Slots.{signs, magnitudes, folded, apart, total, past, size, minus, sums, over}
+use Rattle.signed_slots.proofs.Lanes.{signs-is, magnitudes-is, total-lt, size-le}
 
--- the value of a slot
-pub read-plus : (w : ℕ) → w < 128 → signRead 0 w ≡ pos w
-unfolding signRead top
-read-plus w h = rw (lt-ltb w 128 h)
+-- a slot's value by its sign and its magnitude
+read-is : (w : ℕ) (s : Bool) → w / 128 ≡ cond s 1 0 → signRead 0 w ≡ integer s (w % 128)
+unfolding signRead top timesSign
+read-is w true e =
+    let m : w - 128 ≡ w % 128 = omega arith in
+    rw (le-ltb w 128 (omega arith), m)
+read-is w false e =
+    let m : w % 128 ≡ w = omega arith in
+    rw (lt-ltb w 128 (omega arith), m)
 
-pub read-minus : (w : ℕ) → 128 ≤ w → signRead 0 w ≡ negℤ (pos (w - 128))
-unfolding signRead top
-read-minus w h = rw (le-ltb w 128 h)
+-- a slot by a sign and a magnitude: zero is plus
+coded : ℕ → ℕ → ℕ
+coded p m = bitOr m (bitAnd p ((m + 127) / 128) * 128)
 
--- with the other sign
-pub read-turned : (w : ℕ) → w < 256 → signRead 0 ((w + 128) % 256) ≡ negℤ (signRead 0 w)
-read-turned w h = elim (decLt w 128) [
+slot-plus : (m : ℕ) → m < 128 → coded 0 m ≡ signBits 0 (pos m)
+unfolding coded signBits
+slot-plus m h = rw (and-zero-l ((m + 127) / 128)) (or-zero-r m)
+
+slot-minus : (m : ℕ) → m < 128 → coded 1 m ≡ signBits 0 (negℤ (pos m))
+unfolding coded top signBits
+slot-minus m h = elim (decLt 0 m) [
   | yes l ↦
-      let e : (w + 128) % 256 ≡ w + 128 = omega arith in
-      let m : w + 128 - 128 ≡ w = omega arith in
-      rw (e, read-plus w l) (read-minus (w + 128) (omega arith) ∙ ap (λ (x : ℕ). negℤ (pos x)) m)
-  | no l ↦
-      let e : (w + 128) % 256 ≡ w - 128 = omega arith in
-      rw (e, read-minus w (omega arith)) (read-plus (w - 128) (omega arith) ∙ sym (negℤ-negℤ (pos (w - 128))))
+      let z : (m + 127) / 128 ≡ 1 = omega arith in
+      rw z (or-shifted-r 1 7 m h ∙ sym (bits-neg 0 m l))
+  | no l ↦ let z : m ≡ 0 = omega arith in rw z
 ]
 
--- raised
-raised-neg : (base m : ℕ) → raised base (negℤ (pos m)) ≡ base - m
-unfolding raised
-raised-neg base zero = omega arith
-raised-neg base (suc m) = refl
+coded-is : (s : Bool) (m : ℕ) → m < 128 → coded (cond s 1 0) m ≡ signBits 0 (integer s m)
+unfolding timesSign
+coded-is true m h = slot-minus m h
+coded-is false m h = slot-plus m h
 
-pub raised-plus : (w : ℕ) → w < 128 → 128 + w ≡ raised 128 (signRead 0 w)
-unfolding raised
-raised-plus w h = rw (read-plus w h)
+fold-none : (w : ℕ) → folded 0 w ≡ w
+unfolding folded
+fold-none w = omega (arith, xor-zero-r w)
 
-pub raised-minus : (w : ℕ) → 128 ≤ w → w < 256 → 255 - w + 1 ≡ raised 128 (signRead 0 w)
-raised-minus w h k = rw (read-minus w h) (omega arith ∙ sym (raised-neg 128 (w - 128)))
+fold-one : (w : ℕ) → w < 128 → folded 1 w ≡ 128 - w
+unfolding folded
+fold-one w h = omega (arith, xor-add-and w 127, and-mask w 7)
 
--- the difference of two magnitudes
-raised-sub : (a b : ℕ) → b ≤ 256 → (c : Bool) → ltb a b ≡ c → raised 256 (cond c (negsuc (b - suc a)) (pos (a - b))) ≡ 256 + a - b
-unfolding raised
-raised-sub a b h true e = omega (arith, ltb-true a b e)
-raised-sub a b h false e = omega (arith, ltb-false a b e)
+-- sums by sign and magnitude
+same-sign : (s : Bool) (a b : ℕ) → integer s a +ℤ integer s b ≡ integer s (a + b)
+same-sign s a b = sym (times-plus s (pos a) (pos b))
 
--- sums
-raised-sum : (u v : ℤ) → natAbs u < 128 → natAbs v < 128 → raised 128 u + raised 128 v ≡ raised 256 (u +ℤ v)
-unfolding raised
-raised-sum (pos a) (pos b) h k = omega arith
-raised-sum (pos a) (negsuc b) h k = omega (arith, raised-sub a (suc b) (omega arith) (ltb a (suc b)) refl)
-raised-sum (negsuc a) (pos b) h k = omega (arith, raised-sub b (suc a) (omega arith) (ltb b (suc a)) refl)
-raised-sum (negsuc a) (negsuc b) h k = omega arith
+larger : (s : Bool) (a b : ℕ) → b ≤ a → integer s a +ℤ integer (not s) b ≡ integer s (a - b)
+larger true a b h = sym (rw (le-ltb a b h) at (sum-parts true false a b))
+larger false a b h = sym (rw (le-ltb a b h) at (sum-parts false true a b))
 
-module _ (minus : Bool) (a b : ℕ) (h : a < 256) (k : b < 256) where
-  small : (w : ℕ) → w < 256 → natAbs (signRead 0 w) < 128
-  unfolding top cap
-  small w l = signed-codes .read-holds 0 w l
+smaller : (s : Bool) (a b : ℕ) → a < b → integer s a +ℤ integer (not s) b ≡ integer (not s) (b - a)
+smaller true a b h = let e : suc (b - suc a) ≡ b - a = omega arith in sym (rw (lt-ltb a b h, e) at (sum-parts true false a b))
+smaller false a b h = let e : suc (b - suc a) ≡ b - a = omega arith in sym (rw (lt-ltb a b h, e) at (sum-parts false true a b))
 
-  pub sum-raised : raised 128 (signRead 0 a) + raised 128 (timesSign minus (signRead 0 b)) ≡ raised 256 (slotSum minus a b)
-  sum-raised = raised-sum (signRead 0 a) (timesSign minus (signRead 0 b)) (small a h) (rw (abs-times minus (signRead 0 b)) (small b k))
+-- a sum, by its sign and its magnitude, and its slot
+record Sum (x y : ℕ) : Type 0 where
+  sign : Bool
+  magnitude : ℕ
+  small : magnitude < 128
+  value : signRead 0 x +ℤ signRead 0 y ≡ integer sign magnitude
+  slot : sums 1 127 x y ≡ coded (cond sign 1 0) magnitude
 
-  sum-small : natAbs (slotSum minus a b) < 256
-  sum-small = omega (arith, triangle (signRead 0 a) (timesSign minus (signRead 0 b)), abs-times minus (signRead 0 b), small a h, small b k)
+module _ (x y : ℕ) (h : x < 256) (k : y < 256) where
+  abbrev m : ℕ
+  m = x % 128
 
--- the magnitude and the slot of a sum that is 256 higher
-magnitude-is : (v : ℤ) → natAbs v < 256 → magnitude (raised 256 v) ≡ natAbs v
-unfolding magnitude raised
-magnitude-is (pos m) h = rw (le-ltb (256 + m) 256 (omega arith)) (omega arith)
-magnitude-is (negsuc m) h = rw (lt-ltb (256 - suc m) 256 (omega arith)) (omega arith)
+  abbrev n : ℕ
+  n = y % 128
 
-slot-is : (v : ℤ) → natAbs v < 128 → slotOf (raised 256 v) ≡ signBits 0 v
-unfolding slotOf raised signBits top
-slot-is (pos m) h =
-    let e = magnitude-is (pos m) (omega arith) in
-    rw (le-ltb (256 + m) 256 (omega arith)) (omega (arith, e))
-slot-is (negsuc m) h =
-    let e = magnitude-is (negsuc m) (omega arith) in
-    rw (lt-ltb (256 - suc m) 256 (omega arith)) (omega (arith, e))
+  sums-coded : sums 1 127 x y ≡ coded (bitXor (signs 1 x) (past 1 127 x y)) (size 1 127 x y)
+  unfolding sums minus coded
+  sums-coded = rw (signs-is (size 1 127 x y + 127) (omega (arith, size-le x y)))
 
--- a sum whose magnitude is below 128
-pub sum-held : (minus : Bool) (a b : ℕ) → a < 256 → b < 256 → magnitude (raised 256 (slotSum minus a b)) < 128
-    → (natAbs (slotSum minus a b) < top 0) × (slotOf (raised 256 (slotSum minus a b)) ≡ signBits 0 (slotSum minus a b))
-unfolding top
-sum-held minus a b h k l =
-    let m : natAbs (slotSum minus a b) < 128 = rw (magnitude-is (slotSum minus a b) (sum-small minus a b h k)) at l in
-    (m, slot-is (slotSum minus a b) m)
+  -- of one sign
+  module _ (a : apart 1 x y ≡ 0) where
+    same-total : total 1 127 x y ≡ m + n
+    unfolding total
+    same-total = rw (a, fold-none (magnitudes 127 y), magnitudes-is x, magnitudes-is y)
+
+    same-over : over 1 127 x y ≡ 0 → m + n < 128
+    unfolding over
+    same-over e =
+        let t : signs 1 (total 1 127 x y) ≡ (m + n) / 128 = rw same-total (signs-is (m + n) (omega arith)) in
+        let o : bitAnd ((m + n) / 128) 1 ≡ 0 = rw (t, a) at e in
+        omega (arith, and-mask ((m + n) / 128) 1)
+
+    same-past : past 1 127 x y ≡ 0
+    unfolding past
+    same-past = rw a (and-zero-l (bitXor (signs 1 (total 1 127 x y)) 1))
+
+    same-size : m + n < 128 → size 1 127 x y ≡ m + n
+    unfolding size
+    same-size l = rw (same-past, fold-none (magnitudes 127 (total 1 127 x y)), magnitudes-is (total 1 127 x y), same-total) (omega arith)
+
+  -- of two signs
+  module _ (a : apart 1 x y ≡ 1) where
+    other-total : total 1 127 x y ≡ m + (128 - n)
+    unfolding total
+    other-total = rw (a, magnitudes-is x, magnitudes-is y, fold-one n (omega arith))
+
+    above : signs 1 (total 1 127 x y) ≡ (m + (128 - n)) / 128
+    above = rw other-total (signs-is (m + (128 - n)) (omega arith))
+
+    large-past : n ≤ m → past 1 127 x y ≡ 0
+    unfolding past
+    large-past l = let e : (m + (128 - n)) / 128 ≡ 1 = omega arith in rw (a, above, e)
+
+    large-size : n ≤ m → size 1 127 x y ≡ m - n
+    unfolding size
+    large-size l = rw (large-past l, fold-none (magnitudes 127 (total 1 127 x y)), magnitudes-is (total 1 127 x y), other-total) (omega arith)
+
+    small-past : m < n → past 1 127 x y ≡ 1
+    unfolding past
+    small-past l = let e : (m + (128 - n)) / 128 ≡ 0 = omega arith in rw (a, above, e)
+
+    small-size : m < n → size 1 127 x y ≡ n - m
+    unfolding size
+    small-size l =
+        let e : (m + (128 - n)) % 128 ≡ 128 - (n - m) = omega arith in
+        rw (small-past l, magnitudes-is (total 1 127 x y), other-total, e, fold-one (128 - (n - m)) (omega arith)) (omega arith)
+
+  -- by the signs
+  module _ (s t : Bool) (e : x / 128 ≡ cond s 1 0) (f : y / 128 ≡ cond t 1 0) where
+    apart-is : apart 1 x y ≡ bitXor (cond s 1 0) (cond t 1 0)
+    unfolding apart
+    apart-is = rw (signs-is x h, signs-is y k, e, f)
+
+    first-is : signs 1 x ≡ cond s 1 0
+    first-is = signs-is x h ∙ e
+
+    value-is : signRead 0 x +ℤ signRead 0 y ≡ integer s m +ℤ integer t n
+    value-is = ap₂ (λ (u v : ℤ). u +ℤ v) (read-is x s e) (read-is y t f)
+
+  one-sign : (s : Bool) → x / 128 ≡ cond s 1 0 → y / 128 ≡ cond s 1 0 → over 1 127 x y ≡ 0 → Sum x y
+  one-sign s e f o =
+      let a : apart 1 x y ≡ 0 = apart-is s s e f ∙ xor-self (cond s 1 0) in
+      let l = same-over a o in
+      record {
+        sign = s;
+        magnitude = m + n;
+        small = l;
+        value = value-is s s e f ∙ same-sign s m n;
+        slot = sums-coded ∙ rw (same-past a, same-size a l, first-is s s e f, xor-zero-r (cond s 1 0));
+      }
+
+  flags-apart : (s : Bool) → bitXor (cond s 1 0) (cond (not s) 1 0) ≡ 1
+  flags-apart true = refl
+  flags-apart false = refl
+
+  flag-turned : (s : Bool) → bitXor (cond s 1 0) 1 ≡ cond (not s) 1 0
+  flag-turned true = refl
+  flag-turned false = refl
+
+  two-signs : (s : Bool) → x / 128 ≡ cond s 1 0 → y / 128 ≡ cond (not s) 1 0 → Sum x y
+  two-signs s e f =
+      let a : apart 1 x y ≡ 1 = apart-is s (not s) e f ∙ flags-apart s in
+      elim (decLt m n) [
+        | yes l ↦
+            record {
+              sign = not s;
+              magnitude = n - m;
+              small = omega arith;
+              value = value-is s (not s) e f ∙ smaller s m n l;
+              slot = sums-coded ∙ rw (small-past a l, small-size a l, first-is s (not s) e f, flag-turned s);
+            }
+        | no o ↦
+            let l : n ≤ m = omega arith in
+            record {
+              sign = s;
+              magnitude = m - n;
+              small = omega arith;
+              value = value-is s (not s) e f ∙ larger s m n l;
+              slot = sums-coded ∙ rw (large-past a l, large-size a l, first-is s (not s) e f, xor-zero-r (cond s 1 0));
+            }
+      ]
+
+  sum-is : over 1 127 x y ≡ 0 → Sum x y
+  sum-is o = elim (decLt x 128) [
+    | yes l ↦ elim (decLt y 128) [ yes p ↦ one-sign false (omega arith) (omega arith) o | no p ↦ two-signs false (omega arith) (omega arith) ]
+    | no l ↦ elim (decLt y 128) [ yes p ↦ two-signs true (omega arith) (omega arith) | no p ↦ one-sign true (omega arith) (omega arith) o ]
+  ]
+
+  -- the slot holds the sum, and has its bits
+  pub sum-held : over 1 127 x y ≡ 0
+      → (natAbs (signRead 0 x +ℤ signRead 0 y) < top 0) × (sums 1 127 x y ≡ signBits 0 (signRead 0 x +ℤ signRead 0 y))
+  unfolding top
+  sum-held o = let r = sum-is o in
+      (rw (r .value, abs-integer (r .sign) (r .magnitude)) (r .small), r .slot ∙ coded-is (r .sign) (r .magnitude) (r .small) ∙ ap (signBits 0) (sym (r .value)))

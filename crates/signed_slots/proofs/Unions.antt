@@ -1,56 +1,87 @@
--- Slots that hold their sums, one by one, are the union of two unmerged groups.
-use mathlib.Core.Path.{_≡_, refl, sym, _∙_}
-use mathlib.Core.Bool.{Bool}
-use mathlib.Core.List.{List}
-use Prim.Native.Nat.{ℕ, _+_, _<_}
-use native.Mathlib.Decide.{decLt}
+-- The sums of slots in the bytes of two numbers are the union of two unmerged groups, where each slot holds its sum.
+use mathlib.Core.Path.{_≡_, refl, sym, ap, _∙_}
+use mathlib.Core.List.{List, [], _∷_}
+use Prim.Native.Nat.{ℕ, zero, suc, _+_, _*_, _/_, _%_, _^_, _≤_, _<_}
 use native.Mathlib.Omega.{arith}
-use lib.Bits.{bitOr, or-add-and, and-le-l, and-le-r}
-use lib.ListN.{length, getD, set}
-use lib.Seq.{getD-set-same, getD-set-other}
-use Rattle.group_side.proofs.Slots.{Turn, Holds, each-of, sums-passed}
-use Rattle.signed_number.specs.Number.{timesSign}
-use Rattle.signed_block.specs.Signed.{signed, timesBlock}
+use lib.Bits.{bitXor, and-le-l, and-le-r, xor-add-and}
+use lib.ListN.{length, getD}
+use Rattle.laws.proofs.Lists.{Bytes}
+use Rattle.little_endian.specs.Bytes.{number, bytes}
+use Rattle.little_endian.proofs.Bytes.{number-bytes}
+use Rattle.group_side.proofs.Slots.{Each, none, more, Holds, sums-passed}
+use Rattle.signed_block.specs.Signed.{signed}
 use Rattle.signed_block.specs.Passed.{signedPassing}
 use Rattle.signed_block.proofs.Counters.{signed-codes}
-use Rattle.signed_slots.specs.Slots.{raised, magnitude, slotOf, slotSum, Stay}
+use Rattle.signed_slots.specs.Slots.{ones, lows, signs, magnitudes, spread, folded, apart, total, past, size, minus, sums, over, Stay}
+use Rattle.signed_slots.proofs.Lanes.{rep, zip, lanes, lanes-lt, total-lt, size-le, total-lanes, raised-lanes, sums-lanes, over-lanes}
 use Rattle.signed_slots.proofs.Sums.{sum-held}
 
-pub sign : Bool → Turn signed
-unfolding timesBlock
-sign minus = record { value = timesSign minus; block = λ b. timesBlock minus b; counter-is = λ v. refl; split-is = λ l r. refl }
+each-held : (xs ys : List ℕ) → length ys ≡ length xs → Bytes xs → Bytes ys → number (zip (over 1 127) xs ys) ≡ 0
+    → Each (Holds signed) xs ys (zip (sums 1 127) xs ys)
+unfolding zip number
+each-held [] [] m b c e = none
+each-held [] (y ∷ ys) m b c e = absurd (omega arith)
+each-held (x ∷ xs) [] m b c e = absurd (omega arith)
+each-held (x ∷ xs) (y ∷ ys) m b c e =
+    let s = sum-held x y (b 0) (c 0) (omega arith) in
+    more (record { first = b 0; second = c 0; small = s .0; is = s .1 }) (each-held xs ys (omega arith) (λ i. b (suc i)) (λ i. c (suc i)) (omega arith))
 
--- slot c holds the sum of slots a and b, b times a sign
-abbrev pub Slot : Bool → ℕ → ℕ → ℕ → Type 0
-Slot minus a b c = Holds signed (sign minus) a b c
+bytes-small : (n v : ℕ) → Bytes (bytes n v)
+unfolding bytes
+bytes-small zero v i = omega arith
+bytes-small (suc n) v zero = omega arith
+bytes-small (suc n) v (suc i) = bytes-small n (v / 256) i
 
-pub slot-held : (minus : Bool) (a b : ℕ) → a < 256 → b < 256 → magnitude (raised 256 (slotSum minus a b)) < 128
-    → Slot minus a b (slotOf (raised 256 (slotSum minus a b)))
-unfolding sign
-slot-held minus a b h k l = let s = sum-held minus a b h k l in record { first = h; second = k; small = s .0; is = s .1 }
+-- numbers of eight bytes
+eight-lanes : (e : ℕ → ℕ → ℕ → ℕ → ℕ) (w v : ℕ) → w < 2 ^ 64 → v < 2 ^ 64
+    → e (rep 1 8) (rep 127 8) (number (bytes 8 w)) (number (bytes 8 v)) ≡ e ones lows w v
+unfolding rep
+eight-lanes e w v h k = rw (number-bytes 8 w h, number-bytes 8 v k)
 
--- the first slots hold their sums, if no magnitude taken together passes 127
-abbrev pub Held : Bool → List ℕ → List ℕ → List ℕ → ℕ → ℕ → Type 0
-Held minus counts source bytes any i = (j : ℕ) → j < i → any < 128 → Slot minus (getD counts j 0) (getD source j 0) (getD bytes j 0)
+module _ (w v : ℕ) (h : w < 2 ^ 64) (k : v < 2 ^ 64) where
+  pub total-in : total ones lows w v < 2 ^ 64
+  unfolding bytes
+  total-in = rw (eight-lanes total w v h k) at
+      (lanes-lt total total-lanes (λ x y. total-lt x y) (bytes 8 w) (bytes 8 v) refl (bytes-small 8 w) (bytes-small 8 v))
 
--- one slot more
-pub held-more : (minus : Bool) (counts source bytes : List ℕ) (any i : ℕ) → i < length bytes → getD counts i 0 < 256 → getD source i 0 < 256
-    → Held minus counts source bytes any i → let sum = raised 256 (slotSum minus (getD counts i 0) (getD source i 0)) in
-    Held minus counts source (set bytes i (slotOf sum)) (bitOr any (magnitude sum)) (i + 1)
-held-more minus counts source bytes any i k a b held = λ j h l.
-    let sum = raised 256 (slotSum minus (getD counts i 0) (getD source i 0)) in
-    elim (decLt j i) [
-      | yes o ↦
-          rw (getD-set-other bytes i j (slotOf sum) 0 (λ e. omega arith))
-          (held j o (omega (arith, or-add-and any (magnitude sum), and-le-r any (magnitude sum))))
-      | no o ↦
-          let e : j ≡ i = omega arith in
-          rw (e, getD-set-same bytes i (slotOf sum) 0 k)
-          (slot-held minus (getD counts i 0) (getD source i 0) a b (omega (arith, or-add-and any (magnitude sum), and-le-l any (magnitude sum))))
-    ]
+  pub raised-in : size ones lows w v + lows < 2 ^ 64
+  unfolding bytes
+  raised-in = rw (eight-lanes (λ o l x y. size o l x y + l) w v h k) at
+      (lanes-lt (λ o l x y. size o l x y + l) raised-lanes (λ x y. omega (arith, size-le x y)) (bytes 8 w) (bytes 8 v) refl (bytes-small 8 w) (bytes-small 8 v))
 
-pub stay : (minus : Bool) (counts source bytes : List ℕ) → length counts ≡ 8 → length source ≡ 8 → length bytes ≡ 8
-    → (any : ℕ) → any < 128 → Held minus counts source bytes any 8 → Stay minus counts source bytes
-unfolding sign
-stay minus counts source bytes l m k any s held =
-    sums-passed signed-codes (sign minus) 3 l (each-of counts source bytes (m ∙ sym l) (k ∙ sym l) (λ i h. held i (omega arith) s)) signedPassing
+  pub stay : over ones lows w v ≡ 0 → Stay w 0 v 0 (sums ones lows w v)
+  unfolding bytes
+  stay e =
+      let xs = bytes 8 w in
+      let ys = bytes 8 v in
+      let o : number (zip (over 1 127) xs ys) ≡ 0 =
+      sym (lanes over over-lanes xs ys refl (bytes-small 8 w) (bytes-small 8 v)) ∙ eight-lanes over w v h k ∙ e in
+      let s : number (zip (sums 1 127) xs ys) ≡ sums ones lows w v =
+      sym (lanes sums sums-lanes xs ys refl (bytes-small 8 w) (bytes-small 8 v)) ∙ eight-lanes sums w v h k in
+      rw (s, number-bytes 8 w h, number-bytes 8 v k) at
+      (sums-passed signed-codes 3 {xs = xs} {ys = ys} refl (each-held xs ys refl (bytes-small 8 w) (bytes-small 8 v) o) signedPassing)
+
+-- the code's sums
+module _ (w v : ℕ) (h : w < 2 ^ 64) (k : v < 2 ^ 64) where
+  pub folded-in : folded (apart ones w v) (magnitudes lows v) < 2 ^ 64
+  unfolding total
+  folded-in = let t = total-in w v h k in omega arith
+
+  pub size-in : size ones lows w v < 2 ^ 64
+  size-in = omega (arith, raised-in w v h k)
+
+-- and products
+pub apart-spread : (w v : ℕ) → spread (apart ones w v) < 2 ^ 64
+unfolding spread apart signs
+apart-spread w v =
+    omega (arith, xor-add-and (signs ones w) (signs ones v), and-le-r (w / 128) ones, and-le-r (v / 128) ones)
+
+pub past-spread : (w v : ℕ) → spread (past ones lows w v) < 2 ^ 64
+unfolding spread past
+past-spread w v =
+    omega (arith, and-le-l (apart ones w v) (bitXor (signs ones (total ones lows w v)) ones), apart-spread w v)
+
+pub minus-product : (w v : ℕ) → minus ones lows w v * 128 < 2 ^ 64
+unfolding minus signs
+minus-product w v =
+    omega (arith, and-le-r (bitXor (signs ones w) (past ones lows w v)) (signs ones (size ones lows w v + lows)), and-le-r ((size ones lows w v + lows) / 128) ones)

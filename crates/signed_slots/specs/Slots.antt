@@ -1,35 +1,59 @@
--- Sums of unmerged slots of a signed group. The code's own terms.
-use Prim.Native.Nat.{ℕ, suc, _+_, _-_, _%_}
+-- Unmerged slots of a signed group in the bytes of a number. The code's own terms.
+-- Of any number of bytes: o has a 1 and l has 127 in each.
+use Prim.Native.Nat.{ℕ, _+_, _*_, _/_}
 use mathlib.Core.Path.{_≡_}
-use mathlib.Core.Bool.{Bool, false, cond}
-use mathlib.Core.List.{List}
-use lib.Dec.{ltb}
-use lib.IntN.{ℤ, pos, negsuc, _+ℤ_}
-use Rattle.little_endian.specs.Bytes.{number}
+use mathlib.Core.Bool.{false}
+use lib.Bits.{bitAnd, bitOr, bitXor}
 use Rattle.group_block.specs.Sum.{unite}
-use Rattle.signed_number.specs.Number.{timesSign}
-use Rattle.signed_block.specs.Signed.{signRead, timesBlock}
 use Rattle.signed_block.specs.Passed.{signedBlock, signedSummed}
 
--- an integer, so much higher
-unfoldable pub raised : ℕ → ℤ → ℕ
-raised base (pos m) = base + m
-raised base (negsuc m) = base - suc m
+-- of eight bytes
+abbrev pub ones : ℕ
+ones = 0x0101010101010101
 
--- the magnitude of one that is 256 higher
-unfoldable pub magnitude : ℕ → ℕ
-magnitude sum = cond (ltb sum 256) (256 - sum) (sum - 256)
+abbrev pub lows : ℕ
+lows = 0x7f7f7f7f7f7f7f7f
 
--- and its slot, if the magnitude is below 128
-unfoldable pub slotOf : ℕ → ℕ
-slotOf sum = cond (ltb sum 256) (128 + magnitude sum % 128) (magnitude sum % 128)
+-- signs, as 0 or 1, and magnitudes
+unfoldable pub signs : ℕ → ℕ → ℕ
+signs o w = bitAnd (w / 128) o
 
--- the sum of two slots, the second times a sign
-abbrev pub slotSum : Bool → ℕ → ℕ → ℤ
-slotSum minus a b = signRead 0 a +ℤ timesSign minus (signRead 0 b)
+unfoldable pub magnitudes : ℕ → ℕ → ℕ
+magnitudes l w = bitAnd w l
 
--- two unmerged groups' union, the second times a sign, is unmerged and has these count bytes
-abbrev pub Stay : Bool → List ℕ → List ℕ → List ℕ → Type 0
-Stay minus counts source bytes =
-    record { over = false; word = number bytes; merge = 0 }
-    ≡ signedSummed (unite (signedBlock 3 (number counts) 0) (timesBlock minus (signedBlock 3 (number source) 0)))
+-- magnitudes taken from 128 where a byte of d is 1
+unfoldable pub spread : ℕ → ℕ
+spread d = d * 127
+
+unfoldable pub folded : ℕ → ℕ → ℕ
+folded d w = bitXor w (d * 127) + d
+
+-- where two signs differ
+unfoldable pub apart : ℕ → ℕ → ℕ → ℕ
+apart o w v = bitXor (signs o w) (signs o v)
+
+-- the sum of two magnitudes of one sign; of two signs, the first less the second, 128 higher
+unfoldable pub total : ℕ → ℕ → ℕ → ℕ → ℕ
+total o l w v = magnitudes l w + folded (apart o w v) (magnitudes l v)
+
+-- where the second magnitude is taken from, being the larger
+unfoldable pub past : ℕ → ℕ → ℕ → ℕ → ℕ
+past o l w v = bitAnd (apart o w v) (bitXor (signs o (total o l w v)) o)
+
+-- the magnitudes of the sums, and their slots: zero is plus
+unfoldable pub size : ℕ → ℕ → ℕ → ℕ → ℕ
+size o l w v = folded (past o l w v) (magnitudes l (total o l w v))
+
+unfoldable pub minus : ℕ → ℕ → ℕ → ℕ → ℕ
+minus o l w v = bitAnd (bitXor (signs o w) (past o l w v)) (signs o (size o l w v + l))
+
+unfoldable pub sums : ℕ → ℕ → ℕ → ℕ → ℕ
+sums o l w v = bitOr (size o l w v) (minus o l w v * 128)
+
+-- where a slot does not hold its sum
+unfoldable pub over : ℕ → ℕ → ℕ → ℕ → ℕ
+over o l w v = bitAnd (signs o (total o l w v)) (bitXor (apart o w v) o)
+
+-- the union of two groups is not merged and has these count bytes, taken as one number
+abbrev pub Stay : ℕ → ℕ → ℕ → ℕ → ℕ → Type 0
+Stay w m w′ m′ sum = record { over = false; word = sum; merge = 0 } ≡ signedSummed (unite (signedBlock 3 w m) (signedBlock 3 w′ m′))

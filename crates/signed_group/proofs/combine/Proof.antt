@@ -1,4 +1,4 @@
-use mathlib.Core.Path.{_≡_, refl, sym, ap, _∙_}
+use mathlib.Core.Path.{_≡_, sym, ap, _∙_}
 use mathlib.Core.Bool.{true}
 use Prim.Native.Nat.{ℕ, _<_}
 use native.Mathlib.Omega.{arith}
@@ -10,15 +10,15 @@ use Rattle.signed_block.specs.Signed.{signed, timesBlock}
 use Rattle.signed_block.specs.Passed.{signedSummed, signedBlock}
 use Rattle.signed_words.proofs.Totals.{turned-clean, turned-block}
 use Rattle.signed_group.specs.Group.{badPair, decode}
-use Rattle.signed_group.proofs.Laws.{Clean, pair-clean, stored-is, combined-refused, combined-settled}
+use Rattle.signed_group.proofs.Laws.{Clean, pair-clean, combined-refused, combined-settled}
 use borrow.Author.Needs.{needs}
 use Rattle.signed_group.proofs.combine.Statement.{statement}
 use Rattle.signed_group.proofs.combine.Tie as tie
 
 -- both groups are refused by no line, and the numbers are those of their count bytes
-module _ (n : tie.After-number-of3) where
+module _ (n : tie.After-number-of2) where
   abbrev e : tie.Else1
-  e = n .before .before .before .before
+  e = n .before .before
 
   abbrev s : tie.Start
   s = e .before .before .before .before
@@ -29,13 +29,13 @@ module _ (n : tie.After-number-of3) where
   clean : Clean (s .args .target) × Clean (s .args .source)
   clean = pair-clean (s .args .target) (s .args .source) good
 
-  target-clean : allClean signed (layout 3 (s .args .target .merge)) (n .before .number-of2 .result) ≡ true
-  target-clean = ap (allClean signed (layout 3 (s .args .target .merge))) (n .before .number-of2 .ensures) ∙ clean .0 .counters
+  target-clean : allClean signed (layout 3 (s .args .target .merge)) (n .before .number-of .result) ≡ true
+  target-clean = ap (allClean signed (layout 3 (s .args .target .merge))) (n .before .number-of .ensures) ∙ clean .0 .counters
 
-  source-clean : allClean signed (layout 3 (s .args .source .merge)) (n .number-of3 .result) ≡ true
-  source-clean = ap (allClean signed (layout 3 (s .args .source .merge))) (n .number-of3 .ensures) ∙ clean .1 .counters
+  source-clean : allClean signed (layout 3 (s .args .source .merge)) (n .number-of2 .result) ≡ true
+  source-clean = ap (allClean signed (layout 3 (s .args .source .merge))) (n .number-of2 .ensures) ∙ clean .1 .counters
 
-  source-in : n .number-of3 .result < cap 3
+  source-in : n .number-of2 .result < cap 3
   unfolding cap
   source-in = omega arith
 
@@ -52,31 +52,11 @@ returns c = let b = c .before .before in
     ∙ ap (λ (x : ℕ). unchanged x (a .target)) (b .bad-pair .ensures)
     ∙ sym (combined-refused (a .minus) (a .target) (a .source) (λ z. c .before .if1 .taken (b .bad-pair .ensures ∙ z)))
 
-combine-unmerged-requires : tie.Need-combine-unmerged-requires
-combine-unmerged-requires c κs = search needs
-
 number-of-requires : tie.Need-number-of-requires
 number-of-requires c κs = search needs
 
-settled-requires : tie.Need-settled-requires
-settled-requires c κs = search needs
-
-returns-2 : tie.Need-returns-2
-returns-2 c = let n = c .before in
-    let t = n .before .before in
-    let u = t .before in
-    let e = u .before in
-    let a = e .before .before .before .before .args in
-    let sum = unite (decode (a .target)) (timesBlock (a .minus) (decode (a .source))) in
-    c .settled .ensures
-    ∙ stored-is (a .target) _ sum (rw (n .number-of .ensures) (u .combine-unmerged .ensures (t .if2 .taken))) refl
-    ∙ sym (combined-settled (a .minus) (a .target) (a .source) (sym (e .before .bad-pair .ensures) ∙ e .if1 .left))
-
 number-of-requires-2 : tie.Need-number-of-requires-2
 number-of-requires-2 c κs = search needs
-
-number-of-requires-3 : tie.Need-number-of-requires-3
-number-of-requires-3 c κs = search needs
 
 times-sign-requires : tie.Need-times-sign-requires
 times-sign-requires c κs = (clean c .1 .merges, source-clean c)
@@ -85,24 +65,24 @@ unite-requires : tie.Need-unite-requires
 unfolding cap
 unite-requires c κs = let n = c .before in
     let a = s n .args in
-    (omega arith, (((omega arith, clean n .0 .merges), target-clean n), ((omega arith, clean n .1 .merges), rw (c .times-sign .ensures) (turned-clean _ (n .number-of3 .result) (a .source .merge) (source-in n) (clean n .1 .merges)))))
+    (((omega arith, clean n .0 .merges), target-clean n), ((omega arith, clean n .1 .merges), rw (c .times-sign .ensures) (turned-clean _ (n .number-of2 .result) (a .source .merge) (source-in n) (clean n .1 .merges))))
 
 outcome-requires : tie.Need-outcome-requires
 outcome-requires c κs = search needs
 
-returns-3 : tie.Need-returns-3
+returns-2 : tie.Need-returns-2
 unfolding decode
-returns-3 c = let u = c .before in
+returns-2 c = let u = c .before in
     let t = u .before in
     let n = t .before in
     let a = s n .args in
     let source : signedBlock 3 (t .times-sign .result) (a .source .merge) ≡ timesBlock (a .minus) (decode (a .source)) =
     ap (λ (w : ℕ). signedBlock 3 w (a .source .merge)) (t .times-sign .ensures)
-    ∙ turned-block (a .minus) (n .number-of3 .result) (a .source .merge) (source-in n) (clean n .1 .merges)
-    ∙ ap (λ (w : ℕ). timesBlock (a .minus) (signedBlock 3 w (a .source .merge))) (n .number-of3 .ensures) in
+    ∙ turned-block (a .minus) (n .number-of2 .result) (a .source .merge) (source-in n) (clean n .1 .merges)
+    ∙ ap (λ (w : ℕ). timesBlock (a .minus) (signedBlock 3 w (a .source .merge))) (n .number-of2 .ensures) in
     c .outcome .ensures (unite (decode (a .target)) (timesBlock (a .minus) (decode (a .source))))
-    (u .unite .ensures ∙ ap (λ (y : BlockOf signed 3). signedSummed (unite (signedBlock 3 (n .before .number-of2 .result) (a .target .merge)) y)) source
-    ∙ ap (λ (w : ℕ). signedSummed (unite (signedBlock 3 w (a .target .merge)) (timesBlock (a .minus) (decode (a .source))))) (n .before .number-of2 .ensures))
+    (u .unite .ensures ∙ ap (λ (y : BlockOf signed 3). signedSummed (unite (signedBlock 3 (n .before .number-of .result) (a .target .merge)) y)) source
+    ∙ ap (λ (w : ℕ). signedSummed (unite (signedBlock 3 w (a .target .merge)) (timesBlock (a .minus) (decode (a .source))))) (n .before .number-of .ensures))
     ∙ sym (combined-settled (a .minus) (a .target) (a .source) (good n))
 
 pub combine-spec : {M : Type 1} → statement M
@@ -112,13 +92,9 @@ combine-spec =
     bad-pair-requires
     unchanged-requires
     returns
-    combine-unmerged-requires
     number-of-requires
-    settled-requires
-    returns-2
     number-of-requires-2
-    number-of-requires-3
     times-sign-requires
     unite-requires
     outcome-requires
-    returns-3)
+    returns-2)
