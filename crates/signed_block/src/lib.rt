@@ -8,10 +8,11 @@ use group_layout::beside;
 use group_layout::is_merged;
 use group_layout::ones;
 use group_layout::slots;
+use group_levels::most;
 use signed_number::Signed;
 use signed_number::plus;
 ghost use mathlib.Core.Path.{_≡_};
-ghost use mathlib.Core.Bool.{cond};
+ghost use mathlib.Core.Bool.{true, cond};
 ghost use Prim.Native.Nat.{ℕ, _+_, _≤_, _<_, _^_};
 ghost use lib.IntN.{_+ℤ_};
 ghost use Rattle.group_block.specs.Block.{cap};
@@ -19,7 +20,7 @@ ghost use Rattle.group_block.specs.Block as block_spec;
 ghost use Rattle.group_block.specs.Sum.{sumTotal};
 ghost use Rattle.group_block.specs.Sum as sum_spec;
 ghost use Rattle.signed_number.specs.Number.{integerOf};
-ghost use Rattle.signed_block.specs.Signed.{signBits, signRead};
+ghost use Rattle.signed_block.specs.Signed.{signBits, signRead, notMinusZero};
 ghost use Rattle.signed_block.specs.Signed as spec;
 ghost use Rattle.signed_block.specs.Passed.{signedBlock, signedSummed, signedSum, SignedSane, SignedApt, SignedRoom, Canonical};
 
@@ -28,7 +29,7 @@ pub fn top(level: u32) -> u64
     requires { ⌜ level ≤ 3 ⌝ }
     ensures { λ r. ⌜ r ≡ spec.top level ⌝ }
 {
-    1 << ((8u32 << level) - 1)
+    (most(level) >> 1) + 1
 }
 
 // The value of a counter of a level, by its bits.
@@ -36,6 +37,7 @@ pub fn value(level: u32, bits: u64) -> Signed
     requires { ⌜ level ≤ 3 ⌝ ∗ ⌜ bits < cap level ⌝ }
     ensures { λ r. ⌜ integerOf r ≡ signRead level bits ⌝ }
     ensures { λ r. ⌜ r .magnitude < spec.top level ⌝ }
+    ensures { λ r. ⌜ (notMinusZero level bits ≡ true → Canonical r) ⌝ }
 {
     let sign = top(level);
     Signed {

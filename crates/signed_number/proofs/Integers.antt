@@ -70,7 +70,7 @@ same-sign : (minus : Bool) (a b : ℕ) (c : Bool) → integer (cond c minus minu
 same-sign minus a b true = times-plus minus (pos a) (pos b)
 same-sign minus a b false = times-plus minus (pos a) (pos b)
 
-less : (a b : ℕ) → b ≤ a → pos (a - b) ≡ pos a +ℤ negℤ (pos b)
+pub less : (a b : ℕ) → b ≤ a → pos (a - b) ≡ pos a +ℤ negℤ (pos b)
 less a zero h = ap pos (omega arith)
 less a (suc b) h = rw (le-ltb a (suc b) h)
 

@@ -107,7 +107,7 @@ add-value-requires t c κs = let s = c .before .before in (s .pre .1 .0, s .pre 
 
 add-held-sum-requires : (t : ℕ) → add-lts.Need-held-sum-requires (K t) (add-at t) add.Post
 add-held-sum-requires t c κs = let s = c .before .before .before in
-    (s .pre .1 .0, omega (arith, c .value .ensures .1, s .pre .1 .1 .1, top-most (s .args .level) (s .pre .1 .0)))
+    (s .pre .1 .0, omega (arith, c .value .ensures .1 .0, s .pre .1 .1 .1, top-most (s .args .level) (s .pre .1 .0)))
 
 add-returns : (t : ℕ) → add-lts.Need-returns (K t) (add-at t) add.Post
 unfolding add-of

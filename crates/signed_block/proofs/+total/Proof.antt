@@ -85,7 +85,7 @@ total-value-requires t c κs = c .before .before .pre .1
 
 total-returns : (t : ℕ) → total-lts.Need-returns (K t) (total-at t) total.Post
 total-returns t c = let a = c .before .before .before .args in
-    (c .value .ensures .0 ∙ total-merged (a .level) (a .word) (a .merge) (sym (c .before .before .is-merged .ensures) ∙ c .before .if1 .taken), c .value .ensures .1)
+    (c .value .ensures .0 ∙ total-merged (a .level) (a .word) (a .merge) (sym (c .before .before .is-merged .ensures) ∙ c .before .if1 .taken), c .value .ensures .1 .0)
 
 total-sub-half : (t : ℕ) → total-lts.Need-sub-half (K t) (total-at t) total.Post
 total-sub-half t c = omega (arith, above c)

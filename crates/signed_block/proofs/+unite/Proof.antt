@@ -112,7 +112,7 @@ unite-total-requires t c κs = let s = c .before .before .before in (s .pre .1 .
 
 unite-held-sum-requires : (t : ℕ) → unite-lts.Need-held-sum-requires (K t) (unite-at t) unite.Post
 unite-held-sum-requires t c κs = let s = c .before .before .before .before in
-    (s .pre .1 .0, omega (arith, c .before .value .ensures .1, c .total .ensures .1, top-most (s .args .level) (s .pre .1 .0)))
+    (s .pre .1 .0, omega (arith, c .before .value .ensures .1 .0, c .total .ensures .1, top-most (s .args .level) (s .pre .1 .0)))
 
 unite-returns : (t : ℕ) → unite-lts.Need-returns (K t) (unite-at t) unite.Post
 unfolding unite-of

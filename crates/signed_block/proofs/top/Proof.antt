@@ -1,30 +1,17 @@
-use Prim.Native.Nat.{_-_, _*_, _^_}
-use native.Mathlib.Nat.{one-mul}
 use native.Mathlib.Omega.{arith}
-use lib.Pow.{shl-exact}
-use Rattle.signed_block.specs.Signed.{top}
-use Rattle.signed_block.proofs.Widths.{width}
+use Rattle.signed_block.proofs.Counters.{top-twice, top-pos}
 use borrow.Author.Needs.{needs}
 use Rattle.signed_block.proofs.top.Statement.{statement}
 use Rattle.signed_block.proofs.top.Tie as tie
 
-shl-result : tie.Need-shl-result
-shl-result c = search needs
+most-requires : tie.Need-most-requires
+most-requires c κs = search needs
 
-sub-result : tie.Need-sub-result
-sub-result c = omega (arith, width (c .args .level) (c .pre))
-
-cast-result : tie.Need-cast-result
-cast-result c = search needs
-
-shl-result-2 : tie.Need-shl-result-2
-shl-result-2 c = omega (arith, width (c .args .level) (c .pre))
+add-result : tie.Need-add-result
+add-result c = search needs
 
 returns : tie.Need-returns
-unfolding top
-returns c = let n = c .args .level in
-    let w = width n (c .pre) in
-    rw (w .0, shl-exact {a = 1} 1 (8 * 2 ^ n - 1) 64 (omega arith) (omega arith), one-mul)
+returns c = let n = c .before .args .level in omega (arith, c .most .ensures, top-twice n, top-pos n)
 
 pub top-spec : {M : Type 1} → statement M
-top-spec = tie.close (tie.spec shl-result sub-result cast-result shl-result-2 returns)
+top-spec = tie.close (tie.spec most-requires add-result returns)
