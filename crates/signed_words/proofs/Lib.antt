@@ -1,3 +1,4 @@
 pub mod Signs
 pub mod Places
+pub mod Raising
 pub mod Totals

@@ -11,8 +11,8 @@ use Rattle.group_block.specs.Change.{change}
 use Rattle.group_block.specs.Passed.{summedAs}
 use Rattle.group_block.proofs.Laws.{block-fits}
 use Rattle.group_slots.proofs.Slots.{level-le, level-block, value-lt}
-use Rattle.group_slots.proofs.AnyKind.{value-of, add-replaced}
-use Rattle.signed_block.specs.Signed.{top, signBits, signRead, signed}
+use Rattle.group_slots.proofs.AnyKind.{value-of, clean-at, add-replaced}
+use Rattle.signed_block.specs.Signed.{top, signBits, signRead, notMinusZero, signed}
 use Rattle.signed_block.specs.Passed.{signedBlock}
 use Rattle.signed_block.proofs.Counters.{signed-codes}
 use Rattle.signed_words.specs.Words.{Stays}
@@ -28,6 +28,14 @@ module _ (w m k : ℕ) (r : Counter) (e : r ≡ counterAt (block 3 w m) k) where
   pub value-is : signRead (r .level) (r .value) ≡ counterValue (signedBlock 3 w m) k
   unfolding blockAs
   value-is = ap (λ (x : ℕ). signRead x (r .value)) level-of ∙ ap (λ (x : Counter). signRead (levelOf (layout 3 m) k) (x .value)) e ∙ sym (value-of signed (layout 3 m) w k)
+
+  -- not those of minus zero
+  pub clean-value : allClean signed (layout 3 m) w ≡ true → notMinusZero (r .level) (r .value) ≡ true
+  unfolding blockAs
+  clean-value c =
+      ap (λ (x : ℕ). notMinusZero x (r .value)) level-of
+      ∙ ap (λ (x : Counter). notMinusZero (levelOf (layout 3 m) k) (x .value)) e
+      ∙ clean-at signed (layout 3 m) w k c
 
 -- an addition that the counter holds puts the sum's bits into it
 pub stays : (w m k : ℕ) (a : ℤ) → w < cap 3 → valid 3 m ≡ true → allClean signed (layout 3 m) w ≡ true

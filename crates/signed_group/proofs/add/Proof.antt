@@ -52,7 +52,7 @@ number-of-requires : tie.Need-number-of-requires
 number-of-requires c κs = search needs
 
 add-in-place-requires : tie.Need-add-in-place-requires
-add-in-place-requires c κs = (clean c .merges, (omega arith, (word-clean c, omega arith)))
+add-in-place-requires c κs = (clean c .merges, (omega arith, word-clean c))
 
 settled-requires : tie.Need-settled-requires
 settled-requires c κs = search needs

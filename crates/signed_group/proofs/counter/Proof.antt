@@ -3,9 +3,11 @@ use mathlib.Core.Bool.{false}
 use Prim.Native.Nat.{ℕ, _%_}
 use native.Mathlib.Omega.{arith}
 use borrow.Author.Tests.{eq-eqb, ne-eqb}
-use Rattle.group_block.specs.Block.{counterValue}
+use Rattle.group_layout.specs.Layout.{layout}
+use Rattle.group_block.specs.Block.{allClean, counterValue}
 use Rattle.signed_number.specs.declared.Signed.{Signed}
 use Rattle.signed_number.specs.Number.{signedOf}
+use Rattle.signed_block.specs.Signed.{signed}
 use Rattle.signed_block.specs.Passed.{signedBlock}
 use Rattle.signed_block.proofs.Counters.{top-most}
 use Rattle.signed_group.specs.Group.{badGroup, decode, read}
@@ -36,7 +38,9 @@ number-of-requires : tie.Need-number-of-requires
 number-of-requires c κs = search needs
 
 counter-at-requires : tie.Need-counter-at-requires
-counter-at-requires c κs = (clean (c .before) .merges, omega arith)
+counter-at-requires c κs = let e = c .before in
+    let g = e .before .before .before .args .g in
+    (clean e .merges, (omega arith, ap (allClean signed (layout 3 (g .merge))) (c .number-of .ensures) ∙ clean e .counters))
 
 returns-2 : tie.Need-returns-2
 unfolding read decode
