@@ -7,6 +7,7 @@ ghost use mathlib.Core.Path.{_≡_};
 ghost use Prim.Native.Nat.{_≤_, _<_, _^_};
 ghost use lib.ListN.{length};
 ghost use Rattle.answer.specs.Order.{earliest};
+ghost use Rattle.answer.specs.Order as order;
 ghost use Rattle.geometry.specs.Geometry.{RowIn, RowsIn};
 ghost use Rattle.geometry.specs.Geometry as geometry;
 ghost use Rattle.meter_keys.specs.Keys.{HashesIn};
@@ -36,6 +37,16 @@ fn read_at(w: usize, memory: &[u8], r: usize, hash: usize) -> Figure
     }
 }
 
+// Of two statuses the one whose line comes first. The second is 0 nearly always, and then nothing else is looked at.
+fn first_status(status: u8, next: u8) -> u8
+    ensures { λ r. ⌜ r ≡ order.earlier status next ⌝ }
+{
+    if next == 0 {
+        return status;
+    }
+    earlier(status, next)
+}
+
 // The first status of the rows' counters, and the median of their figures.
 pub fn read_rows(d: usize, w: usize, memory: &[u8], hashes: &[usize; 8]) -> Figure
     requires { ⌜ 1 ≤ d ⌝ ∗ ⌜ RowsIn d w (length (now memory)) ⌝ ∗ ⌜ HashesIn d (now hashes) ⌝ }
@@ -48,7 +59,7 @@ pub fn read_rows(d: usize, w: usize, memory: &[u8], hashes: &[usize; 8]) -> Figu
         let f = read_at(w, memory, r, hashes[r]);
         let v = f.value;
         values[r] = v;
-        status = earlier(status, f.status);
+        status = first_status(status, f.status);
     }
     Figure {
         status,

@@ -49,8 +49,8 @@ mul-values c = search needs
 array-set-from-values : tie.Need-array-set-from-values Inv-loop μ-loop
 array-set-from-values c = let s = c .before .before .before .before .before .before in omega (arith, s .pre .1 .0 .1)
 
-earlier-requires : tie.Need-earlier-requires Inv-loop μ-loop
-earlier-requires c κs = search needs
+first-status-requires : tie.Need-first-status-requires Inv-loop μ-loop
+first-status-requires c κs = search needs
 
 add-r : tie.Need-add-r Inv-loop μ-loop
 add-r c = search needs
@@ -65,7 +65,7 @@ loop-again c = let l = c .before .before .before .before .before .loop in
     let f = c .before .before .read-at in
     let is-v = toZ-ofZ {w = w64} {z = f .result .value} (search needs) in (
       omega arith,
-      rw (c .earlier .ensures)
+      rw (c .first-status .ensures)
           (status-turn (hashStatus (a .w) (a .hashes .now)) (a .w) (a .d) (l .r) (a .memory .now) (l .status) (f .result .status) (omega arith) (f .ensures .0) ∙ l .inv .1),
       rw is-v
           (filled-more (λ (k : ℕ). hashFigure (a .w) (a .hashes .now) k (rowOf (a .w) (a .memory .now) k)) (l .values) (l .r) (f .result .value) (pos 0) (omega (arith, s .pre .1 .0 .1)) (f .ensures .1) (l .inv .2)),
@@ -100,7 +100,7 @@ read-rows-spec =
     read-at-requires
     mul-values
     array-set-from-values
-    earlier-requires
+    first-status-requires
     add-r
     loop-less
     loop-again
