@@ -11,7 +11,8 @@ use lib.Arith.{digits-div}
 use lib.Dec.{ltb}
 use lib.Pow.{pow-pos, pow-add, shr-shr}
 use Rattle.group_layout.specs.Layout.{Layout, halves}
-use Rattle.group_block.specs.Block.{Block, counter, split, cap, Fits, shape, numberOf, counterAt}
+use Rattle.group_block.specs.Kind.{Kind}
+use Rattle.group_block.specs.Block.{BlockOf, Block, counter, split, cap, Fits, shape, numberOf, counterAt}
 use Rattle.group_block.specs.Change.{change}
 use Rattle.group_block.specs.Sum.{fits, held, join, add}
 use Rattle.group_block.proofs.Laws.{word-lt}
@@ -32,14 +33,14 @@ module _ {n : ℕ} (l r : Block n) (k : ℕ) where
   unfolding first
   first-right h = rw (le-ltb k (2 ^ n) h)
 
-  module _ (a : ℕ) where
-    pub add-left : k < 2 ^ n → add (split l r) k a ≡ join (add l k a) (fits r)
-    unfolding add
-    add-left h = rw (lt-ltb k (2 ^ n) h)
+module _ {K : Kind} {n : ℕ} (l r : BlockOf K n) (k : ℕ) (a : K .Value) where
+  pub add-left : k < 2 ^ n → add (split l r) k a ≡ join (add l k a) (fits r)
+  unfolding add
+  add-left h = rw (lt-ltb k (2 ^ n) h)
 
-    pub add-right : 2 ^ n ≤ k → add (split l r) k a ≡ join (fits l) (add r (k - 2 ^ n) a)
-    unfolding add
-    add-right h = rw (le-ltb k (2 ^ n) h)
+  pub add-right : 2 ^ n ≤ k → add (split l r) k a ≡ join (fits l) (add r (k - 2 ^ n) a)
+  unfolding add
+  add-right h = rw (le-ltb k (2 ^ n) h)
 
 -- a counter of a level starts at a multiple of its size
 first-and : {n : ℕ} (b : Block n) (k : ℕ) → k < 2 ^ n → first b k + k % 2 ^ counterAt b k .level ≡ k

@@ -1,14 +1,16 @@
-use mathlib.Core.Path.{_≡_, sym, _∙_}
-use mathlib.Core.Bool.{true≢false, and-eq-true-iff}
-use Prim.Native.Nat.{ℕ, suc, _+_, _*_, _/_, _%_, _^_, _<_}
+use mathlib.Core.Path.{_≡_, sym, ap, _∙_}
+use mathlib.Core.Bool.{true, true≢false, and-eq-true-iff}
+use Prim.Native.Nat.{ℕ, suc, _+_, _*_, _/_, _%_, _^_, _≤_, _<_}
 use native.Mathlib.Nat.{mul-mod-left}
 use native.Mathlib.Numerals.{add-one}
 use native.Mathlib.Omega.{arith}
 use borrow.Author.Tests.{not-false, eqb-true}
 use Rattle.group_layout.specs.Layout.{layout, levelOf}
-use Rattle.group_block.specs.Block.{cap, block, counterAt}
-use Rattle.group_block.proofs.Laws.{cap-pos}
-use Rattle.group_slots.proofs.Slots.{level-block}
+use Rattle.group_block.specs.Kind.{ordinary}
+use Rattle.group_block.specs.Block.{cap, allClean, blockAs, block, counterValue}
+use Rattle.group_block.proofs.Coded.{ordinary-coded}
+use Rattle.group_block.proofs.Laws.{cap-pos, all-clean}
+use Rattle.group_slots.proofs.AnyKind.{value-of}
 use Rattle.group_sums.proofs.Widening.{second-in, put-in, put-is}
 use borrow.Author.Needs.{needs}
 use Rattle.group_sums.proofs.widened.Statement.{statement}
@@ -35,7 +37,7 @@ module _ (c : tie.After-place) where
   p-multiple = rw (add-one (s .args .level), p-is) (mul-mod-left (s .args .slot / 2 ^ suc (s .args .level)) (2 ^ suc (s .args .level)))
 
   p-in : p + 2 ^ s .args .level < 8
-  p-in = second-in (s .args .word) (s .args .merge) (s .args .slot) (s .args .amount) (s .args .level) p (word-in s) (s .pre .0) (s .pre .1 .1 .0) (s .pre .1 .0) p-is
+  p-in = second-in (s .args .slot) (s .args .level) p (s .pre .1 .1 .0) (s .pre .1 .0) p-is
 
 -- where both counters have this level and the next level holds the sum
 module _ (c : tie.Else2) where
@@ -53,8 +55,9 @@ module _ (c : tie.Else2) where
       let e = and-eq-true-iff _ _ .0 (sym (w .twins .ensures) ∙ not-false _ (t .before .if1 .left)) in
       (eqb-true _ _ (e .0), eqb-true _ _ (e .1))
 
-  levels : (x : ℕ) → (counterAt (block 3 x (s o .args .merge)) (p o) .level ≡ s o .args .level) × (counterAt (block 3 x (s o .args .merge)) (p o + 2 ^ s o .args .level) .level ≡ s o .args .level)
-  levels = λ x. (level-block 3 x (s o .args .merge) (p o) ∙ both .0, level-block 3 x (s o .args .merge) (p o + 2 ^ s o .args .level) ∙ both .1)
+  past : cap (s o .args .level) ≤ counterValue (block 3 (s o .args .word) (s o .args .merge)) (s o .args .slot) + s o .args .amount
+  unfolding blockAs
+  past = rw (value-of ordinary (layout 3 (s o .args .merge)) (s o .args .word) (s o .args .slot)) (s o .pre .1 .1 .1)
 
   small : t .twin-sum .result + s o .args .amount < cap (s o .args .level + 1)
   small = omega (arith, c .if2 .left, c .before .most .ensures, cap-pos (s o .args .level + 1))
@@ -64,11 +67,19 @@ module _ (c : tie.Else2) where
       s o .args .word + (t .twin-sum .result + s o .args .amount) * 2 ^ o .place .result
       < 2 ^ 64 + s o .args .word / 2 ^ o .place .result % cap (s o .args .level + 1) * 2 ^ o .place .result
 
+  abbrev sum : ℕ
+  sum = t .twin-sum .result + s o .args .amount
+
+  sum-is : sum ≡ s o .args .word / 2 ^ o .place .result % cap (s o .args .level + 1) % cap (s o .args .level) + s o .args .word / 2 ^ o .place .result % cap (s o .args .level + 1) / cap (s o .args .level) + s o .args .amount
+  sum-is = ap (λ (x : ℕ). x + s o .args .amount) (t .twin-sum .ensures .0)
+
+  abbrev clean : allClean ordinary (layout 3 (s o .args .merge)) (s o .args .word) ≡ true
+  clean = all-clean (layout 3 (s o .args .merge)) (s o .args .word)
+
   number-in : In
   number-in =
-      put-in (s o .args .word) (s o .args .merge) (s o .args .slot) (s o .args .amount) (s o .args .level) (o .place .result) (t .twin-sum .result) (word-in (s o))
-      (s o .pre .0) (s o .pre .1 .1 .0) (s o .pre .1 .0) (o .place .ensures .0) (levels (s o .args .word) .0) (levels (s o .args .word) .1) (s o .pre .1 .1 .1)
-      (t .twin-sum .ensures .0) small
+      put-in ordinary-coded (s o .args .word) (s o .args .merge) (s o .args .slot) (s o .args .amount) (s o .args .level) (o .place .result) (word-in (s o))
+      (s o .pre .0) clean (s o .pre .1 .1 .0) (s o .pre .1 .0) (o .place .ensures .0) (both .0) (both .1) past sum sum-is small
 
 add-place : tie.Need-add-place
 add-place c = search needs
@@ -111,9 +122,9 @@ formed-requires c κs = let d = c .before in
 returns-3 : tie.Need-returns-3
 returns-3 c = λ z. let d = c .before .before in
     let a = s (o d) in
-    put-is (a .args .word) (a .args .merge) (a .args .slot) (a .args .amount) (a .args .level) (o d .place .result) (t d .twin-sum .result) (word-in a) (a .pre .0)
-    (a .pre .1 .1 .0) (a .pre .1 .0) (o d .place .ensures .0) (levels d (a .args .word) .0) (levels d (a .args .word) .1) (a .pre .1 .1 .1) (t d .twin-sum .ensures .0)
-    (small d) (c .before .put .result) (c .formed .result) (c .before .put .ensures) (c .formed .ensures)
+    put-is ordinary-coded (a .args .word) (a .args .merge) (a .args .slot) (a .args .amount) (a .args .level) (o d .place .result) (word-in a) (a .pre .0)
+    (clean d) (a .pre .1 .1 .0) (a .pre .1 .0) (o d .place .ensures .0) (both d .0) (both d .1) (past d) (sum d) (sum-is d) (small d)
+    (c .before .put .result) (c .formed .result) (c .before .put .ensures) (c .formed .ensures)
 
 pub widened-spec : {M : Type 1} → statement M
 widened-spec =
