@@ -8,6 +8,7 @@ use group::unchanged;
 use group_block::Summed;
 use little_endian::number_of;
 use signed_number::Signed;
+use signed_widening::add_widening;
 use signed_words::add_in_place;
 use signed_words::counter_at;
 use signed_words::no_minus_zero;
@@ -103,7 +104,7 @@ pub fn add(g: Group, slot: usize, minus: bool, magnitude: u32) -> Outcome
             merge: g.merge,
         });
     }
-    outcome(g, signed_block::add(3, word, g.merge, k, amount))
+    outcome(g, add_widening(word, g.merge, k, amount))
 }
 
 // Whether two groups are not merged and no slot is minus zero. Of most groups that is so, and no more is asked of them.

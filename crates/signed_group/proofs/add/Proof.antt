@@ -67,9 +67,11 @@ returns-2 c = let t = c .before in
     ∙ stored-is (a .g) _ (add (decode (a .g)) (a .slot % 8) (amount n)) (rw (← n .number-of .ensures) (p .add-in-place .ensures .1 (t .if2 .taken))) refl
     ∙ sym (added-settled (a .g) (a .slot) (amount n) (good n))
 
-add-requires : tie.Need-add-requires
+add-widening-requires : tie.Need-add-widening-requires
 unfolding cap
-add-requires c κs = let n = c .before .before in (omega arith, (((omega arith, clean n .merges), word-clean n), omega arith))
+add-widening-requires c κs = let p = c .before in
+    let n = p .before in
+    (((omega arith, clean n .merges), word-clean n), (omega arith, (omega arith, sym (p .add-in-place .ensures .0) ∙ c .if2 .left)))
 
 outcome-requires : tie.Need-outcome-requires
 outcome-requires c κs = search needs
@@ -79,7 +81,7 @@ unfolding decode
 returns-3 c = let d = c .before in
     let n = d .before .before .before in
     let a = s n .args in
-    c .outcome .ensures (add (decode (a .g)) (a .slot % 8) (amount n)) (rw (← n .number-of .ensures) (d .add .ensures))
+    c .outcome .ensures (add (decode (a .g)) (a .slot % 8) (amount n)) (rw (← n .number-of .ensures) (d .add-widening .ensures))
     ∙ sym (added-settled (a .g) (a .slot) (amount n) (good n))
 
 pub add-spec : {M : Type 1} → statement M
@@ -93,6 +95,6 @@ add-spec =
     add-in-place-requires
     settled-requires
     returns-2
-    add-requires
+    add-widening-requires
     outcome-requires
     returns-3)
