@@ -5,7 +5,7 @@ use mathlib.Core.List.{List, map}
 use Prim.Native.Nat.{ℕ, zero, suc, _+_, _*_, _^_, _<_}
 use native.Mathlib.Omega.{arith}
 use borrow.Author.Tests.{ne-eqb, ltb-true}
-use lib.IntN.{ℤ, _+ℤ_, natAbs}
+use lib.IntN.{natAbs}
 use lib.ListN.{length, getD, take, drop, length-drop, length-map, List·getD-map}
 use lib.Seq.{length-take-le, getD-take, getD-drop}
 use Rattle.laws.proofs.Lists.{Bytes, bytes-take, bytes-drop}
@@ -13,10 +13,9 @@ use Rattle.little_endian.specs.Bytes.{number, bytes}
 use Rattle.little_endian.proofs.Bytes.{bytes-number}
 use Rattle.group_layout.specs.Layout.{layout}
 use Rattle.group_block.specs.Kind.{cap}
-use Rattle.group_block.specs.Block.{BlockOf, counter, split, fill, allClean, blockAs}
+use Rattle.group_block.specs.Block.{counter, split, fill, blockAs}
 use Rattle.group_block.specs.Sum.{unite}
 use Rattle.group_block.specs.declared.Summed.{Summed}
-use Rattle.group.specs.declared.Outcome.{Outcome}
 use Rattle.group.specs.Stored.{stored}
 use Rattle.group.proofs.Laws.{Eight, number-in}
 use Rattle.group_side.specs.Side.{unmerged}

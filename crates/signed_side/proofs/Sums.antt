@@ -20,7 +20,7 @@ use Rattle.signed_side.specs.Side.{value, complement, times, InSlot, Nei
 pub or-above : (a b : ℕ) → (a ≤ bitOr a b) × (b ≤ bitOr a b)
 or-above a b = (omega (arith, or-add-and a b, and-le-r a b), omega (arith, or-add-and a b, and-le-l a b))
 
--- a byte that no mark is of is not minus zero
+-- a byte whose mark is not set is not 128
 pub unmarked : (v a m : ℕ) → m ≡ cond (eqb a 128) v 0 → m < v → a ≡ 128 → ⊥
 unmarked v a m e h z = let f : m ≡ v = rw (eq-eqb a 128 z) at e in omega arith
 

@@ -39,21 +39,21 @@ complement b = cond (ltb b 128) b ((384 - b) % 256)
 unfoldable pub times : Bool → ℕ → ℕ
 times minus b = cond minus ((256 - b) % 256) b
 
--- a byte is the sum of two, and a slot holds it: it is not -128
+-- the sum of two bytes modulo 256 is that of their integers, and a slot holds it: it is not -128
 abbrev pub InSlot : ℕ → ℕ → Type 0
 InSlot a b = (value a +ℤ value b ≡ value ((a + b) % 256)) × ((a + b) % 256 ≡ 128 → ⊥)
 
--- slots of which none is minus zero
+-- neither of two slots is minus zero
 abbrev pub Neither : ℕ → ℕ → Type 0
 Neither a b = (a ≡ 128 → ⊥) × (b ≡ 128 → ⊥)
 
--- slot c holds the sum of slots a and b, the second times a sign
+-- and slot c holds the sum of slots a and b, the second times a sign
 abbrev pub HoldsSum : Bool → ℕ → ℕ → ℕ → Type 0
 HoldsSum minus a b c =
     let sum = signRead 0 a +ℤ timesSign minus (signRead 0 b) in
     Neither a b × (natAbs sum < top 0) × (c ≡ signBits 0 sum)
 
--- the first n slots
+-- the first n slots of each
 abbrev pub NoMinusZeros : ℕ → List ℕ → List ℕ → Type 0
 NoMinusZeros n counts source = (i : ℕ) → i < n → Neither (getD counts i 0) (getD source i 0)
 

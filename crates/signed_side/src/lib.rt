@@ -22,6 +22,7 @@ fn complement(slot: u8) -> u8
     }
 }
 
+// Such a value times a sign.
 fn times(minus: bool, byte: u8) -> u8
     ensures { λ r. ⌜ r ≡ spec.times minus byte ⌝ }
 {
@@ -32,6 +33,7 @@ fn times(minus: bool, byte: u8) -> u8
     }
 }
 
+// What is bad as a byte whose highest bit is looked at: all bits set, as a comparison of vectors leaves them.
 fn mark(bad: bool) -> u8
     ensures { λ r. ⌜ r ≡ cond bad 255 0 ⌝ }
 {
@@ -101,6 +103,7 @@ pub fn combine(minus: bool, counts: &mut [u8], source: &[u8]) -> bool
     true
 }
 
+// What is bad as a byte that is looked at as a whole.
 fn flag(bad: bool) -> u8
     ensures { λ r. ⌜ r ≡ cond bad 1 0 ⌝ }
 {
