@@ -12,8 +12,9 @@ use lib.Seq.{length-take-le, take-at, drop-at, drop-drop, getD-take, getD-drop, 
 use Rattle.laws.proofs.Lists.{drop-take}
 use Rattle.group.specs.declared.Group.{Group}
 use Rattle.group.specs.declared.Outcome.{Outcome}
-use Rattle.group_side.specs.Side.{anyMerged, unmerged}
+use Rattle.group_side.specs.Side.{anyMerged, unmerged, part}
 use Rattle.group_side.proofs.Bytes.{none-merged}
+use Rattle.group_side.proofs.Parts.{part-next}
 use Rattle.answer.specs.Order.{earlier, earliest}
 use Rattle.answer.proofs.Order.{earlier-assoc}
 use Rattle.meter_memory.specs.Pairs.{pairedAt, pairStatus, pairGroups}
@@ -42,15 +43,6 @@ module _ (w n g : ℕ) (row source : List ℕ) (e : noneMerged w n g row source 
 
   pub source-none : (k : ℕ) → g ≤ k → k < g + n → getD source (w + k) 0 ≡ 0
   source-none = merge-none source (none-either .1)
-
--- the count bytes of group i of groups side by side
-abbrev pub part : ℕ → List ℕ → List ℕ
-part i counts = take 8 (drop (8 * i) counts)
-
-pub part-next : (i : ℕ) (counts : List ℕ) → part (suc i) counts ≡ part i (drop 8 counts)
-part-next i counts =
-    let at : 8 * suc i ≡ 8 + 8 * i = omega arith in
-    ap (take 8) (ap (λ (k : ℕ). drop k counts) at ∙ sym (drop-drop (8 * i) 8 counts))
 
 -- n unmerged groups side by side: the operation answers nothing for any of them; zs are the count bytes that it leaves, again of unmerged groups
 abbrev pub EachTaken : (Group → Group → Outcome) → ℕ → List ℕ → List ℕ → Type 0

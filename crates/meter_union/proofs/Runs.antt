@@ -13,19 +13,17 @@ use Rattle.laws.proofs.Lists.{Bytes, bytes-drop, bytes-take}
 use Rattle.group.specs.Group.{unitedGroups}
 use Rattle.group.proofs.Laws.{Eight}
 use Rattle.group.proofs.Outcomes.{united-eight}
-use Rattle.group_side.specs.Side.{unmerged, unitedSide, stayUnmerged}
+use Rattle.group_side.specs.Side.{unmerged, part, unitedSide, stayUnmerged}
+use Rattle.group_side.proofs.Parts.{part-eight, part-next}
 use Rattle.group_side.proofs.Unions.{unmerged-status}
 use Rattle.meter_runs.specs.Runs.{InRows, countsOf, noneMerged}
-use Rattle.meter_runs.proofs.Runs.{part, part-next, counts-long, EachLeft, status-none, status-skip, side-back}
+use Rattle.meter_runs.proofs.Runs.{counts-long, EachLeft, status-none, status-skip, side-back}
 use Rattle.meter_union.specs.Union.{uniteGroups}
 use Rattle.meter_union.specs.Runs.{nextMerged, groupsStatus}
 
 -- unmerged groups of a row take those of another
 eight-of : (n g i : ℕ) (row : List ℕ) → Bytes row → 8 * (g + n) ≤ length row → i < n → Eight (part i (countsOf n g row))
-eight-of n g i row b l h = record {
-  long = length-take-le 8 (drop (8 * i) (countsOf n g row)) (rw (length-drop (8 * i) (countsOf n g row), counts-long n g row l) (omega arith));
-  small = bytes-take 8 (drop (8 * i) (countsOf n g row)) (bytes-drop (8 * i) (countsOf n g row) (bytes-take (8 * n) (drop (8 * g) row) (bytes-drop (8 * g) row b)));
-}
+eight-of n g i row b l h = part-eight n (countsOf n g row) (counts-long n g row l) i h (bytes-take (8 * n) (drop (8 * g) row) (bytes-drop (8 * g) row b))
 
 pub united-status : (w n g : ℕ) (row source : List ℕ) → 8 * (g + n) ≤ w → w ≤ length row → w ≤ length source → Bytes row → Bytes source
     → noneMerged w n g row source ≡ true → groupsStatus w source row n g ≡ 0

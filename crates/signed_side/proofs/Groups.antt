@@ -6,9 +6,9 @@ use Prim.Native.Nat.{ℕ, zero, suc, _+_, _*_, _^_, _<_}
 use native.Mathlib.Omega.{arith}
 use borrow.Author.Tests.{ne-eqb, ltb-true}
 use lib.IntN.{natAbs}
-use lib.ListN.{length, getD, take, drop, length-drop, length-map, List·getD-map}
-use lib.Seq.{length-take-le, getD-take, getD-drop}
-use Rattle.laws.proofs.Lists.{Bytes, bytes-take, bytes-drop}
+use lib.ListN.{length, getD, take, drop, length-map, List·getD-map}
+use lib.Seq.{getD-take, getD-drop}
+use Rattle.laws.proofs.Lists.{Bytes}
 use Rattle.little_endian.specs.Bytes.{number, bytes}
 use Rattle.little_endian.proofs.Bytes.{bytes-number}
 use Rattle.group_layout.specs.Layout.{layout}
@@ -18,7 +18,8 @@ use Rattle.group_block.specs.Sum.{unite}
 use Rattle.group_block.specs.declared.Summed.{Summed}
 use Rattle.group.specs.Stored.{stored}
 use Rattle.group.proofs.Laws.{Eight, number-in}
-use Rattle.group_side.specs.Side.{unmerged}
+use Rattle.group_side.specs.Side.{unmerged, part}
+use Rattle.group_side.proofs.Parts.{part-long, part-eight, part-at}
 use Rattle.group_side.proofs.Slots.{clear-halves, Slots, low-slots, high-slots, number-halves, number-slot, slots-clean, Each, each-of, Holds, each-bytes, sums-passed}
 use Rattle.signed_number.specs.Number.{timesSign}
 use Rattle.signed_number.proofs.Integers.{abs-times}
@@ -28,7 +29,7 @@ use Rattle.signed_block.proofs.Counters.{signed-codes}
 use Rattle.signed_words.proofs.Totals.{halves-fit}
 use Rattle.signed_group.specs.Group.{decode, badPair, combined}
 use Rattle.signed_group.proofs.Laws.{Clean, clean-pair, unmerged-clean, combined-settled, stored-is, status-fits}
-use Rattle.signed_side.specs.Side.{part, Accepted, Combined, Neither, HoldsSum, NoMinusZeros, HoldSums}
+use Rattle.signed_side.specs.Side.{Accepted, Combined, Neither, HoldsSum, NoMinusZeros, HoldSums}
 
 -- unmerged slots, each times a sign, are the block times that sign: at any level
 times-slots : (minus : Bool) (n : ℕ) (xs ys : List ℕ) → Slots n xs → Slots n ys → ((i : ℕ) → i < 2 ^ n → signRead 0 (getD ys i 0) ≡ timesSign minus (signRead 0 (getD xs i 0)))
@@ -126,16 +127,6 @@ module _ (minus : Bool) (xs ys : List ℕ) (e : Eight xs) (f : Eight ys) (n : (k
         combined-settled minus (unmerged xs) (unmerged ys) good ∙ sym (stored-is (unmerged xs) sum united is refl) ∙ rw back
 
 -- n groups side by side
-module _ (n : ℕ) (xs : List ℕ) (l : length xs ≡ 8 * n) (i : ℕ) (h : i < n) where
-  part-long : length (part i xs) ≡ 8
-  part-long = length-take-le 8 (drop (8 * i) xs) (rw (length-drop (8 * i) xs) (omega arith))
-
-  part-eight : Bytes xs → Eight (part i xs)
-  part-eight b = record { long = part-long; small = bytes-take 8 (drop (8 * i) xs) (bytes-drop (8 * i) xs b) }
-
-part-at : (xs : List ℕ) (i k : ℕ) → k < 8 → getD (part i xs) k 0 ≡ getD xs (8 * i + k) 0
-part-at xs i k h = getD-take 8 (drop (8 * i) xs) k 0 h ∙ getD-drop (8 * i) xs k 0
-
 module _ (n : ℕ) (xs ys : List ℕ) (l : length xs ≡ 8 * n) (m : length ys ≡ 8 * n) (b : Bytes xs) (c : Bytes ys) where
   pub side-accepted : NoMinusZeros (8 * n) xs ys → Accepted n xs ys
   side-accepted z = λ minus i h.

@@ -1,20 +1,16 @@
 -- Unmerged groups of a signed meter side by side, by their count bytes. The code's own terms: no call of the product cites them.
-use Prim.Native.Nat.{ℕ, _+_, _-_, _*_, _%_, _<_}
+use Prim.Native.Nat.{ℕ, _+_, _-_, _%_, _<_}
 use mathlib.Core.Path.{_≡_}
 use mathlib.Core.Bool.{Bool, cond}
 use mathlib.Core.List.{List}
 use lib.Dec.{ltb}
 use lib.IntN.{ℤ, pos, negsuc, _+ℤ_, natAbs}
-use lib.ListN.{getD, take, drop}
+use lib.ListN.{getD}
 use Rattle.group.specs.declared.Outcome.{Outcome}
-use Rattle.group_side.specs.Side.{unmerged}
+use Rattle.group_side.specs.Side.{unmerged, part}
 use Rattle.signed_number.specs.Number.{timesSign}
 use Rattle.signed_block.specs.Signed.{top, signBits, signRead}
 use Rattle.signed_group.specs.Group.{combined}
-
--- the count bytes of group i
-abbrev pub part : ℕ → List ℕ → List ℕ
-part i counts = take 8 (drop (8 * i) counts)
 
 -- group i combined with that of a source
 abbrev pub combinedPart : Bool → List ℕ → List ℕ → ℕ → Outcome

@@ -1,7 +1,7 @@
 use Rattle.group.specs.declared.Group.{Group}
 use Rattle.group.specs.Group.{unitedGroups}
 use Rattle.meter_memory.specs.Pairs.{pairedAt, pairStatus}
-use Rattle.meter_union.specs.Union.{unitedAt, unitedStatus}
+use Rattle.meter_union.specs.Union.{unitedStatus}
 use Rattle.meter_runs.specs.Runs.{runStatus}
 use Rattle.meter_union.specs.Runs.{groupsStatus}
 use Rattle.meter_memory.proofs.Lists.{status-turn, status-end}

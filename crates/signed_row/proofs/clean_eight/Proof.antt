@@ -1,4 +1,4 @@
-use mathlib.Core.Path.{_≡_, sym, _∙_}
+use mathlib.Core.Path.{sym, _∙_}
 use mathlib.Core.Bool.{true, true≢false}
 use Prim.Native.Nat.{_*_}
 use borrow.Author.Tests.{not-false}
