@@ -21,7 +21,7 @@ use Rattle.group.specs.Group.{decode, encode, settle, unitedGroups}
 use Rattle.group.proofs.Laws.{Eight}
 use Rattle.group_side.specs.Side.{fit, unmerged, stayUnmerged}
 use Rattle.group_side.proofs.Bytes.{fit-split}
-use Rattle.group_side.proofs.Slots.{clear-halves, halves-of, number-below}
+use Rattle.group_side.proofs.Slots.{clear-halves, Slots, low-slots, high-slots, number-halves}
 use Rattle.group_side.proofs.Unions.{filled, unmerged-valid, unmerged-status, fit-united}
 
 -- bytes tested in two parts
@@ -74,22 +74,16 @@ slot-fit (x ∷ []) (y ∷ ys) l m h = rw (lt-ltb (x + y) 256 (omega arith))
 slot-fit (x ∷ x′ ∷ xs) (y ∷ ys) l m h = absurd (omega arith)
 
 -- two unmerged blocks of any level
-unite-fit : (n : ℕ) (xs ys : List ℕ) → length xs ≡ 2 ^ n → length ys ≡ 2 ^ n → Bytes xs → Bytes ys
+unite-fit : (n : ℕ) (xs ys : List ℕ) → Slots n xs → Slots n ys
     → marksOf (unite (filled (layout n 0) (number xs)) (filled (layout n 0) (number ys))) ≡ 0 → fit xs ys ≡ true
 unfolding unite fill total layout
-unite-fit zero xs ys l m b c e = slot-fit xs ys l m (slot-marks (number xs + number ys) e)
-unite-fit (suc n) xs ys l m b c e =
-    let lx : length (take (2 ^ n) xs) ≡ 2 ^ n = length-take-le (2 ^ n) xs (omega arith) in
-    let ly : length (take (2 ^ n) ys) ≡ 2 ^ n = length-take-le (2 ^ n) ys (omega arith) in
-    let hx : length (drop (2 ^ n) xs) ≡ 2 ^ n = rw (length-drop (2 ^ n) xs) (omega arith) in
-    let hy : length (drop (2 ^ n) ys) ≡ 2 ^ n = rw (length-drop (2 ^ n) ys) (omega arith) in
-    let bx = bytes-take (2 ^ n) xs b in
-    let by = bytes-take (2 ^ n) ys c in
-    let x = halves-of n xs (number-below n (take (2 ^ n) xs) lx bx) in
-    let y = halves-of n ys (number-below n (take (2 ^ n) ys) ly by) in
+unite-fit zero xs ys s t e = slot-fit xs ys (s .long) (t .long) (slot-marks (number xs + number ys) e)
+unite-fit (suc n) xs ys s t e =
+    let x = number-halves s in
+    let y = number-halves t in
     let p = join-marks _ _ (rw (clear-halves n, x .0, x .1, y .0, y .1) at e) in
-    fit-both (2 ^ n) xs ys (unite-fit n (take (2 ^ n) xs) (take (2 ^ n) ys) lx ly bx by (p .0))
-    (unite-fit n (drop (2 ^ n) xs) (drop (2 ^ n) ys) hx hy (bytes-drop (2 ^ n) xs b) (bytes-drop (2 ^ n) ys c) (p .1))
+    fit-both (2 ^ n) xs ys (unite-fit n (take (2 ^ n) xs) (take (2 ^ n) ys) (low-slots s) (low-slots t) (p .0))
+    (unite-fit n (drop (2 ^ n) xs) (drop (2 ^ n) ys) (high-slots s) (high-slots t) (p .1))
 
 -- two groups
 settle-marks : (g : Group) (x : Sum 3) → settle g x .status ≡ 0 → settle g x .group .merge ≡ marksOf x
@@ -106,7 +100,7 @@ module _ (counts source : List ℕ) (e : Eight counts) (f : Eight source) where
   unfolding decode blockAs
   merged-fit z =
       let s = rw united-is at (unmerged-status counts source e f) in
-      unite-fit 3 counts source (e .long) (f .long) (e .small) (f .small)
+      unite-fit 3 counts source (record { long = e .long; small = e .small }) (record { long = f .long; small = f .small })
       (sym (settle-marks (unmerged counts) (unite (decode (unmerged counts)) (decode (unmerged source))) s) ∙ rw united-is at z)
 
   pub fit-exact : fit counts source ≡ eqb (unitedGroups (unmerged counts) (unmerged source) .group .merge) 0

@@ -1,4 +1,5 @@
 pub mod Slots
 pub mod Bytes
+pub mod Parts
 pub mod Unions
 pub mod Exact

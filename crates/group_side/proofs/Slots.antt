@@ -10,8 +10,8 @@ use lib.Dec.{eqb}
 use lib.Arith.{digits-div, digits-mod}
 use lib.ListN.{length, getD, take, drop, length-drop}
 use lib.Pow.{pow-add}
-use lib.Seq.{length-take-le}
-use Rattle.laws.proofs.Lists.{Bytes}
+use lib.Seq.{length-take-le, getD-take, getD-drop}
+use Rattle.laws.proofs.Lists.{Bytes, bytes-take, bytes-drop}
 use Rattle.little_endian.specs.Bytes.{number}
 use Rattle.little_endian.proofs.Bytes.{number-lt}
 use Rattle.group_layout.specs.Layout.{halves, bit, ones, layout, valid}
@@ -45,7 +45,7 @@ number-parts (suc k) (b ∷ bs) =
     let p : 2 ^ (8 * suc k) ≡ 256 * 2 ^ (8 * k) = ap (λ (n : ℕ). 2 ^ n) (omega arith) ∙ pow-add 2 8 (8 * k) in
     rw p (omega (arith, number-parts k bs, mul-left-comm (number (drop k bs)) 256 (2 ^ (8 * k))))
 
-pub halves-of : (n : ℕ) (xs : List ℕ) → number (take (2 ^ n) xs) < cap n
+halves-of : (n : ℕ) (xs : List ℕ) → number (take (2 ^ n) xs) < cap n
     → (number xs % cap n ≡ number (take (2 ^ n) xs)) × (number xs / cap n ≡ number (drop (2 ^ n) xs))
 unfolding cap
 halves-of n xs h = (
@@ -53,9 +53,42 @@ halves-of n xs h = (
   rw (number-parts (2 ^ n) xs) (digits-div (number (drop (2 ^ n) xs)) h),
 )
 
-pub number-below : (n : ℕ) (xs : List ℕ) → length xs ≡ 2 ^ n → Bytes xs → number xs < cap n
+number-below : (n : ℕ) (xs : List ℕ) → length xs ≡ 2 ^ n → Bytes xs → number xs < cap n
 unfolding cap
 number-below n xs l b = rw l at (number-lt xs b)
+
+-- the bytes of an unmerged block of level n, and those of its halves
+pub record Slots (n : ℕ) (xs : List ℕ) : Type 0 where
+  pub long : length xs ≡ 2 ^ n
+  pub small : Bytes xs
+
+module _ {n : ℕ} {xs : List ℕ} (s : Slots (suc n) xs) where
+  pub low-slots : Slots n (take (2 ^ n) xs)
+  low-slots = let l = s .long in
+      record { long = length-take-le (2 ^ n) xs (omega arith); small = bytes-take (2 ^ n) xs (s .small) }
+
+  pub high-slots : Slots n (drop (2 ^ n) xs)
+  high-slots = let l = s .long in
+      record { long = rw (length-drop (2 ^ n) xs) (omega arith); small = bytes-drop (2 ^ n) xs (s .small) }
+
+  pub number-halves : (number xs % cap n ≡ number (take (2 ^ n) xs)) × (number xs / cap n ≡ number (drop (2 ^ n) xs))
+  number-halves = halves-of n xs (number-below n (take (2 ^ n) xs) (low-slots .long) (low-slots .small))
+
+-- one slot
+pub number-slot : (xs : List ℕ) → length xs ≡ 1 → number xs ≡ getD xs 0 0
+number-slot [] l = absurd (omega arith)
+number-slot (a ∷ []) l = number-one a
+number-slot (a ∷ b ∷ xs) l = absurd (omega arith)
+
+-- each slot has bits of a value
+pub slots-clean : (K : Kind) (n : ℕ) (xs : List ℕ) → Slots n xs → ((i : ℕ) → i < 2 ^ n → K .clean 0 (getD xs i 0) ≡ true) → allClean K (layout n 0) (number xs) ≡ true
+unfolding allClean layout
+slots-clean K zero xs s f = rw (number-slot xs (s .long)) (f 0 (omega arith))
+slots-clean K (suc n) xs s f =
+    let x = number-halves s in
+    let low = slots-clean K n (take (2 ^ n) xs) (low-slots s) (λ i h. rw (getD-take (2 ^ n) xs i 0 h) (f i (omega arith))) in
+    let high = slots-clean K n (drop (2 ^ n) xs) (high-slots s) (λ i h. rw (getD-drop (2 ^ n) xs i 0) (f (2 ^ n + i) (omega arith))) in
+    rw (clear-halves n, x .0, x .1, low, high)
 
 -- three lists related element by element
 pub data Each (R : ℕ → ℕ → ℕ → Type 0) : List ℕ → List ℕ → List ℕ → Type 0 where
@@ -119,48 +152,29 @@ module _ {K : Kind} (C : Codes K) where
   one-united l (more {a} {b} {c} r none) = rw (number-one a, number-one b, number-one c) (slot-united r)
   one-united l (more r (more q s)) = absurd (omega arith)
 
-  one-clean : {xs ys zs : List ℕ} → length xs ≡ 1 → Each (Holds K) xs ys zs → K .clean 0 (number zs) ≡ true
-  one-clean l none = absurd (omega arith)
-  one-clean l (more {a} {b} {c} r none) = rw (number-one c, r .is) (C .bits-clean 0 _ (r .small))
-  one-clean l (more r (more q s)) = absurd (omega arith)
+  each-clean : {xs ys zs : List ℕ} → Each (Holds K) xs ys zs → (i : ℕ) → i < length xs → K .clean 0 (getD zs i 0) ≡ true
+  each-clean none i h = absurd (omega arith)
+  each-clean (more r s) zero h = rw (r .is) (C .bits-clean 0 _ (r .small))
+  each-clean (more r s) (suc i) h = each-clean s i (omega arith)
 
-  -- the numbers of bytes of two halves
-  module _ (n : ℕ) {xs ys zs : List ℕ} (l : length xs ≡ 2 ^ suc n) (s : Each (Holds K) xs ys zs) where
-    low-long : length (take (2 ^ n) xs) ≡ 2 ^ n
-    low-long = length-take-le (2 ^ n) xs (omega arith)
+  each-slots : (n : ℕ) {xs ys zs : List ℕ} → length xs ≡ 2 ^ n → Each (Holds K) xs ys zs → Slots n xs × Slots n ys × Slots n zs
+  each-slots n l s = let m = each-long s in
+      let b = each-bytes s in
+      (record { long = l; small = b .0 }, record { long = m .0 ∙ l; small = b .1 }, record { long = m .1 ∙ l; small = b .2 })
 
-    high-long : length (drop (2 ^ n) xs) ≡ 2 ^ n
-    high-long = rw (length-drop (2 ^ n) xs) (omega arith)
-
-    low-below : (number (take (2 ^ n) xs) < cap n) × (number (take (2 ^ n) ys) < cap n) × (number (take (2 ^ n) zs) < cap n)
-    low-below =
-        let low = each-take (2 ^ n) s in
-        let m = each-long low in
-        let b = each-bytes low in
-        (number-below n _ low-long (b .0), number-below n _ (m .0 ∙ low-long) (b .1), number-below n _ (m .1 ∙ low-long) (b .2))
-
-  -- unmerged blocks of any level: the union, and no slot of it has bits of no value
+  -- the union of unmerged blocks of any level
   slots-united : (n : ℕ) {xs ys zs : List ℕ} → length xs ≡ 2 ^ n → Each (Holds K) xs ys zs
       → unite (fill {K = K} (layout n 0) (number xs)) (fill (layout n 0) (number ys)) ≡ fits (fill (layout n 0) (number zs))
   unfolding fill unite join layout
   slots-united zero l s = one-united l s
   slots-united (suc n) {xs} {ys} {zs} l s =
-      let b = low-below n l s in
-      let x = halves-of n xs (b .0) in
-      let y = halves-of n ys (b .1) in
-      let z = halves-of n zs (b .2) in
-      let low = slots-united n (low-long n l s) (each-take (2 ^ n) s) in
-      let high = slots-united n (high-long n l s) (each-drop (2 ^ n) s) in
+      let b = each-slots (suc n) l s in
+      let x = number-halves (b .0) in
+      let y = number-halves (b .1) in
+      let z = number-halves (b .2) in
+      let low = slots-united n (low-slots (b .0) .long) (each-take (2 ^ n) s) in
+      let high = slots-united n (high-slots (b .0) .long) (each-drop (2 ^ n) s) in
       rw (clear-halves n, x .0, x .1, y .0, y .1, z .0, z .1, low, high)
-
-  slots-clean : (n : ℕ) {xs ys zs : List ℕ} → length xs ≡ 2 ^ n → Each (Holds K) xs ys zs → allClean K (layout n 0) (number zs) ≡ true
-  unfolding allClean layout
-  slots-clean zero l s = one-clean l s
-  slots-clean (suc n) {xs} {ys} {zs} l s =
-      let z = halves-of n zs (low-below n l s .2) in
-      let low = slots-clean n (low-long n l s) (each-take (2 ^ n) s) in
-      let high = slots-clean n (high-long n l s) (each-drop (2 ^ n) s) in
-      rw (clear-halves n, z .0, z .1, low, high)
 
   module _ (n : ℕ) {xs ys zs : List ℕ} (l : length xs ≡ 2 ^ n) (s : Each (Holds K) xs ys zs) where
     pub sums-below : number zs < cap n
@@ -175,4 +189,5 @@ module _ {K : Kind} (C : Codes K) where
         → record { over = false; word = number zs; merge = 0 } ≡ summedAs P (unite (blockAs K n (number xs) 0) (blockAs K n (number ys) 0))
     unfolding summedAs
     sums-passed P =
-        rw (sums-united, word-block-of C n (number zs) 0 sums-below (slots-clean n l s), marks-block-of K n (number zs) 0 (clear-valid n))
+        let clean = slots-clean K n zs (each-slots n l s .2) (λ i h. each-clean s i (omega arith)) in
+        rw (sums-united, word-block-of C n (number zs) 0 sums-below clean, marks-block-of K n (number zs) 0 (clear-valid n))

@@ -1,5 +1,5 @@
 -- Unmerged groups side by side, by their count bytes and their merge bytes. The code's own terms: no call of the product cites them.
-use Prim.Native.Nat.{ℕ, zero, suc, _+_, _%_}
+use Prim.Native.Nat.{ℕ, zero, suc, _+_, _*_, _%_}
 use mathlib.Core.Bool.{Bool, true, false, not, _&&_, _||_}
 use mathlib.Core.List.{List, [], _∷_, _++_}
 use lib.Dec.{eqb, ltb}
@@ -33,6 +33,10 @@ wrappedSums (x ∷ xs) (y ∷ ys) = (x + y) % 256 ∷ wrappedSums xs ys
 -- the unmerged group of eight count bytes
 abbrev pub unmerged : List ℕ → Group
 unmerged counts = record { counts = counts; merge = 0 }
+
+-- the count bytes of group i
+abbrev pub part : ℕ → List ℕ → List ℕ
+part i counts = take 8 (drop (8 * i) counts)
 
 -- the count bytes of n unmerged groups, each united with that of a source
 unfoldable pub unitedSide : ℕ → List ℕ → List ℕ → List ℕ

@@ -76,7 +76,8 @@ fn sums_of(counts: &[u8], source: &[u8]) -> Sums
     Sums { bytes, carries }
 }
 
-fn put(counts: &mut [u8], bytes: [u8; 64])
+// 64 bytes put in the place of others.
+pub fn put(counts: &mut [u8], bytes: [u8; 64])
     requires { ⌜ length (now counts) ≡ 64 ⌝ }
     ensures { λ _. ⌜ now (counts .exit) ≡ bytes ⌝ }
 {

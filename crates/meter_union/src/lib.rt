@@ -4,6 +4,8 @@ use group::Outcome;
 use meter_memory::eight;
 use meter_memory::load;
 use meter_memory::store;
+use meter_runs::eight_unmerged;
+use meter_runs::none_merged;
 ghost use mathlib.Core.Path.{_≡_};
 ghost use mathlib.Core.Bool.{true, cond};
 ghost use Prim.Native.Nat.{_+_, _-_, _*_, _/_, _<_, _≤_};
@@ -11,7 +13,8 @@ ghost use lib.ListN.{length};
 ghost use Rattle.geometry.specs.Geometry.{validWidth};
 ghost use Rattle.geometry.specs.Geometry as geometry;
 ghost use Rattle.group_side.specs.Side.{stayUnmerged};
-ghost use Rattle.meter_union.specs.Runs.{InRows, countsOf, noneMerged, nextMerged, groupsStatus};
+ghost use Rattle.meter_runs.specs.Runs.{InRows, countsOf, noneMerged};
+ghost use Rattle.meter_union.specs.Runs.{nextMerged, groupsStatus};
 ghost use Rattle.meter_union.specs.Union.{unitedAt, uniteStatus, uniteGroups, uniteRow};
 
 // Group g of a row united with that of a source row.
@@ -20,29 +23,6 @@ fn united_at(row: &[u8], source: &[u8], w: usize, g: usize) -> Outcome
     ensures { λ r. ⌜ r ≡ unitedAt w (now (source .entry)) (now (row .entry)) g ⌝ }
 {
     group::unite(load(row, w, g), load(source, w, g))
-}
-
-// Whether none of n groups is merged in either of two rows, the first of which is group `first`.
-fn none_merged(row: &[u8], source: &[u8], w: usize, first: usize, n: usize) -> bool
-    requires { ⌜ InRows w n first (now row) (now source) ⌝ }
-    ensures { λ r. ⌜ r ≡ noneMerged w n first (now (row .entry)) (now (source .entry)) ⌝ }
-{
-    let start = w + first;
-    let end = start + n;
-    if group_side::any_merged(&row[start..end]) {
-        return false;
-    }
-    !group_side::any_merged(&source[start..end])
-}
-
-// The same of eight groups, by one word of merge bytes of each row.
-fn eight_unmerged(row: &[u8], source: &[u8], w: usize, first: usize) -> bool
-    requires { ⌜ InRows w 8 first (now row) (now source) ⌝ }
-    ensures { λ r. ⌜ r ≡ noneMerged w 8 first (now (row .entry)) (now (source .entry)) ⌝ }
-{
-    let start = w + first;
-    let end = start + 8;
-    group_side::none_merged(&row[start..end], &source[start..end])
 }
 
 // The first eight groups, by number and from eight `from` on, some of which is merged in either row; w / 64 if there are none.

@@ -1,7 +1,8 @@
 use Rattle.group.specs.declared.Group.{Group}
 use Rattle.group.specs.Group.{unitedGroups}
 use Rattle.meter_memory.specs.Pairs.{pairedAt, pairStatus}
-use Rattle.meter_union.specs.Union.{unitedAt, unitedStatus}
+use Rattle.meter_union.specs.Union.{unitedStatus}
+use Rattle.meter_runs.specs.Runs.{runStatus}
 use Rattle.meter_union.specs.Runs.{groupsStatus}
 use Rattle.meter_memory.proofs.Lists.{status-turn, status-end}
 use mathlib.Core.Path.{_≡_, refl, sym, ap, ap₂, _∙_}
@@ -45,7 +46,7 @@ loop-less : tie.Need-loop-less Inv-loop μ-loop
 loop-less c = search needs
 
 loop-again : tie.Need-loop-again Inv-loop μ-loop
-unfolding groupsStatus pairStatus pairedAt
+unfolding runStatus pairStatus pairedAt
 loop-again c = let u = c .before in
     let a = u .before .before .before .before .before .before .before .args in
     let l = u .before .before .before .before .loop in (
@@ -59,7 +60,7 @@ loop-again c = let u = c .before in
     )
 
 returns : tie.Need-returns Inv-loop μ-loop
-unfolding groupsStatus
+unfolding runStatus
 returns c = let a = c .before .before .before .before .args in
     let l = c .before .loop in
     sym (status-end (unitedStatus (a .w) (a .source .now) (a .row .now)) (a .first + a .n) (l .g) (l .status) (omega arith)) ∙ l .inv .3

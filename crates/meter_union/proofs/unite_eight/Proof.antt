@@ -5,7 +5,7 @@ use Prim.Native.Nat.{ℕ}
 use native.Mathlib.Omega.{arith}
 use borrow.Author.Tests.{not-false}
 use Rattle.meter_union.specs.Union.{uniteGroups}
-use Rattle.meter_union.specs.Runs.{noneMerged}
+use Rattle.meter_runs.specs.Runs.{noneMerged}
 use borrow.Author.Needs.{needs}
 use Rattle.meter_union.proofs.unite_eight.Statement.{statement}
 use Rattle.meter_union.proofs.unite_eight.Tie as tie

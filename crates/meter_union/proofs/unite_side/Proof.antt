@@ -1,6 +1,6 @@
 use Prim.Native.Nat.{_*_}
 use Rattle.meter_memory.proofs.Lists.{lent}
-use Rattle.meter_union.proofs.Runs.{side-back}
+use Rattle.meter_union.proofs.Runs.{united-back}
 use borrow.Author.Needs.{needs}
 use Rattle.meter_union.proofs.unite_side.Statement.{statement}
 use Rattle.meter_union.proofs.unite_side.Tie as tie
@@ -42,7 +42,7 @@ returns c = let u = c .before .before .unite in
     let lent-row = lent (8 * a .first) 64 (a .row .now) in
     let lent-source = lent (8 * a .first) 64 (a .source .now) in
     let stays = rw (lent-row, lent-source) at (u .ensures .0) in
-    (stays, side-back (a .w) (a .first) (a .row .now) (a .source .now) (s .pre .0) (s .pre .1) (u .result) (u .last .0) stays (rw (lent-row, lent-source) at (u .ensures .1)))
+    (stays, united-back (a .w) (a .first) (a .row .now) (a .source .now) (s .pre .0) (s .pre .1) (u .result) (u .last .0) stays (rw (lent-row, lent-source) at (u .ensures .1)))
 
 pub unite-side-spec : {M : Type 1} → statement M
 unite-side-spec =

@@ -5,11 +5,14 @@ use borrow.Author.Needs.{needs}
 use Rattle.laws.proofs.Lists.{Bytes}
 use Rattle.answer.specs.Order.{earlier}
 use Rattle.answer.proofs.Order.{earlier-none}
+use Rattle.group.specs.Group.{unitedGroups}
 use Rattle.geometry.proofs.Widths.{stride-is}
 use Rattle.meter_memory.specs.Pairs.{pairsStatus}
 use Rattle.meter_union.specs.Union.{uniteStatus}
 use Rattle.meter_union.specs.Runs.{nextMerged, groupsStatus}
-use Rattle.meter_union.proofs.Runs.{status-none, status-next, next-in, next-status}
+use Rattle.meter_runs.specs.Runs.{runStatus}
+use Rattle.meter_runs.proofs.Runs.{status-next}
+use Rattle.meter_union.proofs.Runs.{united-status, next-in, next-status}
 use Rattle.meter_union.proofs.unite_status.Statement.{statement}
 use Rattle.meter_union.proofs.unite_status.Tie as tie
 
@@ -41,7 +44,7 @@ next-merged-requires : tie.Need-next-merged-requires Inv-loop μ-loop
 next-merged-requires c κs = search needs
 
 loop-holds : tie.Need-loop-holds Inv-loop μ-loop
-unfolding earlier pairsStatus groupsStatus
+unfolding earlier pairsStatus runStatus
 loop-holds c = let a = c .before .before .before .args in
     let k = skipped (c .before) 0 (c .next-merged .result) (omega arith) (c .next-merged .ensures) in
     (k .1, k .2 ∙ ap (λ (n : ℕ). groupsStatus (a .w) (a .source .now) (a .row .now) n 0) (omega arith))
@@ -75,7 +78,7 @@ loop-again c = let k = c .before .before .before .before .before .before in
     let at : 8 * (l .e + 1) ≡ 8 * l .e + 8 = omega arith in (
       p .1,
       rw (p .2, c .before .earlier .ensures, at)
-          (status-next (a .w) (a .w / 8) (8 * l .e) 8 (a .row .now) (a .source .now) (l .status) (g .result) (omega arith) (g .ensures) ∙ l .inv .1),
+          (status-next unitedGroups (a .w) (a .source .now) (a .w / 8) (8 * l .e) 8 (a .row .now) (l .status) (g .result) (omega arith) (g .ensures) ∙ l .inv .1),
     )
 
 mul-first : tie.Need-mul-first Inv-loop μ-loop
@@ -93,7 +96,7 @@ returns c = let k = c .before .before .before .before .before in
     let d : Bytes (a .source .now) = λ i. k .shared-slice-known2 .given i .fits in
     let first : a .w / 64 * 8 ≡ 8 * l .e = omega arith in
     let n : a .w / 8 % 8 ≡ a .w / 8 - 8 * l .e = omega arith in
-    let none = status-none (a .w) (a .w / 8 % 8) (a .w / 64 * 8) (a .row .now) (a .source .now) (omega arith) (omega (arith, stride-is (a .w))) (omega (arith, stride-is (a .w)))
+    let none = united-status (a .w) (a .w / 8 % 8) (a .w / 64 * 8) (a .row .now) (a .source .now) (omega arith) (omega (arith, stride-is (a .w))) (omega (arith, stride-is (a .w)))
     b d (sym (c .before .none-merged .ensures) ∙ c .if1 .taken) in
     sym (earlier-none (l .status)) ∙ rw (← rw (first, n) at none) (l .inv .1)
 

@@ -7,7 +7,7 @@ use Rattle.group.specs.declared.Group.{Group}
 use Rattle.group.specs.declared.Outcome.{Outcome}
 use Rattle.meter_memory.specs.Rows.{withGroup}
 use Rattle.meter_union.specs.Union.{unitedAt, uniteGroups}
-use Rattle.meter_union.proofs.Runs.{row-none, source-none, united-none}
+use Rattle.meter_runs.proofs.Runs.{row-none, source-none, paired-none}
 use Rattle.group.specs.Group.{unitedGroups}
 use Rattle.group.proofs.Outcomes.{united-eight}
 use Rattle.meter_memory.proofs.Pairs.{pair-turn, pair-end, merge-kept}
@@ -65,7 +65,7 @@ loop-again c = let s = c .before .before .before .before .before .before .before
     let l = c .before .before .before .before .before .before .before .before .before .loop in
     let z = source-none (a .w) 8 (a .first) (a .row .now) (a .source .now) (s .pre .1) in
     let x = c .before .before .before .before in
-    let none = united-none (a .w) (l .g) (l .row) (a .source .now) (l .inv .5 (l .g) (omega arith) (omega arith)) (z (l .g) (omega arith) (omega arith)) in
+    let none = paired-none unitedGroups (a .w) (a .source .now) (l .g) (l .row) (l .inv .5 (l .g) (omega arith) (omega arith)) (z (l .g) (omega arith) (omega arith)) in
     let u : x .unite-unmerged .result ≡ unitedAt (a .w) (a .source .now) (l .row) (l .g) .group =
     x .unite-unmerged .ensures
     ∙ rw (x .before .before .eight .ensures, x .before .eight2 .ensures) (ap (λ (o : Outcome). o .group) none) in

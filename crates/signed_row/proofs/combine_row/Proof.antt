@@ -1,79 +1,83 @@
-use mathlib.Core.Path.{_≡_, refl, sym, ap, ap₂, _∙_}
-use Prim.Native.Nat.{ℕ, _+_, _-_, _*_, _/_, _≤_, _<_}
-use native.Mathlib.Nat.{sub-zero}
+use mathlib.Core.Path.{_≡_, refl, ap, _∙_}
+use mathlib.Core.List.{List}
+use mathlib.Core.Logic.{⊎-elim}
+use Prim.Native.Nat.{ℕ, _+_, _-_, _*_, _/_, _%_, _≤_}
 use native.Mathlib.Omega.{arith}
+use borrow.Author.Tests.{not-true, not-false}
 use borrow.Author.Needs.{needs}
 use lib.ListN.{length}
-use Rattle.group.specs.declared.Group.{Group}
-use Rattle.group.specs.declared.Outcome.{Outcome}
-use Rattle.geometry.specs.Geometry.{stride}
-use Rattle.geometry.proofs.Widths.{group-in}
-use Rattle.meter_memory.specs.Rows.{withGroup}
-use Rattle.meter_memory.specs.Pairs.{pairedAt, pairGroups, pairRow}
-use Rattle.meter_memory.proofs.Pairs.{pair-turn, pair-end}
+use Rattle.geometry.proofs.Widths.{stride-is}
+use Rattle.meter_memory.specs.Pairs.{pairGroups, pairRow}
+use Rattle.meter_memory.proofs.Pairs.{pair-run}
 use Rattle.signed_group.specs.Group.{combined}
 use Rattle.signed_row.proofs.combine_row.Statement.{statement}
 use Rattle.signed_row.proofs.combine_row.Tie as tie
 
 abbrev Inv-loop : tie.InvT-loop
-Inv-loop minus row₀ source w g₀ g-end row g =
-    (g ≤ g-end) × (g-end ≡ w / 8) × (pairGroups (combined minus) w source (g-end - g) g row ≡ pairRow (combined minus) w source row₀) × (length row ≡ length row₀)
+Inv-loop minus row₀ source w e₀ e-end row e = (e ≤ e-end) × (e-end ≡ w / 64)
+    × (pairGroups (combined minus) w source (w / 8 - 8 * e) (8 * e) row ≡ pairRow (combined minus) w source row₀)
+    × (length row ≡ length row₀)
 
 abbrev μ-loop : tie.MeasureT-loop
-μ-loop minus row₀ source w g₀ g-end row g = g-end - g
+μ-loop minus row₀ source w e₀ e-end row e = e-end - e
 
 loop-holds : tie.Need-loop-holds Inv-loop μ-loop
 unfolding pairRow
-loop-holds c = (omega arith, refl, rw (sub-zero (c .before .before .args .w / 8)), refl)
+loop-holds c = let a = c .before .before .args in
+    (omega arith, refl, ap (λ (n : ℕ). pairGroups (combined (a .minus)) (a .w) (a .source .now) n 0 (a .row .now)) (omega arith), refl)
 
--- group g lies in both rows
-inside : (c : tie.In-loop Inv-loop μ-loop)
-    → let w = c .before .before .before .before .args .w in
-    let g = c .before .loop .g in
-    (8 * g + 8 ≤ w) × (w + g < stride w)
-inside c = let s = c .before .before .before .before in group-in (s .args .w) (c .before .loop .g) (s .pre .0) (omega arith)
+mul-combine-side : tie.Need-mul-combine-side Inv-loop μ-loop
+mul-combine-side c = search needs
 
-load-requires : tie.Need-load-requires Inv-loop μ-loop
-load-requires c κs = let i = inside (c .before) in (i .0, omega (arith, i .1))
+combine-side-requires : tie.Need-combine-side-requires Inv-loop μ-loop
+combine-side-requires c κs = let w = c .before .before .before .before .before .args .w in
+    (omega arith, omega (arith, stride-is w), omega (arith, stride-is w))
 
-load-requires-2 : tie.Need-load-requires-2 Inv-loop μ-loop
-load-requires-2 c κs = let i = inside (c .before .before) in (i .0, omega (arith, i .1))
+mul-combine-groups : tie.Need-mul-combine-groups Inv-loop μ-loop
+mul-combine-groups c = search needs
 
-combine-requires : tie.Need-combine-requires Inv-loop μ-loop
-combine-requires c κs = search needs
+combine-groups-requires : tie.Need-combine-groups-requires Inv-loop μ-loop
+combine-groups-requires c κs = let w = c .before .before .before .before .before .before .before .before .before .before .args .w in
+    (omega arith, omega (arith, stride-is w), omega (arith, stride-is w))
 
-store-requires : tie.Need-store-requires Inv-loop μ-loop
-store-requires c κs = let i = inside (c .before .before .before .before .before .before) in (i .0, omega (arith, i .1))
-
-add-g : tie.Need-add-g Inv-loop μ-loop
-add-g c = search needs
+add-e : tie.Need-add-e Inv-loop μ-loop
+add-e c = search needs
 
 loop-less : tie.Need-loop-less Inv-loop μ-loop
 loop-less c = search needs
 
 loop-again : tie.Need-loop-again Inv-loop μ-loop
-unfolding pairedAt
-loop-again c = let i = c .before .before .before .before .before .before .before .before .before in
-    let a = i .before .before .before .before .args in
-    let l = i .before .loop in
-    let u = c .before .before .before .before .before in
-    let o = u .combine .ensures ∙ ap₂ (λ (x y : Group). combined (a .minus) x y) (u .before .before .load .ensures) (u .before .load2 .ensures) in (
+loop-again c = let a = c .before .before .before .before .before .before .before .before .before .args in
+    let l = c .before .before .before .before .before .before .loop in
+    let side = c .before .before .before .combine-side in
+    let next : c .if1 .row ≡ pairGroups (combined (a .minus)) (a .w) (a .source .now) 8 (8 * l .e) (l .row) =
+    ⊎-elim
+    (λ t. t .5 ∙ t .2 .ensures ∙ ap (λ (row : List ℕ). pairGroups (combined (a .minus)) (a .w) (a .source .now) 8 (8 * l .e) row) (side .ensures ∙ rw (not-true (side .result) (t .0 .taken))))
+    (λ t. t .1 ∙ side .ensures ∙ rw (not-false (side .result) (t .0 .left)))
+    (c .if1 .came) in
+    let at : 8 * (l .e + 1) ≡ 8 * l .e + 8 = omega arith in (
       omega arith,
-      l .inv .1,
-      rw (c .before .before .store .ensures)
-          (ap (λ (o : Outcome). pairGroups (combined (a .minus)) (a .w) (a .source .now) (a .w / 8 - (l .g + 1)) (l .g + 1) (withGroup (a .w) (l .row) (l .g) (o .group))) o
-          ∙ pair-turn (combined (a .minus)) (a .w) (a .source .now) (l .row) (a .w / 8) (l .g) (omega arith)
-          ∙ l .inv .2),
-      omega arith,
+      refl,
+      rw (next, at) (pair-run (combined (a .minus)) (a .w) (a .source .now) 8 (l .row) (a .w / 8) (8 * l .e) (omega arith) ∙ l .inv .2),
+      ⊎-elim (λ t. omega (arith, ap length (t .5))) (λ t. omega (arith, ap length (t .1))) (c .if1 .came),
     )
+
+mul-combine-groups-2 : tie.Need-mul-combine-groups-2 Inv-loop μ-loop
+mul-combine-groups-2 c = search needs
+
+combine-groups-requires-2 : tie.Need-combine-groups-requires-2 Inv-loop μ-loop
+combine-groups-requires-2 c κs = let w = c .before .before .before .before .before .args .w in
+    (omega arith, omega (arith, stride-is w), omega (arith, stride-is w))
 
 same-length : tie.Need-same-length Inv-loop μ-loop
 same-length c = search needs
 
 returns : tie.Need-returns Inv-loop μ-loop
-returns c = let a = c .before .before .before .before .args in
-    let l = c .before .loop in
-    sym (pair-end (combined (a .minus)) (a .w) (a .source .now) (l .row) (a .w / 8) (l .g) (omega arith)) ∙ l .inv .2
+returns c = let a = c .before .before .before .before .before .before .before .before .args in
+    let l = c .before .before .before .before .before .loop in
+    let first : a .w / 64 * 8 ≡ 8 * l .e = omega arith in
+    let n : a .w / 8 % 8 ≡ a .w / 8 - 8 * l .e = omega arith in
+    c .before .before .combine-groups2 .ensures ∙ rw (first, n) (l .inv .2)
 
 pub combine-row-spec : {M : Type 1} → statement M
 combine-row-spec =
@@ -82,12 +86,14 @@ combine-row-spec =
     Inv-loop
     μ-loop
     loop-holds
-    load-requires
-    load-requires-2
-    combine-requires
-    store-requires
-    add-g
+    mul-combine-side
+    combine-side-requires
+    mul-combine-groups
+    combine-groups-requires
+    add-e
     loop-less
     loop-again
+    mul-combine-groups-2
+    combine-groups-requires-2
     same-length
     returns)

@@ -1,9 +1,9 @@
 use Prim.Native.Nat.{_+_}
 use Rattle.meter_memory.proofs.Lists.{lent}
-use Rattle.meter_union.specs.Runs.{noneMerged}
+use Rattle.meter_runs.specs.Runs.{noneMerged}
 use borrow.Author.Needs.{needs}
-use Rattle.meter_union.proofs.eight_unmerged.Statement.{statement}
-use Rattle.meter_union.proofs.eight_unmerged.Tie as tie
+use Rattle.meter_runs.proofs.eight_unmerged.Statement.{statement}
+use Rattle.meter_runs.proofs.eight_unmerged.Tie as tie
 
 add-start : tie.Need-add-start
 add-start c = search needs

@@ -2,10 +2,10 @@ use mathlib.Core.Path.{sym, ap, _∙_}
 use Prim.Native.Nat.{_+_}
 use Rattle.group_side.specs.Side.{anyMerged}
 use Rattle.meter_memory.proofs.Lists.{lent}
-use Rattle.meter_union.specs.Runs.{noneMerged}
+use Rattle.meter_runs.specs.Runs.{noneMerged}
 use borrow.Author.Needs.{needs}
-use Rattle.meter_union.proofs.none_merged.Statement.{statement}
-use Rattle.meter_union.proofs.none_merged.Tie as tie
+use Rattle.meter_runs.proofs.none_merged.Statement.{statement}
+use Rattle.meter_runs.proofs.none_merged.Tie as tie
 
 add-start : tie.Need-add-start
 add-start c = search needs
