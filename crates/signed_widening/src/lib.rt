@@ -15,20 +15,17 @@ use signed_number::Signed;
 use signed_number::plus;
 ghost use mathlib.Core.Path.{_≡_};
 ghost use mathlib.Core.Bool.{true, false};
-ghost use Prim.Native.Nat.{_+_, _/_, _%_, _^_, _<_, _≤_};
-ghost use lib.IntN.{_+ℤ_, natAbs};
-ghost use Rattle.group_block.specs.Block.{cap, counterValue};
+ghost use Prim.Native.Nat.{_^_, _<_, _≤_};
 ghost use Rattle.group_block.specs.Sum as sum_spec;
 ghost use Rattle.signed_number.specs.Number.{integerOf, signedOf};
-ghost use Rattle.signed_block.specs.Signed.{signRead};
-ghost use Rattle.signed_block.specs.Signed as spec;
 ghost use Rattle.signed_block.specs.Passed.{signedBlock, signedSummed, SignedSane};
 ghost use Rattle.signed_words.specs.Words.{holdsAt};
+ghost use Rattle.signed_widening.specs.Widening.{twinSum, Past};
 
 // The sum of the two counters of this level side by side at a place.
 fn twin_sum(word: u64, level: u32, place: usize) -> Signed
     requires { ⌜ level ≤ 2 ⌝ ∗ ⌜ place < 64 ⌝ }
-    ensures { λ r. ⌜ r ≡ signedOf (signRead level (word / 2 ^ place % cap (level + 1) % cap level) +ℤ signRead level (word / 2 ^ place % cap (level + 1) / cap level)) ⌝ }
+    ensures { λ r. ⌜ r ≡ signedOf (twinSum word level place) ⌝ }
     ensures { λ r. ⌜ r .magnitude < 2 ^ 32 ⌝ }
 {
     let both = value_at(word, level + 1, place);
@@ -52,7 +49,7 @@ fn none_holds() -> Summed
 // The sum where the counter beside has the same level and one counter of the next level holds what both and the amount add up to; over
 // elsewhere.
 fn widened(word: u64, merge: u8, level: u32, slot: usize, amount: Signed) -> Summed
-    requires { ⌜ SignedSane 3 word merge ⌝ ∗ ⌜ level ≤ 2 ⌝ ∗ ⌜ slot < 8 ⌝ ∗ ⌜ amount .magnitude < 2 ^ 63 ⌝ ∗ ⌜ spec.top level ≤ natAbs (counterValue (signedBlock 3 word merge) slot +ℤ integerOf amount) ⌝ }
+    requires { ⌜ SignedSane 3 word merge ⌝ ∗ ⌜ level ≤ 2 ⌝ ∗ ⌜ slot < 8 ⌝ ∗ ⌜ amount .magnitude < 2 ^ 63 ⌝ ∗ ⌜ Past word merge level slot (integerOf amount) ⌝ }
     ensures { λ r. ⌜ (r .over ≡ false → r ≡ signedSummed (sum_spec.add (signedBlock 3 word merge) slot (integerOf amount))) ⌝ }
 {
     let at = place(level + 1, slot);
