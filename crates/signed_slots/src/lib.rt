@@ -66,8 +66,15 @@ fn minus(word: u64, source: u64) -> u64
     (signs(word) ^ past(word, source)) & signs(size(word, source) + 9187201950435737471)
 }
 
+// The sums, a slot in each byte.
+pub fn sums(word: u64, source: u64) -> u64
+    ensures { λ r. ⌜ r ≡ spec.sums ones lows word source ⌝ }
+{
+    size(word, source) | (minus(word, source) * 128)
+}
+
 // Where two magnitudes of one sign sum up to more than 127.
-fn over(word: u64, source: u64) -> u64
+pub fn over(word: u64, source: u64) -> u64
     ensures { λ r. ⌜ r ≡ spec.over ones lows word source ⌝ }
 {
     signs(total(word, source)) & (apart(word, source) ^ 72340172838076673)
@@ -85,7 +92,7 @@ fn unite_slots(word: u64, source: u64) -> Slots
 {
     Slots {
         held: over(word, source) == 0,
-        word: size(word, source) | (minus(word, source) * 128),
+        word: sums(word, source),
     }
 }
 
