@@ -1,9 +1,12 @@
 -- Sums of the slots of a block, by its halves and slot by slot.
 use mathlib.Core.Path.{_≡_, refl}
 use Prim.Native.Nat.{ℕ, suc, _+_, _*_, _/_, _%_, _^_, _≤_, _<_}
+use native.Mathlib.Nat.{mod-lt}
 use native.Mathlib.Omega.{arith}
+use lib.Arith.{digits-div, digits-mod}
 use lib.IntN.{_+ℤ_, natAbs}
 use Rattle.group_block.specs.Kind.{cap}
+use Rattle.group_block.proofs.Laws.{cap-pos}
 use Rattle.signed_block.specs.Signed.{top, signBits, signRead}
 use Rattle.signed_slots.specs.Slots.{ones, lows, sums, over, rep, sumsOf, overOf}
 use Rattle.signed_slots.proofs.Lanes.{lanes-lt, lanes-parts, sums-small, over-small, sums-lanes, over-lanes}
@@ -26,6 +29,17 @@ module _ (n w v : ℕ) where
   pub over-lt : w < cap n → v < cap n → overOf n w v < cap n
   unfolding overOf cap
   over-lt h k = lanes-lt over over-lanes (λ x y. over-small x y) (2 ^ n) w v h k
+
+-- the halves of the words, as shifts and masks take them
+parts : (n a b : ℕ) {s : ℕ} → s ≡ a * cap n + b → b < cap n → (s / cap n ≡ a) × (s % cap n ≡ b)
+parts n a b e h = rw e (digits-div a h, digits-mod a h)
+
+module _ (n w v : ℕ) where
+  pub sums-parts : (sumsOf (suc n) w v / cap n ≡ sumsOf n (w / cap n) (v / cap n)) × (sumsOf (suc n) w v % cap n ≡ sumsOf n (w % cap n) (v % cap n))
+  sums-parts = parts n _ _ (sums-halves n w v) (sums-lt n (w % cap n) (v % cap n) (mod-lt w (cap-pos n)) (mod-lt v (cap-pos n)))
+
+  pub over-parts : (overOf (suc n) w v / cap n ≡ overOf n (w / cap n) (v / cap n)) × (overOf (suc n) w v % cap n ≡ overOf n (w % cap n) (v % cap n))
+  over-parts = parts n _ _ (over-halves n w v) (over-lt n (w % cap n) (v % cap n) (mod-lt w (cap-pos n)) (mod-lt v (cap-pos n)))
 
 -- eight slots: the code's words
 module _ (w v : ℕ) where
