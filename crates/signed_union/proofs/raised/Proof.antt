@@ -1,23 +1,21 @@
-use mathlib.Core.Path.{ap}
 use native.Mathlib.Omega.{arith}
 use Rattle.group_block.proofs.Laws.{cap-below}
-use Rattle.signed_block.proofs.Counters.{top-half, top-twice}
+use Rattle.signed_block.proofs.Counters.{top-half}
 use Rattle.signed_union.proofs.Integers.{raised-plus, raised-minus}
-use borrow.Author.Needs.{needs}
 use Rattle.signed_union.proofs.raised.Statement.{statement}
 use Rattle.signed_union.proofs.raised.Tie as tie
 
 top-requires : tie.Need-top-requires
-top-requires c κs = search needs
+top-requires c κs = omega arith
 
 bias-requires : tie.Need-bias-requires
-bias-requires c κs = search needs
+bias-requires c κs = omega arith
 
 add-result : tie.Need-add-result
 add-result c = let s = c .before .before .before in omega (arith, cap-below (s .args .level) (s .pre .0))
 
 bias-requires-2 : tie.Need-bias-requires-2
-bias-requires-2 c κs = search needs
+bias-requires-2 c κs = omega arith
 
 add-result-2 : tie.Need-add-result-2
 add-result-2 c = let s = c .before .before .before in omega (arith, top-half (s .args .level) (s .pre .0))
