@@ -1,3 +1,1 @@
-pub mod Integers
-pub mod Nodes
 pub mod Slots

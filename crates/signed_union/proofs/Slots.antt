@@ -19,11 +19,12 @@ use Rattle.signed_block.specs.Signed.{signed, top, signBits, signRead}
 use Rattle.signed_block.specs.Passed.{signedBlock}
 use Rattle.signed_slots.specs.Slots.{sumsOf, overOf}
 use Rattle.signed_slots.proofs.Blocks.{sums-halves, over-halves, sums-lt, over-lt, sums-parts, over-parts, slot-held, slot-over}
-use Rattle.signed_union.specs.declared.Node.{Node}
+use Rattle.signed_nodes.specs.declared.Node.{Node}
 use Rattle.signed_union.specs.declared.Blocks.{Blocks}
-use Rattle.signed_union.specs.Nodes.{Raised, Tells, passed, BesideAs, NodeOf, SidesOf, Slotted, leftsOf, rightsOf, halvesOf}
-use Rattle.signed_union.proofs.Integers.{raised-sum}
-use Rattle.signed_union.proofs.Nodes.{sides-are, raised-in}
+use Rattle.signed_nodes.specs.Nodes.{Raised, Tells, passed, BesideAs}
+use Rattle.signed_union.specs.Slotted.{NodeOf, SidesOf, Slotted, leftsOf, rightsOf, halvesOf}
+use Rattle.signed_nodes.proofs.Integers.{raised-sum}
+use Rattle.signed_nodes.proofs.Nodes.{sides-are, raised-in}
 
 -- one slot
 abbrev slot : ℕ → ℕ → Summed

@@ -9,8 +9,8 @@ use Prim.Native.Nat.{ℕ, _-_, _≤_, _<_}
 use borrow.Author.Needs.{needs}
 use borrow.Author.Count.{below-more}
 use lib.ListN.{length, getD}
-use Rattle.signed_union.specs.declared.Node.{Node}
-use Rattle.signed_union.specs.Nodes.{NodeOf, halvesOf}
+use Rattle.signed_nodes.specs.declared.Node.{Node}
+use Rattle.signed_union.specs.Slotted.{NodeOf, halvesOf}
 use Rattle.signed_union.proofs.eight_slots.Statement.{statement}
 use Rattle.signed_union.proofs.eight_slots.Tie as tie
 

@@ -1,5 +1,5 @@
 use native.Mathlib.Omega.{arith}
-use Rattle.signed_union.specs.Nodes.{NodeOf, halvesOf}
+use Rattle.signed_union.specs.Slotted.{NodeOf, halvesOf}
 use Rattle.signed_union.proofs.Slots.{halves-slotted, nodes-small, nodes-beside}
 use borrow.Author.Needs.{needs}
 use Rattle.signed_union.proofs.four_slots.Statement.{statement}
@@ -35,7 +35,7 @@ beside-requires c κs = let s = start c in
 formed-requires : tie.Need-formed-requires
 formed-requires c κs = let k = c .before in
     let s = start k in
-    (omega arith, (s .pre, nodes-beside 1 (s .args .b) (s .pre) _ _ (left-is k) (right-is k) (c .beside .result) (c .beside .ensures .0) (c .beside .ensures .1)))
+    (omega arith, (s .pre .word-in, (s .pre .other-in, nodes-beside 1 (s .args .b) (s .pre) _ _ (left-is k) (right-is k) (c .beside .result) (c .beside .ensures .0) (c .beside .ensures .1))))
 
 returns : tie.Need-returns
 returns c = search needs

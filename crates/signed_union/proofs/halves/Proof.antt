@@ -3,7 +3,7 @@ use mathlib.Core.Bool.{Bool, true, false, cond}
 use native.Mathlib.Numerals.{add-one}
 use lib.Dec.{eqb}
 use Rattle.signed_union.specs.declared.Blocks.{Blocks}
-use Rattle.signed_union.specs.Nodes.{leftsOf, rightsOf, halvesOf}
+use Rattle.signed_union.specs.Slotted.{leftsOf, rightsOf, halvesOf}
 use Rattle.signed_union.proofs.Slots.{sums-in, overs-in}
 use borrow.Author.Needs.{needs}
 use Rattle.signed_union.proofs.halves.Statement.{statement}

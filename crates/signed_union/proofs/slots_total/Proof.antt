@@ -5,7 +5,7 @@ use native.Mathlib.Nat.{mod-lt}
 use lib.IntN.{ℤ, _+ℤ_}
 use Rattle.group_block.proofs.Laws.{cap-pos, high-lt}
 use Rattle.signed_block.specs.Signed.{signRead}
-use Rattle.signed_union.proofs.Integers.{raised-sum}
+use Rattle.signed_nodes.proofs.Integers.{raised-sum}
 use borrow.Author.Needs.{needs}
 use Rattle.signed_union.proofs.slots_total.Statement.{statement}
 use Rattle.signed_union.proofs.slots_total.Tie as tie

@@ -12,7 +12,7 @@ slots-total-requires-2 c κs = search needs
 
 formed-requires : tie.Need-formed-requires
 formed-requires c κs = let s = c .before .before .before in
-    (omega arith, (s .pre, two-sides (s .args .b) _ _ (s .pre) (c .before .before .slots-total .ensures) (c .before .slots-total2 .ensures)))
+    (omega arith, (s .pre .word-in, (s .pre .other-in, two-sides (s .args .b) _ _ (s .pre) (c .before .before .slots-total .ensures) (c .before .slots-total2 .ensures))))
 
 returns : tie.Need-returns
 returns c = search needs

@@ -8,7 +8,7 @@ use Rattle.group_layout.proofs.Laws.{valid-in}
 use Rattle.group_block.specs.Block.{cap}
 use Rattle.signed_slots.proofs.Unions.{stay}
 use Rattle.signed_slots.proofs.Blocks.{sums-eight, over-eight}
-use Rattle.signed_union.proofs.Nodes.{or-false}
+use Rattle.signed_nodes.proofs.Nodes.{or-false}
 use borrow.Author.Needs.{needs}
 use Rattle.signed_union.proofs.unite.Statement.{statement}
 use Rattle.signed_union.proofs.unite.Tie as tie

@@ -8,9 +8,9 @@ use Rattle.group_block.specs.Sum.{SumOf, held}
 use Rattle.signed_block.specs.Signed.{signed, top}
 use Rattle.signed_block.specs.Passed.{signedBlock, signedSummed}
 use Rattle.signed_block.proofs.Counters.{signed-sums}
-use Rattle.signed_union.specs.Nodes.{bias, Raised}
-use Rattle.signed_union.proofs.Integers.{raised-lt, raised-next}
-use Rattle.signed_union.proofs.Nodes.{apart-in, held-is}
+use Rattle.signed_nodes.specs.Nodes.{bias, Raised}
+use Rattle.signed_nodes.proofs.Integers.{raised-lt, raised-next}
+use Rattle.signed_nodes.proofs.Nodes.{apart-in, held-is}
 use borrow.Author.Needs.{needs}
 use Rattle.signed_union.proofs.united.Statement.{statement}
 use Rattle.signed_union.proofs.united.Tie as tie

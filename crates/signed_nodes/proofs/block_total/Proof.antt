@@ -1,8 +1,8 @@
 use mathlib.Core.Path.{sym, _∙_}
 use Rattle.signed_block.proofs.Counters.{total-merged}
 use borrow.Author.Needs.{needs}
-use Rattle.signed_union.proofs.block_total.Statement.{statement}
-use Rattle.signed_union.proofs.block_total.Tie as tie
+use Rattle.signed_nodes.proofs.block_total.Statement.{statement}
+use Rattle.signed_nodes.proofs.block_total.Tie as tie
 
 is-merged-requires : tie.Need-is-merged-requires
 is-merged-requires c κs = search needs

@@ -1,9 +1,9 @@
 use native.Mathlib.Omega.{arith}
 use Rattle.group_block.proofs.Laws.{cap-below}
 use Rattle.signed_block.proofs.Counters.{top-half}
-use Rattle.signed_union.proofs.Integers.{raised-plus, raised-minus}
-use Rattle.signed_union.proofs.raised.Statement.{statement}
-use Rattle.signed_union.proofs.raised.Tie as tie
+use Rattle.signed_nodes.proofs.Integers.{raised-plus, raised-minus}
+use Rattle.signed_nodes.proofs.raised.Statement.{statement}
+use Rattle.signed_nodes.proofs.raised.Tie as tie
 
 top-requires : tie.Need-top-requires
 top-requires c κs = omega arith

@@ -22,9 +22,9 @@ use Rattle.group_block.proofs.Uniting.{unite-counter}
 use Rattle.signed_block.specs.Signed.{signed, top, signBits, signRead}
 use Rattle.signed_block.specs.Passed.{signedBlock, signedSummed}
 use Rattle.signed_block.proofs.Counters.{top-half, signed-sums, signed-codes}
-use Rattle.signed_union.specs.declared.Node.{Node}
-use Rattle.signed_union.proofs.Integers.{bias-small, raised-lt}
-use Rattle.signed_union.specs.Nodes.{bias, Raised, Tells, passed, IsNode, Sides, BesideAs}
+use Rattle.signed_nodes.specs.declared.Node.{Node}
+use Rattle.signed_nodes.proofs.Integers.{bias-small, raised-lt}
+use Rattle.signed_nodes.specs.Nodes.{bias, Raised, Tells, passed, IsNode, Sides, BesideAs}
 
 -- a sum that is tried
 pub held-tells : (n : ℕ) (v : ℤ) → Tells (record { over = leb (top n) (natAbs v); word = signBits n v; merge = ones n }) (held {K = signed} n v)

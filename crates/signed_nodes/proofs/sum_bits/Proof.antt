@@ -1,10 +1,10 @@
 use mathlib.Core.Path.{sym, ap, _∙_}
 use native.Mathlib.Omega.{arith}
 use Rattle.signed_block.proofs.Counters.{top-most}
-use Rattle.signed_union.proofs.Integers.{bits-sub-plus, bits-sub-minus}
+use Rattle.signed_nodes.proofs.Integers.{bits-sub-plus, bits-sub-minus}
 use borrow.Author.Needs.{needs}
-use Rattle.signed_union.proofs.sum_bits.Statement.{statement}
-use Rattle.signed_union.proofs.sum_bits.Tie as tie
+use Rattle.signed_nodes.proofs.sum_bits.Statement.{statement}
+use Rattle.signed_nodes.proofs.sum_bits.Tie as tie
 
 add-bias : tie.Need-add-bias
 add-bias c = search needs

@@ -1,7 +1,7 @@
-use Rattle.signed_union.proofs.Nodes.{held-tells}
+use Rattle.signed_nodes.proofs.Nodes.{held-tells}
 use borrow.Author.Needs.{needs}
-use Rattle.signed_union.proofs.held.Statement.{statement}
-use Rattle.signed_union.proofs.held.Tie as tie
+use Rattle.signed_nodes.proofs.held.Statement.{statement}
+use Rattle.signed_nodes.proofs.held.Tie as tie
 
 add-bias : tie.Need-add-bias
 add-bias c = search needs

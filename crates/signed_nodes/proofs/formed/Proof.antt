@@ -3,11 +3,11 @@ use mathlib.Core.Bool.{Bool, _||_}
 use native.Mathlib.Omega.{arith}
 use Rattle.group_layout.specs.Layout.{layout}
 use Rattle.group_layout.specs.Merged.{isMerged}
-use Rattle.signed_union.proofs.Integers.{raised-next}
-use Rattle.signed_union.proofs.Nodes.{chosen-tells, raised-in}
+use Rattle.signed_nodes.proofs.Integers.{raised-next}
+use Rattle.signed_nodes.proofs.Nodes.{chosen-tells, raised-in}
 use borrow.Author.Needs.{needs}
-use Rattle.signed_union.proofs.formed.Statement.{statement}
-use Rattle.signed_union.proofs.formed.Tie as tie
+use Rattle.signed_nodes.proofs.formed.Statement.{statement}
+use Rattle.signed_nodes.proofs.formed.Tie as tie
 
 block-total-requires : tie.Need-block-total-requires
 block-total-requires c κs = search needs
@@ -18,10 +18,9 @@ block-total-requires-2 c κs = search needs
 add-held : tie.Need-add-held
 add-held c = let s = c .before .before in
     let n = s .args .level in
-    let b = s .args .b in
-    let h = s .pre .1 .0 in
-    let p = raised-in n (c .before .block-total .result) (b .word) (b .merge) (s .pre .0) (h .word-in) (c .before .block-total .ensures) in
-    let q = raised-in n (c .block-total2 .result) (b .«other_word») (b .«other_merge») (s .pre .0) (h .other-in) (c .block-total2 .ensures) in
+    let b = s .args in
+    let p = raised-in n (c .before .block-total .result) (b .word) (b .merge) (s .pre .0) (s .pre .1 .0) (c .before .block-total .ensures) in
+    let q = raised-in n (c .block-total2 .result) (b .other-word) (b .other-merge) (s .pre .0) (s .pre .1 .1 .0) (c .block-total2 .ensures) in
     omega arith
 
 held-requires : tie.Need-held-requires
@@ -45,16 +44,16 @@ returns c = let i = c .before .before .before .before in
     let o = t .before in
     let s = o .before .before in
     let sides = s .args .sides in
-    let b = s .args .b in
+    let b = s .args in
     let n = s .args .level in
     let sum = raised-next n _ _ _ _ (o .before .block-total .ensures) (o .block-total2 .ensures) in
-    let one : ((isMerged (layout n (b .merge)) || isMerged (layout n (b .«other_merge»))) || sides .over) ≡ ((i .before .is-merged .result || i .is-merged2 .result) || sides .over) =
+    let one : ((isMerged (layout n (b .merge)) || isMerged (layout n (b .other-merge))) || sides .over) ≡ ((i .before .is-merged .result || i .is-merged2 .result) || sides .over) =
     ap₂ (λ (x y : Bool). (x || y) || sides .over) (sym (i .before .is-merged .ensures)) (sym (i .is-merged2 .ensures)) in
     record {
       first = o .before .block-total .ensures;
       second = o .block-total2 .ensures;
       union = rw (c .before .chosen .ensures, c .chosen-bits .ensures)
-          (chosen-tells n (b .word) (b .merge) (b .«other_word») (b .«other_merge») sides (s .pre .1 .1) (t .held .result) (rw sum at (t .held .ensures)) _ one);
+          (chosen-tells n (b .word) (b .merge) (b .other-word) (b .other-merge) sides (s .pre .1 .1 .1) (t .held .result) (rw sum at (t .held .ensures)) _ one);
     }
 
 pub formed-spec : {M : Type 1} → statement M

@@ -1,8 +1,7 @@
 -- The union of two blocks as it is made level by level, from the slots up. The code's own terms; no public contract cites them.
-use Prim.Native.Nat.{ℕ, _+_, _*_, _/_, _%_, _^_, _<_}
+use Prim.Native.Nat.{ℕ, _+_, _*_, _^_, _<_}
 use mathlib.Core.Path.{_≡_}
-use mathlib.Core.Bool.{true, false, cond, _||_}
-use lib.Dec.{eqb}
+use mathlib.Core.Bool.{true, false, _||_}
 use lib.IntN.{ℤ, _+ℤ_, subℕ}
 use Rattle.group_layout.specs.Layout.{layout}
 use Rattle.group_layout.specs.Merged.{isMerged}
@@ -11,9 +10,7 @@ use Rattle.group_block.specs.Block.{cap, total}
 use Rattle.group_block.specs.Sum.{SumOf, held, unite}
 use Rattle.signed_block.specs.Signed.{signed}
 use Rattle.signed_block.specs.Passed.{signedBlock, signedSummed}
-use Rattle.signed_slots.specs.Slots.{sumsOf, overOf}
-use Rattle.signed_union.specs.declared.Node.{Node}
-use Rattle.signed_union.specs.declared.Blocks.{Blocks}
+use Rattle.signed_nodes.specs.declared.Node.{Node}
 
 -- by how much a total of level n is raised
 unfoldable pub bias : ℕ → ℕ
@@ -54,48 +51,3 @@ pub record BesideAs (n : ℕ) (l r s : Summed) : Type 0 where
   pub either : s .over ≡ (l .over || r .over)
   pub words : l .word < cap n → r .word < cap n → s .word ≡ r .word * cap n + l .word
   pub merges : l .merge < 2 ^ (2 ^ n) → r .merge < 2 ^ (2 ^ n) → s .merge ≡ r .merge * 2 ^ (2 ^ n) + l .merge
-
--- the same of two blocks as the code passes them
-abbrev pub NodeOf : ℕ → Node → Blocks → Type 0
-NodeOf n s b = IsNode n s (b .word) (b .merge) (b .«other_word») (b .«other_merge»)
-
-abbrev pub SidesOf : ℕ → Node → Blocks → Type 0
-SidesOf n s b = Sides n s (b .word) (b .merge) (b .«other_word») (b .«other_merge»)
-
--- the union as the code passes it
-abbrev pub united : Blocks → Summed
-united b = signedSummed (unite (signedBlock 3 (b .word) (b .merge)) (signedBlock 3 (b .«other_word») (b .«other_merge»)))
-
--- blocks of level n, with the words of their slots
-pub record Slotted (n : ℕ) (b : Blocks) : Type 0 where
-  pub word-in : b .word < cap n
-  pub other-in : b .«other_word» < cap n
-  pub merge-in : b .merge < 2 ^ (2 ^ n)
-  pub other-merge-in : b .«other_merge» < 2 ^ (2 ^ n)
-  pub sums-are : b .sums ≡ sumsOf n (b .word) (b .«other_word»)
-  pub overs-are : b .overs ≡ overOf n (b .word) (b .«other_word»)
-
--- their halves of level n
-unfoldable pub leftsOf : ℕ → Blocks → Blocks
-leftsOf n b = record {
-  word = b .word % cap n;
-  merge = b .merge % 2 ^ (2 ^ n);
-  «other_word» = b .«other_word» % cap n;
-  «other_merge» = b .«other_merge» % 2 ^ (2 ^ n);
-  sums = b .sums % cap n;
-  overs = b .overs % cap n;
-}
-
-unfoldable pub rightsOf : ℕ → Blocks → Blocks
-rightsOf n b = record {
-  word = b .word / cap n;
-  merge = b .merge / 2 ^ (2 ^ n);
-  «other_word» = b .«other_word» / cap n;
-  «other_merge» = b .«other_merge» / 2 ^ (2 ^ n);
-  sums = b .sums / cap n;
-  overs = b .overs / cap n;
-}
-
--- the left, 0, or the right
-unfoldable pub halvesOf : ℕ → ℕ → Blocks → Blocks
-halvesOf n h b = cond (eqb h 0) (leftsOf n b) (rightsOf n b)

@@ -3,11 +3,11 @@ use native.Mathlib.Nat.{one-mul}
 use native.Mathlib.Omega.{arith}
 use Prim.Native.Nat.{_+_}
 use lib.Pow.{shl-exact}
-use Rattle.signed_union.specs.Nodes.{bias}
-use Rattle.signed_union.proofs.Integers.{bias-large, bias-small}
+use Rattle.signed_nodes.specs.Nodes.{bias}
+use Rattle.signed_nodes.proofs.Integers.{bias-large, bias-small}
 use borrow.Author.Needs.{needs}
-use Rattle.signed_union.proofs.bias.Statement.{statement}
-use Rattle.signed_union.proofs.bias.Tie as tie
+use Rattle.signed_nodes.proofs.bias.Statement.{statement}
+use Rattle.signed_nodes.proofs.bias.Tie as tie
 
 add-result : tie.Need-add-result
 add-result c = search needs

@@ -6,8 +6,8 @@ use lib.Pow.{shl-exact}
 use lib.Bits.{or-shifted}
 use Rattle.group_block.proofs.Laws.{cap-below}
 use borrow.Author.Needs.{needs}
-use Rattle.signed_union.proofs.beside_words.Statement.{statement}
-use Rattle.signed_union.proofs.beside_words.Tie as tie
+use Rattle.signed_nodes.proofs.beside_words.Statement.{statement}
+use Rattle.signed_nodes.proofs.beside_words.Tie as tie
 
 slots-requires : tie.Need-slots-requires
 slots-requires c κs = search needs

@@ -5,8 +5,8 @@ use lib.Bits.{or-shifted}
 use native.Mathlib.Nat.{mod-eq-of-lt, mul-le-mul}
 use lib.Pow.{pow-mono}
 use borrow.Author.Needs.{needs}
-use Rattle.signed_union.proofs.beside_merges.Statement.{statement}
-use Rattle.signed_union.proofs.beside_merges.Tie as tie
+use Rattle.signed_nodes.proofs.beside_merges.Statement.{statement}
+use Rattle.signed_nodes.proofs.beside_merges.Tie as tie
 
 slots-requires : tie.Need-slots-requires
 slots-requires c κs = search needs

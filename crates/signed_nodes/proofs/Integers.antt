@@ -13,7 +13,7 @@ use Rattle.group_block.specs.Kind.{cap}
 use Rattle.group_block.proofs.Sums.{cross}
 use Rattle.signed_block.specs.Signed.{top, signBits, signRead}
 use Rattle.signed_block.proofs.Counters.{signed-sums, top-twice, top-pos, read-minus, bits-neg}
-use Rattle.signed_union.specs.Nodes.{bias, Raised}
+use Rattle.signed_nodes.specs.Nodes.{bias, Raised}
 
 -- a difference of two numbers, by its sign
 pub sub-plus : (a b : ℕ) → b ≤ a → subℕ a b ≡ pos (a - b)
