@@ -1,6 +1,8 @@
-use mathlib.Core.Path.{sym, ap, _∙_}
+use mathlib.Core.Path.{sym}
+use Prim.Native.Nat.{_+_}
 use native.Mathlib.Omega.{arith}
 use Rattle.signed_block.proofs.Counters.{top-most}
+use Rattle.signed_nodes.specs.Nodes.{bias}
 use Rattle.signed_nodes.proofs.Integers.{bits-sub-plus, bits-sub-minus}
 use borrow.Author.Needs.{needs}
 use Rattle.signed_nodes.proofs.sum_bits.Statement.{statement}
@@ -23,11 +25,11 @@ sub-result c = search needs
 
 returns : tie.Need-returns
 returns c = let a = c .before .before .before .args in
-    rw (← c .before .before .bias .ensures .0, c .top .ensures) (sym (bits-sub-minus (a .level) (a .sum) (c .before .before .bias .result) (omega arith)))
+    rw (c .before .before .bias .ensures .0, c .top .ensures) (sym (bits-sub-minus (a .level) (a .sum) (bias (a .level + 1)) (omega arith)))
 
 returns-2 : tie.Need-returns-2
 returns-2 c = let a = c .before .before .args in
-    rw (← c .before .bias .ensures .0) (sym (bits-sub-plus (a .level) (a .sum) (c .before .bias .result) (omega arith)))
+    rw (c .before .bias .ensures .0) (sym (bits-sub-plus (a .level) (a .sum) (bias (a .level + 1)) (omega arith)))
 
 pub sum-bits-spec : {M : Type 1} → statement M
 sum-bits-spec =

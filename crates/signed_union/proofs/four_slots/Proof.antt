@@ -11,10 +11,10 @@ module _ (c : tie.After-two-slots2) where
   start = c .before .before .before .before
 
   left-is : NodeOf 1 (c .before .before .two-slots .result) (halvesOf 1 0 (start .args .b))
-  left-is = rw (← c .before .before .before .halves .ensures) (c .before .before .two-slots .ensures)
+  left-is = rw (c .before .before .before .halves .ensures) at (c .before .before .two-slots .ensures)
 
   right-is : NodeOf 1 (c .two-slots2 .result) (halvesOf 1 1 (start .args .b))
-  right-is = rw (← c .before .halves2 .ensures) (c .two-slots2 .ensures)
+  right-is = rw (c .before .halves2 .ensures) at (c .two-slots2 .ensures)
 
 halves-requires : tie.Need-halves-requires
 halves-requires c κs = search needs
