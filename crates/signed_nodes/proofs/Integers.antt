@@ -1,18 +1,15 @@
 -- Integers raised by a bias.
 use mathlib.Core.Path.{_≡_, refl, sym, ap, ap₂, _∙_}
-use mathlib.Core.Bool.{Bool, true, false, cond}
 use Prim.Native.Nat.{ℕ, zero, suc, _+_, _-_, _^_, _≤_, _<_}
 use native.Mathlib.Decide.{decLt}
 use native.Mathlib.Numerals.{add-one}
 use native.Mathlib.Omega.{arith}
-use borrow.Author.Tests.{lt-ltb, le-ltb, ltb-true, ltb-false}
-use lib.Dec.{ltb}
+use borrow.Author.Tests.{lt-ltb, le-ltb}
 use lib.Pow.{pow-mono}
-use lib.IntN.{ℤ, pos, negsuc, _+ℤ_, negℤ, natAbs, subℕ, negℤ-+ℤ}
-use Rattle.group_block.specs.Kind.{cap}
+use lib.IntN.{ℤ, pos, _+ℤ_, negℤ, natAbs, subℕ, negℤ-+ℤ}
 use Rattle.group_block.proofs.Sums.{cross}
 use Rattle.signed_block.specs.Signed.{top, signBits, signRead}
-use Rattle.signed_block.proofs.Counters.{signed-sums, top-twice, top-pos, read-minus, bits-neg}
+use Rattle.signed_block.proofs.Counters.{signed-sums, read-minus, bits-neg}
 use Rattle.signed_nodes.specs.Nodes.{bias, Raised}
 
 -- a difference of two numbers, by its sign

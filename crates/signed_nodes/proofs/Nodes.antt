@@ -12,7 +12,7 @@ use Rattle.group_layout.specs.Layout.{ones, marks, layout}
 use Rattle.group_layout.specs.Merged.{isMerged}
 use Rattle.group_layout.proofs.Laws.{marks-in}
 use Rattle.group_block.specs.declared.Summed.{Summed}
-use Rattle.group_block.specs.Block.{BlockOf, counter, split, cap, Fits, shape, numberOf, total}
+use Rattle.group_block.specs.Block.{BlockOf, counter, cap, shape, numberOf, total}
 use Rattle.group_block.specs.Sum.{SumOf, fits, over, held, join, unite, sumTotal}
 use Rattle.group_block.specs.Passed.{summedAs}
 use Rattle.group_block.proofs.Laws.{cap-pos, high-lt, word-lt-of, block-fits-of, block-merged-of, block-suc}
@@ -24,7 +24,7 @@ use Rattle.signed_block.specs.Passed.{signedBlock, signedSummed}
 use Rattle.signed_block.proofs.Counters.{top-half, signed-sums, signed-codes}
 use Rattle.signed_nodes.specs.declared.Node.{Node}
 use Rattle.signed_nodes.proofs.Integers.{bias-small, raised-lt}
-use Rattle.signed_nodes.specs.Nodes.{bias, Raised, Tells, passed, IsNode, Sides, BesideAs}
+use Rattle.signed_nodes.specs.Nodes.{bias, Raised, Tells, passed, Sides, BesideAs}
 
 -- a sum that is tried
 pub held-tells : (n : ℕ) (v : ℤ) → Tells (record { over = leb (top n) (natAbs v); word = signBits n v; merge = ones n }) (held {K = signed} n v)

@@ -1,5 +1,5 @@
 -- Blocks with the words of their slots: one slot, two side by side, and the halves of any level.
-use mathlib.Core.Path.{_≡_, refl, sym, ap, _∙_}
+use mathlib.Core.Path.{_≡_, refl, ap, _∙_}
 use mathlib.Core.Bool.{Bool, true, false, cond, not, _||_, true≢false}
 use Prim.Native.Nat.{ℕ, suc, _+_, _*_, _/_, _%_, _^_, _≤_, _<_}
 use native.Mathlib.Nat.{mod-lt, one-mul, zero-mul, div-one}
@@ -15,7 +15,7 @@ use Rattle.group_block.specs.Block.{cap, shape, numberOf, fill, blockAs, total}
 use Rattle.group_block.specs.Sum.{held, unite}
 use Rattle.group_block.specs.Passed.{summedAs}
 use Rattle.group_block.proofs.Laws.{cap-pos, high-lt}
-use Rattle.signed_block.specs.Signed.{signed, top, signBits, signRead}
+use Rattle.signed_block.specs.Signed.{top, signRead}
 use Rattle.signed_block.specs.Passed.{signedBlock}
 use Rattle.signed_slots.specs.Slots.{sumsOf, overOf}
 use Rattle.signed_slots.proofs.Blocks.{sums-halves, over-halves, sums-lt, over-lt, sums-parts, over-parts, slot-held, slot-over}

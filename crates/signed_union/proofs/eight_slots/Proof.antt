@@ -1,14 +1,12 @@
-use mathlib.Core.Path.{refl, _∙_}
+use mathlib.Core.Path.{refl, _∙_, _≡_}
 use native.Mathlib.Omega.{arith}
-use lib.ListN.{set, length-set}
+use lib.ListN.{set, length-set, length, getD}
 use lib.Seq.{getD-set-same, getD-set-other}
 use Rattle.signed_union.proofs.Slots.{halves-slotted, nodes-small, nodes-beside}
-use mathlib.Core.Path.{_≡_}
 use mathlib.Core.Bool.{false}
 use Prim.Native.Nat.{ℕ, _-_, _≤_, _<_}
 use borrow.Author.Needs.{needs}
 use borrow.Author.Count.{below-more}
-use lib.ListN.{length, getD}
 use Rattle.signed_nodes.specs.declared.Node.{Node}
 use Rattle.signed_union.specs.Slotted.{NodeOf, halvesOf}
 use Rattle.signed_union.proofs.eight_slots.Statement.{statement}

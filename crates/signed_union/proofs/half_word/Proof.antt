@@ -3,9 +3,7 @@ use Prim.Native.Nat.{ℕ, suc, _+_, _*_, _/_, _%_, _^_}
 use native.Mathlib.Nat.{mul-le-mul}
 use native.Mathlib.Numerals.{add-one}
 use native.Mathlib.Omega.{arith}
-use lib.Pow.{pow-add}
 use Rattle.group_block.specs.Block.{cap}
-use Rattle.group_block.proofs.Laws.{cap-square}
 use Rattle.signed_union.proofs.Slots.{half-is}
 use borrow.Author.Needs.{needs}
 use Rattle.signed_union.proofs.half_word.Statement.{statement}

@@ -1,10 +1,7 @@
 use Rattle.signed_union.proofs.Slots.{slot-small}
-use mathlib.Core.Path.{ap₂, _∙_}
 use native.Mathlib.Omega.{arith}
 use native.Mathlib.Nat.{mod-lt}
-use lib.IntN.{ℤ, _+ℤ_}
 use Rattle.group_block.proofs.Laws.{cap-pos, high-lt}
-use Rattle.signed_block.specs.Signed.{signRead}
 use Rattle.signed_nodes.proofs.Integers.{raised-sum}
 use borrow.Author.Needs.{needs}
 use Rattle.signed_union.proofs.slots_total.Statement.{statement}
