@@ -1,41 +1,15 @@
 -- Integers raised by a bias.
-use mathlib.Core.Path.{_≡_, refl, sym, ap, ap₂, _∙_}
-use Prim.Native.Nat.{ℕ, zero, suc, _+_, _-_, _^_, _≤_, _<_}
-use native.Mathlib.Decide.{decLt}
+use mathlib.Core.Path.{_≡_, ap, ap₂, _∙_}
+use Prim.Native.Nat.{ℕ, suc, _+_, _-_, _^_, _≤_, _<_}
 use native.Mathlib.Numerals.{add-one}
 use native.Mathlib.Omega.{arith}
-use borrow.Author.Tests.{lt-ltb, le-ltb}
+use borrow.Author.Tests.{lt-ltb}
 use lib.Pow.{pow-mono}
-use lib.IntN.{ℤ, pos, _+ℤ_, negℤ, natAbs, subℕ, negℤ-+ℤ}
-use Rattle.group_block.proofs.Sums.{cross}
+use lib.IntN.{ℤ, _+ℤ_, natAbs, subℕ}
+use Rattle.signed_number.proofs.Raised.{sub-plus, sub-minus, sub-size, sub-add, raise-plus, raise-minus}
 use Rattle.signed_block.specs.Signed.{top, signBits, signRead}
-use Rattle.signed_block.proofs.Counters.{signed-sums, read-minus, bits-neg}
+use Rattle.signed_block.proofs.Counters.{read-minus, bits-neg}
 use Rattle.signed_nodes.specs.Nodes.{bias, Raised}
-
--- a difference of two numbers, by its sign
-pub sub-plus : (a b : ℕ) → b ≤ a → subℕ a b ≡ pos (a - b)
-sub-plus a b h = rw (le-ltb a b h)
-
-pub sub-minus : (a b : ℕ) → a < b → subℕ a b ≡ negℤ (pos (b - a))
-sub-minus a b h = let e : b - a ≡ suc (b - suc a) = omega arith in rw (lt-ltb a b h, e)
-
-pub sub-size : (a b : ℕ) → natAbs (subℕ a b) ≡ (a - b) + (b - a)
-sub-size a b = elim (decLt a b) [
-  | yes h ↦ rw (lt-ltb a b h) (omega arith)
-  | no h ↦ rw (le-ltb a b (omega arith)) (omega arith)
-]
-
-sub-is : (a b : ℕ) → subℕ a b ≡ pos a +ℤ negℤ (pos b)
-sub-is a zero = sub-plus a zero (omega arith) ∙ ap pos (omega arith)
-sub-is a (suc b) = refl
-
--- of two sums, the sum of two differences
-pub sub-add : (a b p q : ℕ) → subℕ (a + b) (p + q) ≡ subℕ a p +ℤ subℕ b q
-sub-add a b p q =
-    sub-is (a + b) (p + q)
-    ∙ ap (λ (v : ℤ). pos (a + b) +ℤ v) (negℤ-+ℤ (pos p) (pos q))
-    ∙ cross signed-sums (pos a) (pos b) (negℤ (pos p)) (negℤ (pos q))
-    ∙ ap₂ (λ (u v : ℤ). u +ℤ v) (sym (sub-is a p)) (sym (sub-is b q))
 
 -- the bits of a difference
 pub bits-sub-plus : (n a b : ℕ) → b ≤ a → signBits n (subℕ a b) ≡ a - b
@@ -71,15 +45,9 @@ raised-lt n a v e = omega (arith, sub-size a (bias n), ap natAbs e)
 -- a counter's value, raised
 pub raised-plus : (n w : ℕ) → w < top n → Raised n (bias n + w) (signRead n w)
 unfolding signRead
-raised-plus n w h = rw (lt-ltb w (top n) h) (sub-plus (bias n + w) (bias n) (omega arith) ∙ ap pos (omega arith))
+raised-plus n w h = rw (lt-ltb w (top n) h) (raise-plus (bias n) w)
 
 pub raised-minus : (n w : ℕ) → top n ≤ w → w ≤ bias n + top n → Raised n (bias n + top n - w) (signRead n w)
-raised-minus n w h k = elim (decLt (top n) w) [
-  | yes l ↦
-      let e : bias n - (bias n + top n - w) ≡ w - top n = omega arith in
-      sub-minus (bias n + top n - w) (bias n) (omega arith) ∙ ap (λ (x : ℕ). negℤ (pos x)) e ∙ sym (read-minus n w h)
-  | no l ↦
-      let e : bias n + top n - w ≡ bias n = omega arith in
-      let z : w - top n ≡ 0 = omega arith in
-      rw (read-minus n w h, e, z) (sub-plus (bias n) (bias n) (omega arith) ∙ ap pos (omega arith))
-]
+raised-minus n w h k =
+    let e : bias n + top n - w ≡ bias n - (w - top n) = omega arith in
+    rw (e, read-minus n w h) (raise-minus (bias n) (w - top n) (omega arith))
