@@ -1,3 +1,4 @@
 pub mod Levels
 pub mod Byte
 pub mod Places
+pub mod Exchanging

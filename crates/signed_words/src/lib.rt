@@ -1,7 +1,8 @@
 // What a signed group's calls compute of its count bytes, taken as one number, and its merge byte: whether a counter is minus zero,
 // every counter with the other sign, the counter of a slot, and an addition that its counter holds.
+use group_levels::exchange;
 use group_levels::most;
-use group_sums::with_value;
+use group_levels::place;
 use signed_block::top;
 use signed_block::total;
 use signed_block::value;
@@ -191,6 +192,6 @@ pub fn add_in_place(word: u64, merge: u8, slot: usize, amount: Signed) -> InPlac
     }
     InPlace {
         held: true,
-        word: with_value(word, merge, slot, k.bits),
+        word: exchange(word, c.level, place(c.level, slot), c.value, k.bits),
     }
 }
