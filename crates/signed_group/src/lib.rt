@@ -164,6 +164,6 @@ pub fn combine(minus: bool, target: Group, source: Group) -> Outcome
     let source_word = times_sign(minus, number_of(source_counts), source.merge);
     outcome(
         target,
-        signed_slots::unite(word, target.merge, source_word, source.merge),
+        signed_union::unite(word, target.merge, source_word, source.merge),
     )
 }

@@ -66,7 +66,7 @@ fn sum_sign(a: Signed, b: Signed) -> bool
 }
 
 // By how much two magnitudes differ.
-fn distance(a: u64, b: u64) -> u64
+pub fn distance(a: u64, b: u64) -> u64
     ensures { λ r. ⌜ r ≡ natAbs (subℕ a b) ⌝ }
 {
     if a < b {

@@ -1,14 +1,15 @@
 -- Sums of slots in the bytes of a number, byte by byte: for any number of bytes.
-use mathlib.Core.Path.{_≡_, refl, ap, ap₂, _∙_}
+use mathlib.Core.Path.{_≡_, refl, sym, ap, ap₂, _∙_}
 use mathlib.Core.List.{List, [], _∷_}
 use Prim.Native.Nat.{ℕ, zero, suc, _+_, _*_, _/_, _%_, _^_, _≤_, _<_}
+use native.Mathlib.Nat.{add-zero, add-suc, div-one, mod-one, mul-left-comm}
 use native.Mathlib.Omega.{arith}
-use lib.Bits.{bitAnd, bitOr, bitXor, and-block, or-block, xor-block, and-mask, and-le-l, and-le-r, xor-lt}
+use lib.Bits.{bitAnd, bitOr, bitXor, and-block, or-block, xor-block, and-mask, and-le-l, and-le-r, or-lt, xor-lt}
 use lib.ListN.{length}
+use lib.Pow.{pow-add, shr-shr, field, mod-mod-pow}
 use Rattle.laws.proofs.Lists.{Bytes}
 use Rattle.little_endian.specs.Bytes.{number}
-use Rattle.little_endian.proofs.Bytes.{number-lt}
-use Rattle.signed_slots.specs.Slots.{signs, magnitudes, folded, apart, total, past, size, minus, sums, over}
+use Rattle.signed_slots.specs.Slots.{signs, magnitudes, folded, apart, total, past, size, minus, sums, over, rep}
 
 -- a number by its lowest byte and the rest
 module _ (x y X Y : ℕ) (h : x < 256) (k : y < 256) where
@@ -93,6 +94,14 @@ module _ (x y : ℕ) where
   minus-le =
       omega (arith, and-le-r (bitXor (signs 1 x) (past 1 127 x y)) (signs 1 (size 1 127 x y + 127)), signs-le (size 1 127 x y + 127) 0)
 
+  pub sums-small : sums 1 127 x y < 256
+  unfolding sums
+  sums-small = or-lt 8 (size 1 127 x y) (minus 1 127 x y * 128) (omega (arith, size-le)) (omega (arith, minus-le))
+
+  pub over-small : over 1 127 x y < 256
+  unfolding over
+  over-small = omega (arith, and-le-l (signs 1 (total 1 127 x y)) (bitXor (apart 1 x y) 1), signs-le (total 1 127 x y) 0)
+
 -- one byte and the rest
 module _ (o l x y X Y : ℕ) (h : x < 256) (k : y < 256) where
   apart-put : apart (1 + 256 * o) (x + 256 * X) (y + 256 * Y) ≡ apart 1 x y + 256 * apart o X Y
@@ -161,10 +170,19 @@ module _ (o l x y X Y : ℕ) (h : x < 256) (k : y < 256) where
       rw (apart-put, above-put, xor-put (apart 1 x y) 1 (apart o X Y) o (omega arith) (omega arith))
       (and-put s (bitXor (apart 1 x y) 1) (signs o (total o l X Y)) (bitXor (apart o X Y) o) (omega arith) (xor-lt 8 (apart 1 x y) 1 (omega arith) (omega arith)))
 
--- a byte so many times
-unfoldable pub rep : ℕ → ℕ → ℕ
-rep c zero = 0
-rep c (suc n) = c + 256 * rep c n
+pow-byte : (n : ℕ) → 2 ^ (8 * suc n) ≡ 256 * 2 ^ (8 * n)
+pow-byte n = ap (λ (k : ℕ). 2 ^ k) (omega arith) ∙ pow-add 2 8 (8 * n)
+
+-- a byte and n more: those above them all, the first, and the n
+module _ (n w : ℕ) where
+  past-first : w / 2 ^ (8 * suc n) ≡ w / 256 / 2 ^ (8 * n)
+  past-first = ap (λ (k : ℕ). w / 2 ^ k) (omega arith) ∙ sym (shr-shr w 8 (8 * n))
+
+  at-first : w % 2 ^ (8 * suc n) % 256 ≡ w % 256
+  at-first = ap (λ (k : ℕ). w % 2 ^ k % 256) (omega arith) ∙ mod-mod-pow w (8 * n) 8
+
+  above-first : w % 2 ^ (8 * suc n) / 256 ≡ w / 256 % 2 ^ (8 * n)
+  above-first = ap (λ (k : ℕ). w % 2 ^ k / 256) (omega arith) ∙ field w (8 * n) 8
 
 -- a function of bytes of two lists
 unfoldable pub zip : (ℕ → ℕ → ℕ) → List ℕ → List ℕ → List ℕ
@@ -186,22 +204,52 @@ lanes e p (x ∷ xs) (y ∷ ys) m b c =
     p .1 (rep 1 (length xs)) (rep 127 (length xs)) x y (number xs) (number ys) (b 0) (c 0)
     ∙ ap (λ (n : ℕ). e 1 127 x y + 256 * n) (lanes e p xs ys (omega arith) (λ i. b (suc i)) (λ i. c (suc i)))
 
--- and stays within them
-pub lanes-lt : (e : ℕ → ℕ → ℕ → ℕ → ℕ) → Lanes e → ((x y : ℕ) → e 1 127 x y < 256) → (xs ys : List ℕ) → length ys ≡ length xs → Bytes xs → Bytes ys
-    → e (rep 1 (length xs)) (rep 127 (length xs)) (number xs) (number ys) < 2 ^ (8 * length xs)
-unfolding zip
-lanes-lt e p f xs ys m b c = rw (lanes e p xs ys m b c) (rw (long xs ys m) at (number-lt (zip (e 1 127) xs ys) (small xs ys)))
-  where
-    long : (xs ys : List ℕ) → length ys ≡ length xs → length (zip (e 1 127) xs ys) ≡ length xs
-    long [] ys m = refl
-    long (x ∷ xs) [] m = absurd (omega arith)
-    long (x ∷ xs) (y ∷ ys) m = ap suc (long xs ys (omega arith))
+-- in the bytes of two numbers
+module _ (e : ℕ → ℕ → ℕ → ℕ → ℕ) (p : Lanes e) where
+  abbrev in-bytes : ℕ → ℕ → ℕ → ℕ
+  in-bytes n w v = e (rep 1 n) (rep 127 n) w v
 
-    small : (xs ys : List ℕ) → Bytes (zip (e 1 127) xs ys)
-    small [] ys i = omega arith
-    small (x ∷ xs) [] i = omega arith
-    small (x ∷ xs) (y ∷ ys) zero = f x y
-    small (x ∷ xs) (y ∷ ys) (suc i) = small xs ys i
+  first-lane : (n w v : ℕ) → in-bytes (suc n) w v ≡ e 1 127 (w % 256) (v % 256) + 256 * in-bytes n (w / 256) (v / 256)
+  unfolding rep
+  first-lane n w v =
+      let f : w ≡ w % 256 + 256 * (w / 256) = omega arith in
+      let g : v ≡ v % 256 + 256 * (v / 256) = omega arith in
+      ap₂ (e (1 + 256 * rep 1 n) (127 + 256 * rep 127 n)) f g
+      ∙ p .1 (rep 1 n) (rep 127 n) (w % 256) (v % 256) (w / 256) (v / 256) (omega arith) (omega arith)
+
+  -- it stays within them
+  pub lanes-lt : ((x y : ℕ) → e 1 127 x y < 256) → (n w v : ℕ) → w < 2 ^ (8 * n) → v < 2 ^ (8 * n) → in-bytes n w v < 2 ^ (8 * n)
+  unfolding rep
+  lanes-lt f zero w v h k =
+      let z : w ≡ 0 = omega arith in
+      let y : v ≡ 0 = omega arith in
+      rw (z, y, p .0) (omega arith)
+  lanes-lt f (suc n) w v h k =
+      let q = pow-byte n in
+      let rest = lanes-lt f n (w / 256) (v / 256) (omega arith) (omega arith) in
+      rw (first-lane n w v) (omega (arith, f (w % 256) (v % 256)))
+
+  -- and goes by their parts, of a bytes and of b above
+  pub lanes-parts : (b a w v : ℕ)
+      → in-bytes (b + a) w v ≡ in-bytes b (w / 2 ^ (8 * a)) (v / 2 ^ (8 * a)) * 2 ^ (8 * a) + in-bytes a (w % 2 ^ (8 * a)) (v % 2 ^ (8 * a))
+  unfolding rep
+  lanes-parts b zero w v = rw (add-zero b, div-one w, div-one v, mod-one w, mod-one v, p .0) (omega arith)
+  lanes-parts b (suc a) w v =
+      let high = in-bytes b (w / 256 / 2 ^ (8 * a)) (v / 256 / 2 ^ (8 * a)) in
+      rw (
+        add-suc b a,
+        first-lane (b + a) w v,
+        lanes-parts b a (w / 256) (v / 256),
+        first-lane a (w % 2 ^ (8 * suc a)) (v % 2 ^ (8 * suc a)),
+        past-first a w,
+        past-first a v,
+        at-first a w,
+        at-first a v,
+        above-first a w,
+        above-first a v,
+        pow-byte a,
+      )
+      (omega (arith, mul-left-comm high 256 (2 ^ (8 * a))))
 
 pub total-lanes : Lanes total
 unfolding total magnitudes folded apart signs

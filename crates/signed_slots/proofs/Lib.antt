@@ -1,3 +1,4 @@
+pub mod Blocks
 pub mod Lanes
-pub mod Sums
+pub mod Slot
 pub mod Unions

@@ -12,9 +12,9 @@ use Rattle.group_side.proofs.Slots.{Each, none, more, Holds, sums-passed}
 use Rattle.signed_block.specs.Signed.{signed}
 use Rattle.signed_block.specs.Passed.{signedPassing}
 use Rattle.signed_block.proofs.Counters.{signed-codes}
-use Rattle.signed_slots.specs.Slots.{ones, lows, signs, magnitudes, spread, folded, apart, total, past, size, minus, sums, over, Stay}
-use Rattle.signed_slots.proofs.Lanes.{rep, zip, lanes, lanes-lt, total-lt, size-le, total-lanes, raised-lanes, sums-lanes, over-lanes}
-use Rattle.signed_slots.proofs.Sums.{sum-held}
+use Rattle.signed_slots.specs.Slots.{ones, lows, signs, magnitudes, spread, folded, apart, total, past, size, minus, sums, over, rep, Stay}
+use Rattle.signed_slots.proofs.Lanes.{zip, lanes, lanes-lt, total-lt, size-le, total-lanes, raised-lanes, sums-lanes, over-lanes}
+use Rattle.signed_slots.proofs.Slot.{sum-held}
 
 each-held : (xs ys : List ℕ) → length ys ≡ length xs → Bytes xs → Bytes ys → number (zip (over 1 127) xs ys) ≡ 0
     → Each (Holds signed) xs ys (zip (sums 1 127) xs ys)
@@ -40,14 +40,12 @@ eight-lanes e w v h k = rw (number-bytes 8 w h, number-bytes 8 v k)
 
 module _ (w v : ℕ) (h : w < 2 ^ 64) (k : v < 2 ^ 64) where
   pub total-in : total ones lows w v < 2 ^ 64
-  unfolding bytes
-  total-in = rw (eight-lanes total w v h k) at
-      (lanes-lt total total-lanes (λ x y. total-lt x y) (bytes 8 w) (bytes 8 v) refl (bytes-small 8 w) (bytes-small 8 v))
+  unfolding rep
+  total-in = lanes-lt total total-lanes (λ x y. total-lt x y) 8 w v h k
 
   pub raised-in : size ones lows w v + lows < 2 ^ 64
-  unfolding bytes
-  raised-in = rw (eight-lanes (λ o l x y. size o l x y + l) w v h k) at
-      (lanes-lt (λ o l x y. size o l x y + l) raised-lanes (λ x y. omega (arith, size-le x y)) (bytes 8 w) (bytes 8 v) refl (bytes-small 8 w) (bytes-small 8 v))
+  unfolding rep
+  raised-in = lanes-lt (λ o l x y. size o l x y + l) raised-lanes (λ x y. omega (arith, size-le x y)) 8 w v h k
 
   pub stay : over ones lows w v ≡ 0 → Stay w 0 v 0 (sums ones lows w v)
   unfolding bytes

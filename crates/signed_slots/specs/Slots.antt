@@ -1,6 +1,6 @@
 -- Unmerged slots of a signed group in the bytes of a number. The code's own terms.
 -- Of any number of bytes: o has a 1 and l has 127 in each.
-use Prim.Native.Nat.{ℕ, _+_, _*_, _/_}
+use Prim.Native.Nat.{ℕ, zero, suc, _+_, _*_, _/_, _^_}
 use mathlib.Core.Path.{_≡_}
 use mathlib.Core.Bool.{false}
 use lib.Bits.{bitAnd, bitOr, bitXor}
@@ -53,6 +53,18 @@ sums o l w v = bitOr (size o l w v) (minus o l w v * 128)
 -- where a slot does not hold its sum
 unfoldable pub over : ℕ → ℕ → ℕ → ℕ → ℕ
 over o l w v = bitAnd (signs o (total o l w v)) (bitXor (apart o w v) o)
+
+-- a byte so many times
+unfoldable pub rep : ℕ → ℕ → ℕ
+rep c zero = 0
+rep c (suc n) = c + 256 * rep c n
+
+-- of the 2 ^ n slots of a block of level n
+unfoldable pub sumsOf : ℕ → ℕ → ℕ → ℕ
+sumsOf n w v = sums (rep 1 (2 ^ n)) (rep 127 (2 ^ n)) w v
+
+unfoldable pub overOf : ℕ → ℕ → ℕ → ℕ
+overOf n w v = over (rep 1 (2 ^ n)) (rep 127 (2 ^ n)) w v
 
 -- the union of two groups is not merged and has these count bytes, taken as one number
 abbrev pub Stay : ℕ → ℕ → ℕ → ℕ → ℕ → Type 0

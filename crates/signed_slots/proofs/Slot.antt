@@ -5,7 +5,7 @@ use Prim.Native.Nat.{ℕ, suc, _+_, _-_, _*_, _/_, _%_, _≤_, _<_}
 use native.Mathlib.Decide.{decLt}
 use native.Mathlib.Omega.{arith}
 use borrow.Author.Tests.{lt-ltb, le-ltb}
-use lib.Bits.{bitAnd, bitOr, bitXor, and-mask, and-zero-l, or-zero-r, or-shifted-r, xor-zero-r, xor-self, xor-add-and}
+use lib.Bits.{bitAnd, bitOr, bitXor, and-mask, and-zero-l, and-zero-r, or-zero-r, or-shifted-r, xor-zero-r, xor-self, xor-add-and}
 use lib.IntN.{ℤ, pos, _+ℤ_, negℤ, natAbs}
 use Rattle.signed_number.specs.Number.{timesSign, integer}
 use Rattle.signed_number.proofs.Integers.{abs-integer, times-plus, sum-parts}
@@ -66,6 +66,14 @@ smaller : (s : Bool) (a b : ℕ) → a < b → integer s a +ℤ integer (not s) 
 smaller true a b h = let e : suc (b - suc a) ≡ b - a = omega arith in sym (rw (lt-ltb a b h, e) at (sum-parts true false a b))
 smaller false a b h = let e : suc (b - suc a) ≡ b - a = omega arith in sym (rw (lt-ltb a b h, e) at (sum-parts false true a b))
 
+flags-apart : (s : Bool) → bitXor (cond s 1 0) (cond (not s) 1 0) ≡ 1
+flags-apart true = refl
+flags-apart false = refl
+
+flag-turned : (s : Bool) → bitXor (cond s 1 0) 1 ≡ cond (not s) 1 0
+flag-turned true = refl
+flag-turned false = refl
+
 -- a sum, by its sign and its magnitude, and its slot
 record Sum (x y : ℕ) : Type 0 where
   sign : Bool
@@ -91,12 +99,11 @@ module _ (x y : ℕ) (h : x < 256) (k : y < 256) where
     unfolding total
     same-total = rw (a, fold-none (magnitudes 127 y), magnitudes-is x, magnitudes-is y)
 
-    same-over : over 1 127 x y ≡ 0 → m + n < 128
+    same-over : over 1 127 x y ≡ (m + n) / 128
     unfolding over
-    same-over e =
+    same-over =
         let t : signs 1 (total 1 127 x y) ≡ (m + n) / 128 = rw same-total (signs-is (m + n) (omega arith)) in
-        let o : bitAnd ((m + n) / 128) 1 ≡ 0 = rw (t, a) at e in
-        omega (arith, and-mask ((m + n) / 128) 1)
+        rw (t, a) (omega (arith, and-mask ((m + n) / 128) 1))
 
     same-past : past 1 127 x y ≡ 0
     unfolding past
@@ -111,6 +118,10 @@ module _ (x y : ℕ) (h : x < 256) (k : y < 256) where
     other-total : total 1 127 x y ≡ m + (128 - n)
     unfolding total
     other-total = rw (a, magnitudes-is x, magnitudes-is y, fold-one n (omega arith))
+
+    other-over : over 1 127 x y ≡ 0
+    unfolding over
+    other-over = rw a (and-zero-r (signs 1 (total 1 127 x y)))
 
     above : signs 1 (total 1 127 x y) ≡ (m + (128 - n)) / 128
     above = rw other-total (signs-is (m + (128 - n)) (omega arith))
@@ -145,10 +156,16 @@ module _ (x y : ℕ) (h : x < 256) (k : y < 256) where
     value-is : signRead 0 x +ℤ signRead 0 y ≡ integer s m +ℤ integer t n
     value-is = ap₂ (λ (u v : ℤ). u +ℤ v) (read-is x s e) (read-is y t f)
 
+  same-apart : (s : Bool) → x / 128 ≡ cond s 1 0 → y / 128 ≡ cond s 1 0 → apart 1 x y ≡ 0
+  same-apart s e f = apart-is s s e f ∙ xor-self (cond s 1 0)
+
+  other-apart : (s : Bool) → x / 128 ≡ cond s 1 0 → y / 128 ≡ cond (not s) 1 0 → apart 1 x y ≡ 1
+  other-apart s e f = apart-is s (not s) e f ∙ flags-apart s
+
   one-sign : (s : Bool) → x / 128 ≡ cond s 1 0 → y / 128 ≡ cond s 1 0 → over 1 127 x y ≡ 0 → Sum x y
   one-sign s e f o =
-      let a : apart 1 x y ≡ 0 = apart-is s s e f ∙ xor-self (cond s 1 0) in
-      let l = same-over a o in
+      let a = same-apart s e f in
+      let l : m + n < 128 = omega (arith, same-over a) in
       record {
         sign = s;
         magnitude = m + n;
@@ -157,17 +174,9 @@ module _ (x y : ℕ) (h : x < 256) (k : y < 256) where
         slot = sums-coded ∙ rw (same-past a, same-size a l, first-is s s e f, xor-zero-r (cond s 1 0));
       }
 
-  flags-apart : (s : Bool) → bitXor (cond s 1 0) (cond (not s) 1 0) ≡ 1
-  flags-apart true = refl
-  flags-apart false = refl
-
-  flag-turned : (s : Bool) → bitXor (cond s 1 0) 1 ≡ cond (not s) 1 0
-  flag-turned true = refl
-  flag-turned false = refl
-
   two-signs : (s : Bool) → x / 128 ≡ cond s 1 0 → y / 128 ≡ cond (not s) 1 0 → Sum x y
   two-signs s e f =
-      let a : apart 1 x y ≡ 1 = apart-is s (not s) e f ∙ flags-apart s in
+      let a = other-apart s e f in
       elim (decLt m n) [
         | yes l ↦
             record {
@@ -200,3 +209,23 @@ module _ (x y : ℕ) (h : x < 256) (k : y < 256) where
   unfolding top
   sum-held o = let r = sum-is o in
       (rw (r .value, abs-integer (r .sign) (r .magnitude)) (r .small), r .slot ∙ coded-is (r .sign) (r .magnitude) (r .small) ∙ ap (signBits 0) (sym (r .value)))
+
+  -- a slot that is over does not: two signs never are
+  one-over : (s : Bool) → x / 128 ≡ cond s 1 0 → y / 128 ≡ cond s 1 0 → (over 1 127 x y ≡ 0 → ⊥) → 128 ≤ natAbs (signRead 0 x +ℤ signRead 0 y)
+  one-over s e f o =
+      let a = same-over (same-apart s e f) in
+      let l : 128 ≤ m + n = elim (decLt (m + n) 128) [ yes l ↦ absurd (o (omega arith)) | no l ↦ omega arith ] in
+      rw (value-is s s e f, same-sign s m n, abs-integer s (m + n)) l
+
+  pub sum-over : (over 1 127 x y ≡ 0 → ⊥) → top 0 ≤ natAbs (signRead 0 x +ℤ signRead 0 y)
+  unfolding top
+  sum-over o = elim (decLt x 128) [
+    | yes l ↦ elim (decLt y 128) [
+      | yes p ↦ one-over false (omega arith) (omega arith) o
+      | no p ↦ absurd (o (other-over (other-apart false (omega arith) (omega arith))))
+    ]
+    | no l ↦ elim (decLt y 128) [
+      | yes p ↦ absurd (o (other-over (other-apart true (omega arith) (omega arith))))
+      | no p ↦ one-over true (omega arith) (omega arith) o
+    ]
+  ]
