@@ -51,6 +51,11 @@ module _ (r stride : ℕ) (memory ys : List ℕ) (k : r * stride + stride ≤ le
   pub back-behind : drop ((r + 1) * stride) (putMid (r * stride) (r * stride + stride - r * stride) memory ys) ≡ drop ((r + 1) * stride) memory
   back-behind = rw (back, next-row r stride) (drop-at (take (r * stride) memory ++ ys) (drop (r * stride + stride) memory) (r * stride + stride) front-length)
 
+  -- rows behind it are still those of an earlier memory
+  pub behind-kept : (before : List ℕ) → drop (r * stride) memory ≡ drop (r * stride) before
+      → drop ((r + 1) * stride) (putMid (r * stride) (r * stride + stride - r * stride) memory ys) ≡ drop ((r + 1) * stride) before
+  behind-kept before e = back-behind ∙ sym (drop-row memory r stride) ∙ ap (drop stride) e ∙ drop-row before r stride
+
 -- rows read one by one
 module _ {A : Type 0} (f : ℕ → List ℕ → A) (stride : ℕ) where
   pub rows-read : (d r : ℕ) (memory : List ℕ) → r < d

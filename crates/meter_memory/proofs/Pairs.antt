@@ -53,15 +53,16 @@ module _ (f : Group → Group → Outcome) (w : ℕ) (source : List ℕ) where
         let e = length-with w row g (pairedAt f w source row g .group) (eights row g (omega arith) (omega arith)) (omega arith) (omega arith) in
         length-paired n (g + 1) (withGroup w row g (pairedAt f w source row g .group)) (omega arith) (omega (arith, e)) ∙ e
 
-    -- groups before g stay, and from g on each is the operation's
-    paired-before : (n g : ℕ) (row : List ℕ) → 8 * (g + n) ≤ w → w + (g + n) ≤ length row → (k : ℕ) → k < g → groupAt w (pairGroups f w source n g row) k ≡ groupAt w row k
+    -- the other groups stay, and each of the n is the operation's
+    pub paired-other : (n g : ℕ) (row : List ℕ) → 8 * (g + n) ≤ w → w + (g + n) ≤ length row → (k : ℕ) → 8 * k + 8 ≤ w → (g ≤ k → k < g + n → ⊥)
+        → groupAt w (pairGroups f w source n g row) k ≡ groupAt w row k
     unfolding pairGroups
-    paired-before zero g row h l k p = refl
-    paired-before (suc n) g row h l k p =
+    paired-other zero g row h l k m p = refl
+    paired-other (suc n) g row h l k m p =
         let is-eight = eights row g (omega arith) (omega arith) in
         let e = length-with w row g (pairedAt f w source row g .group) is-eight (omega arith) (omega arith) in
-        paired-before n (g + 1) (withGroup w row g (pairedAt f w source row g .group)) (omega arith) (omega (arith, e)) k (omega arith)
-        ∙ group-other w row g (pairedAt f w source row g .group) is-eight (omega arith) (omega arith) k (omega arith) (λ q. omega arith)
+        paired-other n (g + 1) (withGroup w row g (pairedAt f w source row g .group)) (omega arith) (omega (arith, e)) k m (λ a b. p (omega arith) (omega arith))
+        ∙ group-other w row g (pairedAt f w source row g .group) is-eight (omega arith) (omega arith) k m (λ q. p (omega arith) (omega arith))
 
     pub paired-from : (n g : ℕ) (row : List ℕ) → 8 * (g + n) ≤ w → w + (g + n) ≤ length row → (k : ℕ) → g ≤ k → k < g + n
         → groupAt w (pairGroups f w source n g row) k ≡ pairedAt f w source row k .group
@@ -78,5 +79,5 @@ module _ (f : Group → Group → Outcome) (w : ℕ) (source : List ℕ) where
               ∙ ap (λ (y : Group). f y (groupAt w source k) .group) (group-other w row g x is-eight (omega arith) (omega arith) k (omega arith) (λ z. omega arith))
           | no m ↦
               let z : k ≡ g = omega arith in
-              rw z (paired-before n (g + 1) next (omega arith) (omega (arith, e)) g (omega arith) ∙ group-same w row g x is-eight (omega arith) (omega arith))
+              rw z (paired-other n (g + 1) next (omega arith) (omega (arith, e)) g (omega arith) (λ a b. omega arith) ∙ group-same w row g x is-eight (omega arith) (omega arith))
         ]

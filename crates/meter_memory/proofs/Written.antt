@@ -45,6 +45,11 @@ none-groups f (suc n) g e k p q =
       | no m ↦ let z : k ≡ g = omega arith in rw z (none-earlier _ _ e .0)
     ]
 
+-- a row every group of which is taken
+pub row-taken : (f : Group → Group → Outcome) (w : ℕ) (source row : List ℕ) → pairsStatus f w source row ≡ 0 → (g : ℕ) → g < w / 8 → pairStatus f w source row g ≡ 0
+unfolding pairsStatus
+row-taken f w source row e g h = none-groups (pairStatus f w source row) (w / 8) 0 e g (omega arith) (omega arith)
+
 -- rows of a memory written row by row
 pub rows-after : (f : ℕ → List ℕ → List ℕ) (d w : ℕ) (memory : List ℕ) → RowsIn d w (length memory)
     → ((r : ℕ) (row : List ℕ) → length row ≡ stride w → length (f r row) ≡ stride w)
@@ -104,8 +109,8 @@ module _ (w : ℕ) (v : validWidth w ≡ true) where
       keeps r row l = pair-length (rowOf w source r) row l
 
       pub pairs-taken : (r g : ℕ) → r < d → g < w / 8 → pairedAt f w (rowOf w source r) (rowOf w memory r) g .status ≡ 0
-      unfolding rowStatusBy pairsStatus pairStatus
-      pairs-taken r g h k = none-groups (pairStatus f w (rowOf w source r) (rowOf w memory r)) (w / 8) 0 (row-none (rowStatusBy f w source) d w memory taken r h) g (omega arith) (omega arith)
+      unfolding rowStatusBy pairStatus
+      pairs-taken r g h k = row-taken f w (rowOf w source r) (rowOf w memory r) (row-none (rowStatusBy f w source) d w memory taken r h) g k
 
       pub pairs-long : length (mapRows (rowPairedBy f w source) (stride w) d 0 memory) ≡ length memory
       pairs-long = length-after (rowPairedBy f w source) d w memory p keeps

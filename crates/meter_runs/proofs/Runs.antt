@@ -21,7 +21,8 @@ use Rattle.meter_memory.specs.Pairs.{pairedAt, pairStatus, pairGroups}
 use Rattle.meter_memory.specs.Rows.{ofGroups, groupAt, withGroup}
 use Rattle.meter_memory.proofs.Lists.{status-run}
 use Rattle.meter_memory.proofs.Groups.{with-counts, length-with, group-other}
-use Rattle.meter_runs.specs.Runs.{InRows, mergesOf, countsOf, noneMerged, runStatus}
+use Rattle.meter_memory.proofs.Pairs.{paired-other}
+use Rattle.meter_runs.specs.Runs.{InRows, mergesOf, countsOf, noneMerged, runStatus, RunTaken}
 
 -- the merge bytes of the groups are 0
 module _ (w n g : ℕ) (row source : List ℕ) (e : noneMerged w n g row source ≡ true) where
@@ -99,6 +100,15 @@ module _ (f : Group → Group → Outcome) (w : ℕ) (source : List ℕ) where
       → runStatus f w source row (n - (g + k)) (g + k) ≡ runStatus f w source row (n - g) g
   unfolding earlier runStatus
   status-skip n g k row h e = ap (λ (s : ℕ). earlier s (runStatus f w source row (n - (g + k)) (g + k))) (sym e) ∙ status-run (pairStatus f w source row) k n g h
+
+  -- k groups written, and those after them answer nothing still
+  pub taken-after : ((x y : Group) → length (x .counts) ≡ 8 → length (f x y .group .counts) ≡ 8)
+      → (k n g : ℕ) (row : List ℕ) → g + k ≤ n → 8 * n ≤ w → w + n ≤ length row → RunTaken f w source row (n - g) g
+      → RunTaken f w source (pairGroups f w source k g row) (n - (g + k)) (g + k)
+  unfolding pairStatus pairedAt
+  taken-after eight k n g row h m l taken i p q =
+      ap (λ (x : Group). f x (groupAt w source i) .status) (paired-other f w source eight k g row (omega arith) (omega arith) i (omega arith) (λ a b. omega arith))
+      ∙ taken i (omega arith) (omega arith)
 
   -- a group that keeps its merge byte, and groups side by side
   with-stored : (g : ℕ) (row : List ℕ) (x : Group) (zs : List ℕ) → x ≡ record { counts = zs; merge = groupAt w row g .merge } → length zs ≡ 8

@@ -1,5 +1,6 @@
 -- Runs of groups in a row of w slots: n of them, the first of which is group g. The code's own terms.
-use Prim.Native.Nat.{ℕ, _+_, _*_, _≤_}
+use mathlib.Core.Path.{_≡_}
+use Prim.Native.Nat.{ℕ, _+_, _*_, _≤_, _<_}
 use mathlib.Core.Bool.{Bool, not, _&&_}
 use mathlib.Core.List.{List}
 use lib.ListN.{length, take, drop}
@@ -28,3 +29,7 @@ noneMerged w n g row source = not (anyMerged (mergesOf w n g row)) && not (anyMe
 -- what an operation on them and on those of a source row answers together
 unfoldable pub runStatus : (Group → Group → Outcome) → ℕ → List ℕ → List ℕ → ℕ → ℕ → ℕ
 runStatus f w source row n g = earliest (ofGroups (pairStatus f w source row) n g)
+
+-- and that it answers nothing for any of them
+abbrev pub RunTaken : (Group → Group → Outcome) → ℕ → List ℕ → List ℕ → ℕ → ℕ → Type 0
+RunTaken f w source row n g = (k : ℕ) → g ≤ k → k < g + n → pairStatus f w source row k ≡ 0

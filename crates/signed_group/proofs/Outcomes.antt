@@ -1,7 +1,7 @@
 -- What an addition or a union of signed groups leaves: if accepted, the encoding of a block whose counters hold their values; if
 -- refused, the group as it was; and eight count bytes.
-use mathlib.Core.Path.{_≡_, refl, sym, ap, _∙_}
-use mathlib.Core.Bool.{Bool, true, false, cond, true≢false}
+use mathlib.Core.Path.{_≡_, refl, ap, _∙_}
+use mathlib.Core.Bool.{Bool, true, false, cond}
 use Prim.Native.Nat.{ℕ, _%_, _<_}
 use native.Mathlib.Omega.{arith}
 use borrow.Author.Tests.{eqb-true, eq-eqb}
@@ -49,12 +49,17 @@ settle-refused g (fits b) n = absurd (n refl)
 settle-refused g (over s) n = refl
 
 module _ (s : ℕ) (g : Group) (x : SumOf signed 3) where
-  call-accepted : Sound x → call s g x .status ≡ 0 → (s ≡ 0) × Left x (call s g x .group)
-  call-accepted f = go (eqb s 0) refl
+  call-clean : call s g x .status ≡ 0 → s ≡ 0
+  call-clean = go (eqb s 0) refl
     where
-      go : (t : Bool) → eqb s 0 ≡ t → cond t (settle g x) (unchanged s g) .status ≡ 0 → (s ≡ 0) × Left x (cond t (settle g x) (unchanged s g) .group)
-      go true t e = (eqb-true s 0 t, settle-accepted g x f e)
-      go false t e = absurd (true≢false (sym (eq-eqb s 0 e) ∙ t))
+      go : (t : Bool) → eqb s 0 ≡ t → cond t (settle g x) (unchanged s g) .status ≡ 0 → s ≡ 0
+      go true t e = eqb-true s 0 t
+      go false t e = e
+
+  call-accepted : Sound x → call s g x .status ≡ 0 → (s ≡ 0) × Left x (call s g x .group)
+  call-accepted f e =
+      let z = call-clean e in
+      rw (eq-eqb s 0 z) (z, settle-accepted g x f (rw (eq-eqb s 0 z) at e))
 
   call-refused : (call s g x .status ≡ 0 → ⊥) → call s g x .group ≡ g
   call-refused = go (eqb s 0)
@@ -87,6 +92,10 @@ module _ (g : Group) (slot : ℕ) (a : ℤ) where
 
 -- a source times a sign united with a target
 module _ (minus : Bool) (g h : Group) where
+  pub combined-clean : combined minus g h .status ≡ 0 → badPair g h ≡ 0
+  unfolding combined
+  combined-clean e = call-clean (badPair g h) g (unite (decode g) (timesBlock minus (decode h))) e
+
   pub combined-accepted : number (g .counts) < cap 3 → number (h .counts) < cap 3 → combined minus g h .status ≡ 0
       → (badPair g h ≡ 0) × Left (unite (decode g) (timesBlock minus (decode h))) (combined minus g h .group)
   unfolding combined

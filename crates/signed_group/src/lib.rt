@@ -150,20 +150,19 @@ pub fn combine_status(minus: bool, target: Group, source: Group) -> u8
     answer::COUNTER_FULL
 }
 
-// A source group times a sign united with a target: added to it or, with a minus, taken away from it.
-pub fn combine(minus: bool, target: Group, source: Group) -> Outcome
-    ensures { λ r. ⌜ r ≡ combined minus target source ⌝ }
+// A source group times a sign united with a target, neither of which is refused: added to it or, with a minus, taken away from it. Where no
+// counter holds the sum, the target as it was.
+pub fn combine_clean(minus: bool, target: Group, source: Group) -> Group
+    requires { ⌜ badPair target source ≡ 0 ⌝ }
+    ensures { λ r. ⌜ r ≡ combined minus target source .group ⌝ }
 {
     let target_counts = target.counts;
     let source_counts = source.counts;
-    let status = bad_pair(target, source);
-    if status != 0 {
-        return unchanged(status, target);
-    }
     let word = number_of(target_counts);
     let source_word = times_sign(minus, number_of(source_counts), source.merge);
-    outcome(
+    let o = outcome(
         target,
         signed_union::unite(word, target.merge, source_word, source.merge),
-    )
+    );
+    o.group
 }

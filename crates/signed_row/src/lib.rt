@@ -14,7 +14,7 @@ ghost use Rattle.geometry.specs.Geometry.{validWidth};
 ghost use Rattle.geometry.specs.Geometry as geometry;
 ghost use Rattle.meter_memory.specs.Rows.{groupAt};
 ghost use Rattle.meter_memory.specs.Pairs.{pairsStatus, pairGroups, pairRow};
-ghost use Rattle.meter_runs.specs.Runs.{InRows, runStatus};
+ghost use Rattle.meter_runs.specs.Runs.{InRows, runStatus, RunTaken};
 ghost use Rattle.signed_number.specs.Number.{integer};
 ghost use Rattle.signed_group.specs.Group.{read, combined};
 ghost use Rattle.signed_row.specs.Row.{addedIn};
@@ -81,14 +81,13 @@ pub fn combine_status(minus: bool, row: &[u8], source: &[u8], w: usize) -> u8
     )
 }
 
-// n groups of a source row times a sign united with those of a row one by one, the first of which is group `first`.
+// n groups of a source row times a sign united with those of a row one by one, the first of which is group `first`. Each is taken.
 fn combine_groups(minus: bool, row: &mut [u8], source: &[u8], w: usize, first: usize, n: usize)
-    requires { ⌜ InRows w n first (now row) (now source) ⌝ }
+    requires { ⌜ InRows w n first (now row) (now source) ⌝ ∗ ⌜ RunTaken (combined minus) w (now source) (now row) n first ⌝ }
     ensures { λ _. ⌜ now (row .exit) ≡ pairGroups (combined minus) w (now (source .entry)) n first (now (row .entry)) ⌝ }
 {
     for g in first..first + n {
-        let o = signed_group::combine(minus, load(row, w, g), load(source, w, g));
-        let x = o.group;
+        let x = signed_group::combine_clean(minus, load(row, w, g), load(source, w, g));
         store(row, w, g, x);
     }
 }
@@ -106,9 +105,10 @@ fn combine_side(minus: bool, row: &mut [u8], source: &[u8], w: usize, first: usi
     signed_side::combine(minus, &mut row[start..end], &source[start..end])
 }
 
-// A source row times a sign united with a row. Only a row of 32 slots has groups left after its eights.
+// A source row times a sign united with a row that takes it. Only a row of 32 slots has groups left after its eights.
 pub fn combine_row(minus: bool, row: &mut [u8], source: &[u8], w: usize)
     requires { ⌜ validWidth w ≡ true ⌝ ∗ ⌜ length (now row) ≡ geometry.stride w ⌝ ∗ ⌜ length (now source) ≡ geometry.stride w ⌝ }
+    requires { ⌜ pairsStatus (combined minus) w (now source) (now row) ≡ 0 ⌝ }
     ensures { λ _. ⌜ now (row .exit) ≡ pairRow (combined minus) w (now (source .entry)) (now (row .entry)) ⌝ }
 {
     for e in 0..w / 64 {

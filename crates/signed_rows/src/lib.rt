@@ -80,9 +80,10 @@ pub fn combine_status(minus: bool, d: usize, w: usize, memory: &[u8], source: &[
     status
 }
 
-// A source's rows times a sign united with a meter's.
+// A source's rows times a sign united with a meter's, every one of which takes it.
 pub fn combine_rows(minus: bool, d: usize, w: usize, memory: &mut [u8], source: &[u8])
     requires { ⌜ RowsIn d w (length (now memory)) ⌝ ∗ ⌜ length (now source) ≡ length (now memory) ⌝ }
+    requires { ⌜ earliest (ofRows (sourceStatus minus w (now source)) (geometry.stride w) d 0 (now memory)) ≡ 0 ⌝ }
     ensures { λ _. ⌜ now (memory .exit) ≡ mapRows (sourceCombined minus w (now (source .entry))) (geometry.stride w) d 0 (now (memory .entry)) ⌝ }
 {
     let stride = geometry::stride(w);

@@ -41,7 +41,7 @@ returns-3 c = let a = c .before .before .before .before .before .before .before 
 
 combine-rows-requires : tie.Need-combine-rows-requires
 combine-rows-requires c κs = let a = c .before .before .before .before .before .before .before .before .before .args in
-    (shape-rows (a .d) (a .w) _ (sym (c .before .before .before .before .before .before .bad-shape .ensures) ∙ c .before .before .before .before .before .if1 .left) .1, c .before .before .before .before .if2 .left)
+    (shape-rows (a .d) (a .w) _ (sym (c .before .before .before .before .before .before .bad-shape .ensures) ∙ c .before .before .before .before .before .if1 .left) .1, (c .before .before .before .before .if2 .left, sym (c .before .before .combine-status .ensures) ∙ c .before .if3 .left))
 
 answer-of-requires-4 : tie.Need-answer-of-requires-4
 answer-of-requires-4 c κs = search needs

@@ -5,29 +5,23 @@ use native.Mathlib.Omega.{arith}
 use Rattle.group_layout.specs.Layout.{layout}
 use Rattle.group_block.specs.Block.{BlockOf, cap, allClean}
 use Rattle.group_block.specs.Sum.{unite}
-use Rattle.group.specs.Group.{unchanged}
+use Rattle.group.specs.declared.Outcome.{Outcome}
 use Rattle.signed_block.specs.Signed.{signed, timesBlock}
 use Rattle.signed_block.specs.Passed.{signedSummed, signedBlock}
 use Rattle.signed_words.proofs.Totals.{turned-clean, turned-block}
-use Rattle.signed_group.specs.Group.{badPair, decode}
-use Rattle.signed_group.proofs.Laws.{Clean, pair-clean, combined-refused, combined-settled}
+use Rattle.signed_group.specs.Group.{decode}
+use Rattle.signed_group.proofs.Laws.{Clean, pair-clean, combined-settled}
 use borrow.Author.Needs.{needs}
-use Rattle.signed_group.proofs.combine.Statement.{statement}
-use Rattle.signed_group.proofs.combine.Tie as tie
+use Rattle.signed_group.proofs.combine_clean.Statement.{statement}
+use Rattle.signed_group.proofs.combine_clean.Tie as tie
 
 -- both groups are refused by no line, and the numbers are those of their count bytes
 module _ (n : tie.After-number-of2) where
-  abbrev e : tie.Else1
-  e = n .before .before
-
   abbrev s : tie.Start
-  s = e .before .before .before .before
-
-  good : badPair (s .args .target) (s .args .source) ≡ 0
-  good = sym (e .before .bad-pair .ensures) ∙ e .if1 .left
+  s = n .before .before .before .before
 
   clean : Clean (s .args .target) × Clean (s .args .source)
-  clean = pair-clean (s .args .target) (s .args .source) good
+  clean = pair-clean (s .args .target) (s .args .source) (s .pre)
 
   target-clean : allClean signed (layout 3 (s .args .target .merge)) (n .before .number-of .result) ≡ true
   target-clean = ap (allClean signed (layout 3 (s .args .target .merge))) (n .before .number-of .ensures) ∙ clean .0 .counters
@@ -38,19 +32,6 @@ module _ (n : tie.After-number-of2) where
   source-in : n .number-of2 .result < cap 3
   unfolding cap
   source-in = omega arith
-
-bad-pair-requires : tie.Need-bad-pair-requires
-bad-pair-requires c κs = search needs
-
-unchanged-requires : tie.Need-unchanged-requires
-unchanged-requires c κs = search needs
-
-returns : tie.Need-returns
-returns c = let b = c .before .before in
-    let a = b .before .before .before .args in
-    c .unchanged .ensures
-    ∙ ap (λ (x : ℕ). unchanged x (a .target)) (b .bad-pair .ensures)
-    ∙ sym (combined-refused (a .minus) (a .target) (a .source) (λ z. c .before .if1 .taken (b .bad-pair .ensures ∙ z)))
 
 number-of-requires : tie.Need-number-of-requires
 number-of-requires c κs = search needs
@@ -70,9 +51,10 @@ unite-requires c κs = let n = c .before in
 outcome-requires : tie.Need-outcome-requires
 outcome-requires c κs = search needs
 
-returns-2 : tie.Need-returns-2
+returns : tie.Need-returns
 unfolding decode
-returns-2 c = let u = c .before in
+returns c = let o = c .before in
+    let u = o .before in
     let t = u .before in
     let n = t .before in
     let a = s n .args in
@@ -80,21 +62,19 @@ returns-2 c = let u = c .before in
     ap (λ (w : ℕ). signedBlock 3 w (a .source .merge)) (t .times-sign .ensures)
     ∙ turned-block (a .minus) (n .number-of2 .result) (a .source .merge) (source-in n) (clean n .1 .merges)
     ∙ ap (λ (w : ℕ). timesBlock (a .minus) (signedBlock 3 w (a .source .merge))) (n .number-of2 .ensures) in
-    c .outcome .ensures (unite (decode (a .target)) (timesBlock (a .minus) (decode (a .source))))
+    ap (λ (o : Outcome). o .group)
+    (o .outcome .ensures (unite (decode (a .target)) (timesBlock (a .minus) (decode (a .source))))
     (u .unite .ensures ∙ ap (λ (y : BlockOf signed 3). signedSummed (unite (signedBlock 3 (n .before .number-of .result) (a .target .merge)) y)) source
     ∙ ap (λ (w : ℕ). signedSummed (unite (signedBlock 3 w (a .target .merge)) (timesBlock (a .minus) (decode (a .source))))) (n .before .number-of .ensures))
-    ∙ sym (combined-settled (a .minus) (a .target) (a .source) (good n))
+    ∙ sym (combined-settled (a .minus) (a .target) (a .source) (s n .pre)))
 
-pub combine-spec : {M : Type 1} → statement M
-combine-spec =
+pub combine-clean-spec : {M : Type 1} → statement M
+combine-clean-spec =
     tie.close
     (tie.spec
-    bad-pair-requires
-    unchanged-requires
-    returns
     number-of-requires
     number-of-requires-2
     times-sign-requires
     unite-requires
     outcome-requires
-    returns-2)
+    returns)
