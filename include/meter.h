@@ -1,7 +1,7 @@
 /*
  * The traffic meter: SALSA Count-Min with sum merging over 32-bit FNV-1a. Link with libmeter_c.a.
  *
- * A meter is a lent memory with the depth d (rows, 1 to 8) and the width w (slots of a row, a power of two from 32 to 65,536) that
+ * A meter is a lent memory with the depth d (rows, 1 to 8) and the width w (slots of a row, a power of two from 32 to 16,384) that
  * it was cleared with. The memory is exactly METER_SIZE(d, w) bytes long, of any alignment; it holds neither d nor w.
  *
  * There are two kinds of meter. One that meter_clear cleared counts amounts that only grow. One that meter_signed_clear cleared
@@ -27,6 +27,9 @@
 
 #include <stddef.h>
 #include <stdint.h>
+
+/* The largest w. */
+#define METER_LARGEST_WIDTH 16384
 
 /* The bytes of a meter's memory, and the most words that its image has; constants where d and w are. */
 #define METER_SIZE(d, w) ((size_t)(d) * ((size_t)(w) + (size_t)(w) / 8))
@@ -55,7 +58,7 @@ enum meter_number {
     METER_ACCEPTED = 0,
     /* d is not 1 to 8. */
     METER_DEPTH = 1,
-    /* w is not a power of two from 32 to 65,536. */
+    /* w is not a power of two from 32 to 16,384. */
     METER_WIDTH = 2,
     /* A lent memory, the target's or the source's, has another length than d * w * 9 / 8, or a watch list another than 4,673. */
     METER_LENGTH = 3,
@@ -92,7 +95,7 @@ static inline const char *meter_text(uint32_t number) {
     case METER_DEPTH:
         return "the depth is not 1 to 8";
     case METER_WIDTH:
-        return "the width is not a power of two from 32 to 65,536";
+        return "the width is not a power of two from 32 to 16,384";
     case METER_LENGTH:
         return "a memory's length is not d * w * 9 / 8, or a watch list's not 4,673";
     case METER_KEY_LENGTH:

@@ -104,7 +104,7 @@ def carry_out(feed, lines):
     require(payload < 2**9, 9, 0)
     d, log = payload % 16, payload // 16
     require(1 <= d <= 8, 1, 0)
-    require(5 <= log <= 16, 2, 0)
+    require(5 <= log <= 14, 2, 0)
     require(2**log <= 4096, 3, 0)
     lines.append("geometry %d %d" % (d, 2**log))
     meter = Meter(d, 2**log)
@@ -201,7 +201,7 @@ def cases():
         yield "head_kind_%d" % kind, to_bytes([word(kind, start[0] % 2**28)] + whole[1:])
     for d in (0, 9, 15):
         yield "head_d_%d" % d, to_bytes([word(1, d + 16 * 6)] + whole[1:])
-    for log in (0, 4, 17, 31):
+    for log in (0, 4, 15, 16, 17, 31):
         yield "head_log_%d" % log, to_bytes([word(1, 2 + 16 * log)] + whole[1:])
     for bit in range(9, 28):
         yield "head_bit_%d" % bit, to_bytes([start[0] | 1 << bit] + whole[1:])
@@ -210,7 +210,7 @@ def cases():
     yield "head_8_before_9", to_bytes([word(2, 2**28 - 1)])
     yield "head_1_before_3", to_bytes(ended(head(9, 8192)))
     for d in (1, 8):
-        for w in (8192, 65536):
+        for w in (8192, 16384):
             yield "head_d_%d_w_%d" % (d, w), to_bytes(ended(head(d, w) + update(b"A", 1)))
         for w in (32, 4096):
             yield "head_d_%d_w_%d" % (d, w), to_bytes(ended(head(d, w) + update(b"A", 1) + ask(b"A")))

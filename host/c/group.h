@@ -29,7 +29,7 @@ static inline int none_merged(const uint8_t *ma, const uint8_t *mb) { return (lo
 static inline uint32_t bad_geometry(size_t d, size_t w) {
     if (d < 1 || d > 8)
         return 1;
-    return w < 32 || w > 65536 || (w & (w - 1)) != 0 ? 2 : 0;
+    return w < 32 || w > 16384 || (w & (w - 1)) != 0 ? 2 : 0;
 }
 
 static inline uint32_t bad_length(size_t d, size_t w, size_t len) { return len != d * (w + w / 8) ? 3 : 0; }

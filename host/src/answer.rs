@@ -45,7 +45,7 @@ impl<F> Answer<F> {
 pub enum Reason {
     /// 1: the depth is not 1 to 8.
     Depth,
-    /// 2: the width is not a power of two from 32 to 65,536.
+    /// 2: the width is not a power of two from 32 to 16,384.
     Width,
     /// 3: a lent memory has another length than d * w * 9 / 8, or a watch list another than 4,673.
     Length,
@@ -122,7 +122,7 @@ impl fmt::Display for Reason {
     fn fmt(&self, f: &mut fmt::Formatter<'_>) -> fmt::Result {
         f.write_str(match self {
             Reason::Depth => "the depth is not 1 to 8",
-            Reason::Width => "the width is not a power of two from 32 to 65,536",
+            Reason::Width => "the width is not a power of two from 32 to 16,384",
             Reason::Length => "a memory's length is not d * w * 9 / 8, or a watch list's not 4,673",
             Reason::KeyLength => "the key length is not 1 to 64",
             Reason::Content => "a merge byte or a watch list is not valid",

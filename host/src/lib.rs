@@ -55,10 +55,13 @@ pub use meter::Meter;
 pub use signed::SignedMeter;
 pub use watch::{Entries, Entry, WatchList, WATCH_PLACES, WATCH_SIZE};
 
+/// The largest width of a meter: how many slots a row has at most.
+pub const LARGEST_WIDTH: usize = 16_384;
+
 /// The length of a meter's memory, if there is such a meter.
 #[must_use]
 pub fn size(d: usize, w: usize) -> Option<usize> {
-    let valid = (1..=8).contains(&d) && (32..=65_536).contains(&w) && w.is_power_of_two();
+    let valid = (1..=8).contains(&d) && (32..=LARGEST_WIDTH).contains(&w) && w.is_power_of_two();
     valid.then(|| d * (w + w / 8))
 }
 

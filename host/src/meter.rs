@@ -77,7 +77,7 @@ impl Meter {
     /// The meter that an image was written from; its head says `d` and `w`. The words are exactly one image.
     ///
     /// Refused with [`Reason::Word`] and [`Reason::Payload`] at the first faulty word, and with [`Reason::Depth`] and
-    /// [`Reason::Width`] at place 0 where the head says what no meter has.
+    /// [`Reason::Width`] at place 0 where the head says what no meter has, a row of more than [`crate::LARGEST_WIDTH`] slots too.
     pub fn from_image(words: &[u32]) -> Result<Meter, Refused> {
         // The head of an image is that of a feed.
         let mut meter = Meter::from_feed_head(words)?;
@@ -110,7 +110,7 @@ impl Meter {
         self.d
     }
 
-    /// The width: how many slots a row has, a power of two from 32 to 65,536.
+    /// The width: how many slots a row has, a power of two from 32 to 16,384.
     #[must_use]
     pub fn w(&self) -> usize {
         self.w

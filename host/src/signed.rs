@@ -90,7 +90,7 @@ impl SignedMeter {
         self.d
     }
 
-    /// The width: how many slots a row has, a power of two from 32 to 65,536.
+    /// The width: how many slots a row has, a power of two from 32 to 16,384.
     #[must_use]
     pub fn w(&self) -> usize {
         self.w

@@ -7,6 +7,7 @@ use common::{
     amount, break_list, damage, key, lend_bytes, lend_words, list, memory, other_length, record, seed, some_image, told,
     unmerged, valid_keys, Lent, Numbers, Rng,
 };
+use meter::LARGEST_WIDTH;
 use reference::{Memory, Record, Watch, WATCH_SIZE};
 use std::collections::BTreeMap;
 use std::time::Instant;
@@ -185,7 +186,7 @@ impl List {
 
     fn image_write(&mut self, d: usize, w: usize, p: &mut Pair) {
         // The reference's own count tells which lengths are worth a try.
-        let mut words = vec![0; 3 * d.min(8) * w.min(65_536) + 2];
+        let mut words = vec![0; 3 * d.min(8) * w.min(LARGEST_WIDTH) + 2];
         let count = reference::image_write(d, w, &mut p.model, &mut words).figure as usize;
         let lent = match self.rng.below(6) {
             0 => 0,
@@ -449,7 +450,7 @@ fn random_lists_of_calls() {
         let w = list.rng.pick(&[32, 32, 32, 32, 64, 64, 128]);
         list.run(d, w, 100);
     }
-    for w in (5..17).map(|n| 1 << n) {
+    for w in (5..15).map(|n| 1 << n) {
         for d in [1, 3, 8] {
             list.run(d, w, (2_000_000 / (d * w)).clamp(30, 1000));
         }
@@ -485,7 +486,7 @@ fn random_lists_of_watch_calls() {
         let w = list.rng.pick(&[32, 32, 64]);
         list.run_watched(d, w, 200);
     }
-    for w in (7..17).map(|n| 1 << n) {
+    for w in (7..15).map(|n| 1 << n) {
         for d in [1, 4, 8] {
             list.run_watched(d, w, (2_000_000 / (d * w)).clamp(30, 1_000));
         }
@@ -616,6 +617,67 @@ fn unions_around_255() {
                 assert_eq!(merged, !stays, "w {w}, slot {slot}: {a} and {b}");
             }
         }
+    }
+}
+
+/// A row of 16,384 slots is taken by every call that is told a width. A wider one is refused with 2, whatever is lent, a memory of its
+/// own length too, and nothing is changed.
+#[test]
+fn the_widest_row() {
+    for (w, lent) in [LARGEST_WIDTH, 2 * LARGEST_WIDTH, 4 * LARGEST_WIDTH]
+        .into_iter()
+        .flat_map(|w| [(w, w / 8 * 9), (w, 36), (w, 0)])
+    {
+        let exact = lent == w / 8 * 9;
+        // Where the width is taken, the length and then the merge bytes, which are not valid, decide.
+        let number = |otherwise| match (w <= LARGEST_WIDTH, exact) {
+            (false, _) => 2,
+            (true, false) => 3,
+            (true, true) => otherwise,
+        };
+        let before = vec![0xff; lent];
+        let (mut memory, mut list, mut words) = (before.clone(), vec![0; WATCH_SIZE], [7; 3]);
+        let (m, key) = (&mut memory, b"tenant-17");
+        for (call, answer, otherwise) in [
+            ("update", meter::update(1, w, m, key, 1), 5),
+            ("estimate", meter::estimate(1, w, m, key), 5),
+            ("widest", meter::widest(1, w, m), 5),
+            ("unite", meter::unite(1, w, m, &before), 5),
+            ("image_write", meter::image_write(1, w, m, &mut words), 5),
+            ("image_read", meter::image_read(1, w, m, &[0x1000_0051]), 10),
+            ("feed_record", meter::feed_record(1, w, m, 1, &[0x6000_0001, 0x7041_0000]), 5),
+            ("watch_update", meter::watch_update(1, w, m, &mut list, key, 1, 1), 5),
+            ("signed_update", meter::signed_update(1, w, m, key, 1), 5),
+            ("signed_unite", meter::signed_unite(1, w, m, &before), 5),
+            ("signed_subtract", meter::signed_subtract(1, w, m, &before), 5),
+        ] {
+            let given = (answer.number, answer.place, answer.figure);
+            assert_eq!(given, (number(otherwise), 0, 0), "{call}: w {w}, {lent} bytes");
+        }
+        let answer = meter::signed_estimate(1, w, m, key);
+        assert_eq!(
+            (answer.number, answer.place, answer.figure),
+            (number(5), 0, 0),
+            "w {w}, {lent} bytes"
+        );
+        assert!(
+            memory == before && list == [0; WATCH_SIZE] && words == [7; 3],
+            "nothing is changed"
+        );
+        for clear in [meter::clear, meter::signed_clear] {
+            let mut memory = before.clone();
+            let answer = clear(1, w, &mut memory);
+            assert_eq!((answer.number, answer.place, answer.figure), (number(0), 0, 0));
+            let left = if answer.number == 0 { vec![0; lent] } else { before.clone() };
+            assert!(memory == left, "w {w}, {lent} bytes: what a clearing leaves");
+        }
+    }
+    // A feed's head by its logarithm; every other is tried at random.
+    for log in 5..17 {
+        let payload = log << 4 | 1;
+        let expected = if log <= 14 { (0, 0, u64::from(payload)) } else { (2, 0, 0) };
+        let answer = meter::feed_head(&[0x1000_0000 | payload]);
+        assert_eq!((answer.number, answer.place, answer.figure), expected, "log2 w {log}");
     }
 }
 

@@ -1,6 +1,6 @@
 //! include/meter.h by itself: it compiles as C and as C++ without a warning, and its macros and texts are those of the Rust crate.
 
-use meter::{head_geometry, most_image_words, size, Reason, WATCH_PLACES, WATCH_SIZE};
+use meter::{head_geometry, most_image_words, size, Reason, LARGEST_WIDTH, WATCH_PLACES, WATCH_SIZE};
 use std::env;
 use std::ffi::OsString;
 use std::fs;
@@ -14,8 +14,8 @@ const PROGRAM: &str = r#"
 #include <stdio.h>
 
 /* The macros are constants, of the largest meter too. */
-static uint8_t memory[METER_SIZE(8, 65536)];
-static uint32_t words[METER_IMAGE_WORDS(8, 65536)];
+static uint8_t memory[METER_SIZE(8, METER_LARGEST_WIDTH)];
+static uint32_t words[METER_IMAGE_WORDS(8, METER_LARGEST_WIDTH)];
 static uint8_t list[METER_WATCH_SIZE];
 
 int main(void) {
@@ -30,11 +30,11 @@ int main(void) {
         printf("%lu %s\n", (unsigned long)names[number], meter_text(number));
     printf("%s\n%s\n", meter_text(14), meter_text(0xffffffff));
     for (d = 1; d <= 8; d++)
-        for (w = 32; w <= 65536; w *= 2)
+        for (w = 32; w <= METER_LARGEST_WIDTH; w *= 2)
             printf("%lu %lu\n", (unsigned long)METER_SIZE(d, w), (unsigned long)METER_IMAGE_WORDS(d, w));
     memory[sizeof memory - 1] = 1;
-    words[METER_IMAGE_WORDS(8, 65536) - 1] = memory[METER_SIZE(8, 65536) - 1];
-    printf("%lu %lu\n", (unsigned long)sizeof memory, (unsigned long)(sizeof words / sizeof words[0]) * words[METER_IMAGE_WORDS(8, 65536) - 1]);
+    words[METER_IMAGE_WORDS(8, METER_LARGEST_WIDTH) - 1] = memory[METER_SIZE(8, METER_LARGEST_WIDTH) - 1];
+    printf("%lu %lu\n", (unsigned long)sizeof memory, (unsigned long)(sizeof words / sizeof words[0]) * words[METER_IMAGE_WORDS(8, METER_LARGEST_WIDTH) - 1]);
     /* Expressions as arguments. */
     printf("%lu %lu\n", (unsigned long)METER_SIZE(1 + 1, 32 + 32), (unsigned long)METER_IMAGE_WORDS(1 + 1, 32 + 32));
     for (payload = 0; payload < 512; payload++) {
@@ -66,11 +66,11 @@ fn expected() -> String {
         )
     };
     for d in 1..=8 {
-        for log in 5..=16 {
+        for log in 5..=14 {
             lines.push(both(d, 1 << log));
         }
     }
-    lines.extend([both(8, 65_536), both(2, 64)]);
+    lines.extend([both(8, LARGEST_WIDTH), both(2, 64)]);
     for payload in 0..512 {
         let (d, w) = head_geometry(payload);
         lines.push(format!("{d} {w}"));

@@ -4,7 +4,7 @@
 mod common;
 
 use common::{amount, break_list, damage, key, list, memory, record, seed, some_image, valid_keys, Numbers, Rng, LAST_NUMBER};
-use meter::{most_image_words, Entry, Meter, Reason, Refused, WatchList, WATCH_SIZE};
+use meter::{most_image_words, Entry, Meter, Reason, Refused, WatchList, LARGEST_WIDTH, WATCH_SIZE};
 use reference::{Memory, Watch};
 
 #[derive(Default)]
@@ -42,7 +42,7 @@ fn geometry(rng: &mut Rng) -> (usize, usize) {
         rng.within(1..9)
     };
     let w = if rng.once_in(8) {
-        rng.pick(&[0, 1, 16, 33, 96, 65_537, 131_072, 1 << 40, usize::MAX])
+        rng.pick(&[0, 1, 16, 33, 96, 16_385, 32_768, 65_536, 1 << 40, usize::MAX])
     } else {
         32 << rng.below(3)
     };
@@ -401,8 +401,8 @@ fn every_number() {
 
 #[test]
 fn debug_is_short() {
-    let largest = Meter::new(8, 65_536).expect("a meter");
-    assert_eq!(format!("{largest:?}"), "Meter { d: 8, w: 65536, .. }");
+    let largest = Meter::new(8, LARGEST_WIDTH).expect("a meter");
+    assert_eq!(format!("{largest:?}"), "Meter { d: 8, w: 16384, .. }");
     let mut watch = WatchList::new();
     watch.update(&mut largest.clone(), b"A", 300, 300).expect("accepted");
     assert_eq!(

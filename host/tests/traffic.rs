@@ -5,6 +5,7 @@
 mod common;
 
 use common::{amount, break_list, list, memory, record_words, seed, Rng};
+use meter::LARGEST_WIDTH;
 use std::collections::BTreeMap;
 
 /// The traffic of a list of calls: pairs of key and amount, those of one key added up.
@@ -185,7 +186,7 @@ fn estimates_lie_between_the_two_figures() {
     let mut sizes: Vec<(usize, usize, usize)> = (0..800)
         .map(|_| (rng.within(1..9), rng.pick(&[32, 32, 64, 256]), 120))
         .collect();
-    sizes.extend([(8, 65_536, 25), (1, 65_536, 25), (4, 1_024, 200)]);
+    sizes.extend([(8, LARGEST_WIDTH, 25), (1, LARGEST_WIDTH, 25), (4, 1_024, 200)]);
     for (d, w, calls) in sizes {
         let keys: Vec<Vec<u8>> = (0..rng.within(2..40))
             .map(|_| {

@@ -15,8 +15,9 @@ use lib.Pow.{pow-add, pow-mono, pow-lt}
 use Rattle.laws.proofs.Tests.{or-cases}
 use Rattle.laws.proofs.Tests.{both-ways}
 use Rattle.geometry.specs.Geometry.{oneOfPowers, validDepth, largestLog, largestWidth, validWidth, stride, size, RowIn, RowsIn}
+use Rattle.answer.specs.Numbers.{invalidWidth}
 use Rattle.answer.specs.Order.{firstOf, unless}
-use Rattle.geometry.specs.Checks.{badShape}
+use Rattle.geometry.specs.Checks.{badDepth, badWidth, badShape}
 
 shift : (p i : ℕ) → p * 2 * 2 ^ i ≡ p * 2 ^ suc i
 shift p i = mul-assoc p 2 (2 ^ i) ∙ ap (λ (x : ℕ). p * x) (mul-comm 2 (2 ^ i) ∙ sym (pow-suc 2 i))
@@ -101,6 +102,12 @@ log-le j k h = elim (decLt k j) [ yes l ↦ absurd (omega (arith, pow-lt {i = k}
 -- the code's test of a width
 pub width-out : (w : ℕ) → (32 ≤ w → w ≤ largestWidth → ⊥) → false ≡ validWidth w
 width-out w h = both-ways false (validWidth w) (λ e. absurd (true≢false (sym e))) (λ v. absurd (h (wide w v .low) (wide w v .high)))
+
+-- More than the largest width is line 2, whatever would be tested after it, the length of the memory among it: in the calls of every kind
+-- of meter and in a feed's head.
+pub too-wide : (d w : ℕ) (later : List ℕ) → validDepth d ≡ true → largestWidth < w → firstOf (badDepth d ∷ badWidth w ∷ later) ≡ invalidWidth
+unfolding firstOf
+too-wide d w later v h = rw (v, ← width-out w (λ l m. omega arith))
 
 pub width-test : (w : ℕ) → 32 ≤ w → w ≤ largestWidth → eqb (bitAnd w (w - 1)) 0 ≡ validWidth w
 width-test w l h =

@@ -13,9 +13,9 @@ unfoldable pub oneOfPowers : ℕ → ℕ → ℕ → Bool
 oneOfPowers zero p w = false
 oneOfPowers (suc n) p w = eqb w p || oneOfPowers n (p * 2) w
 
--- The logarithm of the largest width, 65,536. The smallest width is 32, 2 ^ 5.
+-- The logarithm of the largest width, 16,384 (document 02, request 4). The smallest width is 32, 2 ^ 5.
 abbrev pub largestLog : ℕ
-largestLog = 16
+largestLog = 14
 
 abbrev pub largestWidth : ℕ
 largestWidth = 2 ^ largestLog

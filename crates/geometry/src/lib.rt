@@ -5,8 +5,8 @@ ghost use Rattle.geometry.specs.Geometry.{validDepth, validWidth};
 ghost use Rattle.geometry.specs.Geometry as geometry;
 ghost use Rattle.geometry.specs.Checks.{badKey, badShape};
 
-// The logarithm of the largest width of a row, 65,536.
-pub const LARGEST_LOG: u32 = 16;
+// The logarithm of the largest width of a row, 16,384.
+pub const LARGEST_LOG: u32 = 14;
 
 pub const MAX_WIDTH: usize = 1 << LARGEST_LOG;
 

@@ -1,5 +1,6 @@
 -- Words are accepted if and only if they are the image of a meter of that depth and width. What an accepted write wrote, read back,
--- restores the meter byte for byte. A refused place is sharp.
+-- restores the meter byte for byte. A refused place is sharp. A sound head with another depth or width is 10, also with one that no
+-- meter has.
 use mathlib.Core.Logic.{_⊎_, inl, inr, ⊎-elim, _↔_}
 use mathlib.Core.Path.{_≡_, refl, sym, ap, ap₂, subst, _∙_}
 use mathlib.Core.Bool.{true, cond}
@@ -8,15 +9,16 @@ use Prim.Native.Nat.{ℕ, zero, suc, _+_, _-_, _*_, _/_, _%_, _^_, _≤_, _<_}
 use native.Mathlib.Nat.{add-zero, mul-one, mul-assoc, mul-le-mul-left}
 use native.Mathlib.Decide.{decLt}
 use native.Mathlib.Omega.{arith}
-use borrow.Author.Tests.{eq-eqb, eqb-true, eqb-false, lt-ltb, le-ltb}
+use borrow.Author.Tests.{eq-eqb, ne-eqb, eqb-true, eqb-false, lt-ltb, le-ltb}
 use borrow.Table.Steps.{cases}
 use lib.Dec.{eqb, ltb}
 use lib.ListN.{length, take, drop, length-drop, length-append, drop-of-length-le}
 use lib.Pow.{pow-add, pow-pos}
 use lib.Seq.{take-append-seam}
 use Rattle.laws.proofs.Lists.{Bytes}
-use Rattle.answer.specs.Answers.{accepted, Done}
+use Rattle.answer.specs.Answers.{accepted, refused, Done}
 use Rattle.answer.specs.Numbers.{badPayload, badWord, otherMeter}
+use Rattle.geometry.specs.Geometry.{largestLog}
 use Rattle.geometry.specs.Checks.{badShape}
 use Rattle.word.specs.declared.Step.{Step}
 use Rattle.word.specs.Word.{headKind, endKind, go, stop, next, payload, tested, below}
@@ -230,3 +232,20 @@ module _ (d w : ℕ) (old words : List ℕ) (call : badShape d w (length old) �
       (λ x. inl (ap (λ (y : Done). y .answer) (read-faulty d w old (take q words) 0 (sym call) refl (stop badWord q) (sym x) (λ z. omega arith))))
       (λ x. inr (ap (λ (y : Done). y .answer) (read-done d w old (take q words) 0 (sym call) refl (go q) (sym x) refl)))
       (sharp-at d w words q faulty (sym at-fault ∙ e))
+
+-- A sound head with another payload than the call's depth and width have is 10 at place 0, whatever follows it.
+module _ (d w v : ℕ) (memory rest : List ℕ) (call : badShape d w (length memory) ≡ 0) (low : v < 2 ^ 9) where
+  other-checked : (v ≡ headPayload d w → ⊥) → stop otherMeter 0 ≡ checked d w (word headKind v ∷ rest)
+  unfolding checked checkHead tested next
+  other-checked n =
+      let words = word headKind v ∷ rest in
+      let l : v < 2 ^ 28 = omega arith in
+      rw (below-here words 0 headKind v rest refl l (2 ^ 9) low, due-here words 0 headKind v rest refl l, payload-here words 0 headKind v rest refl l, ne-eqb v (headPayload d w) n)
+
+  pub other-head : (v ≡ headPayload d w → ⊥) → taken d w memory (word headKind v ∷ rest) ≡ record { answer = refused otherMeter; memory = memory }
+  other-head n = read-faulty d w memory (word headKind v ∷ rest) 0 (sym call) refl (stop otherMeter 0) (other-checked n) (λ z. omega arith)
+
+  -- so is one with a larger logarithm than the largest width has
+  pub head-too-wide : largestLog < v / 16 → taken d w memory (word headKind v ∷ rest) ≡ record { answer = refused otherMeter; memory = memory }
+  unfolding headPayload
+  head-too-wide h = other-head (λ e. omega (arith, log-width-most w, sound-call d w (length memory) call .depth))

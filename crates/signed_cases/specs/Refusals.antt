@@ -56,21 +56,26 @@ abbrev pub refusals : List Refusal
 refusals =
     told 0 33 clear 1
     ∷ told 2 33 clear 2
+    ∷ told 2 32768 clear 2
     ∷ told 2 32 clear 12
     ∷ told 1 64 clear 3
     ∷ told 10 33 (update [] (pos 1)) 1
     ∷ told 2 33 (update [] (pos 1)) 2
+    ∷ told 2 65536 (update [] (pos 1)) 2
     ∷ told 2 32 (update [] (pos 1)) 12
     ∷ told 3 32 (update [] (pos 1)) 3
     ∷ told 1 32 (update [] (pos 1)) 4
     ∷ told 1 32 (update (replicate 65 7) (pos 1)) 4
     ∷ told 10 33 (estimate []) 1
     ∷ told 2 33 (estimate []) 2
+    ∷ told 2 32768 (estimate []) 2
+    ∷ told 2 16384 (estimate []) 12
     ∷ told 2 32 (estimate []) 12
     ∷ told 3 32 (estimate []) 3
     ∷ told 1 32 (estimate []) 4
     ∷ told 10 33 (combine false (raw [])) 1
     ∷ told 2 33 (combine true (raw [])) 2
+    ∷ told 2 65536 (combine true (raw [])) 2
     ∷ told 2 32 (combine false (raw [])) 12
     ∷ told 3 32 (combine true (raw (replicate 108 0))) 3
     ∷ told 1 32 (combine false (raw (0 ∷ row full first zeros zeros (0x7f ∷ 0 ∷ 0 ∷ 0x02 ∷ [])))) 3

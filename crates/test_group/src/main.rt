@@ -170,8 +170,8 @@ fn vectors() {
 fn slots() {
     lands(0, b"tenant-7", 32);
     lands(7, b"tenant-7", 32);
-    lands(0, b"tenant-7", 65536);
-    lands(7, b"tenant-7", 65536);
+    lands(0, b"tenant-7", 16384);
+    lands(7, b"tenant-7", 16384);
 }
 
 // P1 to P8, P11 and P12 of document 01, run.

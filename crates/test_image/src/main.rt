@@ -160,9 +160,10 @@ fn writes() {
     write(9, 32, &clear, &mut words);
     write(1, 31, &clear, &mut words);
     write(1, 16, &clear, &mut words);
-    write(1, 131072, &clear, &mut words);
+    write(1, 32768, &clear, &mut words);
+    write(1, 65536, &clear, &mut words);
     write(2, 32, &clear, &mut words);
-    write(8, 65536, &clear, &mut words);
+    write(8, 16384, &clear, &mut words);
 }
 
 // Two rows of 64 slots, every group one counter.
@@ -190,6 +191,8 @@ fn head_and_layout(words: [u32; 40]) {
     faulty(words, 35, 0, 0x10000052, 39, 0);
     faulty(words, 35, 0, 0x10000050, 39, 0);
     faulty(words, 35, 0, 0x10000061, 39, 0);
+    faulty(words, 35, 0, 0x100000f1, 39, 0);
+    faulty(words, 35, 0, 0x10000101, 39, 0);
     faulty(words, 35, 0, 0x100001f1, 39, 0);
     faulty(words, 35, 0, 0x10000052, 1, 0x30000000);
     faulty(words, 1, 39, 0, 39, 0);

@@ -139,7 +139,9 @@ fn refused_clearings(m: &mut [u8]) {
     clear(9, 32, m);
     clear(1, 33, m);
     clear(1, 16, m);
-    clear(1, 131072, m);
+    clear(1, 32768, m);
+    clear(1, 65536, m);
+    clear(1, 16384, m);
     clear(1, 64, m);
 }
 

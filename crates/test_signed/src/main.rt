@@ -197,6 +197,7 @@ fn medians() {
 fn refused_clearings(m: &mut [u8]) {
     clear(10, 33, m);
     clear(2, 33, m);
+    clear(2, 32768, m);
     clear(2, 32, m);
     clear(1, 64, m);
 }

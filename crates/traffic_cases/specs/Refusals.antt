@@ -50,40 +50,51 @@ abbrev pub refusals : List Refusal
 refusals =
     told 0 64 clear 1
     ∷ told 1 63 clear 2
+    ∷ told 1 32768 clear 2
     ∷ told 1 32 clear 3
     ∷ told 9 64 (update at-0 1) 1
     ∷ told 1 0 (update at-0 1) 2
+    ∷ told 1 65536 (update at-0 1) 2
     ∷ told 1 32 (update at-0 1) 3
     ∷ told 1 64 (update [] 1) 4
     ∷ told 2 32 (update at-8 1) 5
     ∷ told 2 32 (update at-0 1) 6
     ∷ told 9 64 (estimate at-0) 1
-    ∷ told 1 131072 (estimate at-0) 2
+    ∷ told 1 32768 (estimate at-0) 2
+    ∷ told 1 65536 (estimate at-0) 2
+    ∷ told 1 16384 (estimate at-0) 3
     ∷ told 2 64 (estimate at-0) 3
     ∷ told 1 64 (estimate (replicate 65 7)) 4
     ∷ told 2 32 (estimate at-8) 5
     ∷ told 9 64 widest 1
     ∷ told 1 16 widest 2
+    ∷ told 1 32768 widest 2
     ∷ told 1 32 widest 3
     ∷ told 2 32 widest 5
     ∷ told 9 64 (unite (from none)) 1
     ∷ told 1 96 (unite (from none)) 2
+    ∷ told 1 65536 (unite (from none)) 2
     ∷ told 1 64 (unite (raw [])) 3
     ∷ told 1 64 (unite (raw invalidBytes)) 5
     ∷ told 1 64 (unite (raw fullBytes)) 6
     ∷ told 9 64 (write []) 1
     ∷ told 1 63 (write []) 2
+    ∷ told 1 32768 (write []) 2
     ∷ told 1 32 (write []) 3
     ∷ told 2 32 (write []) 5
     ∷ told 1 64 (write []) 7
     ∷ told 9 64 (read (from none)) 1
     ∷ told 1 63 (read (from none)) 2
+    ∷ told 1 65536 (read (from none)) 2
     ∷ told 1 32 (read (from none)) 3
     ∷ told 1 64 (read (raw [])) 8
     ∷ told 1 64 (read (raw (0x10000261 ∷ []))) 9
     ∷ told 2 32 (read (from none)) 10
+    ∷ told 1 64 (read (raw (0x100000f1 ∷ []))) 10
+    ∷ told 1 64 (read (raw (0x10000101 ∷ []))) 10
     ∷ told 9 64 (feed 1 updateWords) 1
     ∷ told 1 63 (feed 1 updateWords) 2
+    ∷ told 1 32768 (feed 1 updateWords) 2
     ∷ told 1 32 (feed 1 updateWords) 3
     ∷ told 1 64 (feed 1 (0x50000000 ∷ [])) 4
     ∷ told 2 32 (feed 1 (0x60000001 ∷ 0x704a0000 ∷ [])) 5
@@ -92,6 +103,7 @@ refusals =
     ∷ told 1 64 (feed 1 endWords) 9
     ∷ told 9 64 (watch cleared at-0 1 1) 1
     ∷ told 1 63 (watch cleared at-0 1 1) 2
+    ∷ told 1 65536 (watch cleared at-0 1 1) 2
     ∷ told 1 32 (watch cleared at-0 1 1) 3
     ∷ told 1 64 (watch [] [] 1 1) 3
     ∷ told 1 64 (watch broken [] 1 0) 4

@@ -213,7 +213,7 @@ pub mod hash {
     use super::ffi;
 
     fn valid(d: usize, w: usize) -> bool {
-        (1..=8).contains(&d) && w.is_power_of_two() && (2..=65_536).contains(&w)
+        (1..=8).contains(&d) && w.is_power_of_two() && (2..=meter::LARGEST_WIDTH).contains(&w)
     }
 
     /// As the plain C version does it: four rows side by side.
@@ -285,7 +285,7 @@ pub struct CountMin {
 
 impl CountMin {
     pub fn new(d: usize, w: usize) -> CountMin {
-        assert!((1..=8).contains(&d) && w.is_power_of_two() && (2..=65_536).contains(&w));
+        assert!((1..=8).contains(&d) && w.is_power_of_two() && (2..=meter::LARGEST_WIDTH).contains(&w));
         CountMin {
             d,
             w,

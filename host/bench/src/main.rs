@@ -6,6 +6,7 @@
 
 use bench::traffic::{packet, Rng, Zipf};
 use bench::{hash, plain, CountMin};
+use meter::LARGEST_WIDTH;
 use std::cell::RefCell;
 use std::hint::black_box;
 use std::sync::OnceLock;
@@ -132,7 +133,7 @@ fn keyed() {
         for length in [4, 13, 37] {
             let calls = Calls::new(length, zipf);
             for d in [1, 4, 8] {
-                for w in [1_024, 65_536] {
+                for w in [1_024, LARGEST_WIDTH] {
                     let name = format!("d {d}, w {w}, {length} bytes, {}", if zipf { "Zipf" } else { "uniform" });
                     let a_cell = RefCell::new(vec![0; size(d, w)]);
                     let b_cell = RefCell::new(vec![0; size(d, w)]);
@@ -556,9 +557,9 @@ fn combine(
 
 const WHOLE: [&str; 4] = ["union", "union with a copy", "image written", "image read"];
 
-/// How many meters are taken in a round.
+/// How many meters are taken in a round: so many that they have two million slots.
 fn repeats(d: usize, w: usize) -> usize {
-    (65_536 * 8 / (d * w)).max(1) * 4
+    (1 << 21) / (d * w)
 }
 
 /// A union of two meters of one kind and of one with its copy, an image written and an image read; how often, and the times of all.
@@ -647,7 +648,7 @@ fn feeds() {
     let calls = Calls::new(13, true);
     let (updates, update_starts) = records(&calls, false);
     let (asks, ask_starts) = records(&calls, true);
-    for (d, w) in [(1, 1_024), (4, 1_024), (4, 65_536), (8, 65_536)] {
+    for (d, w) in [(1, 1_024), (4, 1_024), (4, LARGEST_WIDTH), (8, LARGEST_WIDTH)] {
         let (a, b) = (RefCell::new(vec![0; size(d, w)]), RefCell::new(vec![0; size(d, w)]));
         let times = time(vec![
             (&mut || a.borrow_mut().fill(0), &mut || {
@@ -695,9 +696,9 @@ fn feeds() {
 }
 
 fn whole_meters() {
-    heading("d 8, w 65,536, calls a second");
+    heading("d 8, w 16,384, calls a second");
     for kind in KINDS {
-        for (call, (repeat, times)) in WHOLE.iter().zip(&whole(8, 65_536, kind)) {
+        for (call, (repeat, times)) in WHOLE.iter().zip(&whole(8, LARGEST_WIDTH, kind)) {
             line(&format!("{call}, {}", kind.name()), *repeat, times);
         }
     }
@@ -712,7 +713,7 @@ fn signed() {
         let mut rng = Rng(9);
         let calls: Vec<(&[u8], i32)> = calls.each().map(|(key, amount)| (key, changed(amount, &mut rng))).collect();
         for d in [1, 3, 5, 7] {
-            for w in [1_024, 65_536] {
+            for w in [1_024, LARGEST_WIDTH] {
                 let name = format!("d {d}, w {w}, {length} bytes");
                 let (a, b) = (RefCell::new(vec![0; size(d, w)]), RefCell::new(vec![0; size(d, w)]));
                 let times = time(vec![
@@ -771,7 +772,7 @@ fn signed() {
         ("sum", [meter::signed_unite, plain::signed_unite]),
         ("difference", [meter::signed_subtract, plain::signed_subtract]),
     ];
-    for w in [1_024, 65_536] {
+    for w in [1_024, LARGEST_WIDTH] {
         let repeat = repeats(5, w);
         for kind in KINDS {
             let mut seeds = 11..;
@@ -789,11 +790,11 @@ fn signed() {
 
 /// The cost of a call by the width: time for one group.
 fn growth() {
-    println!("\n| nanoseconds a group, d 8, proved (plain C) | w 32 | w 256 | w 1,024 | w 8,192 | w 65,536 |");
+    println!("\n| nanoseconds a group, d 8, proved (plain C) | w 32 | w 256 | w 1,024 | w 4,096 | w 16,384 |");
     println!("|---|---|---|---|---|---|");
     for kind in KINDS {
         let mut rows: [Vec<String>; 4] = Default::default();
-        for w in [32, 256, 1_024, 8_192, 65_536] {
+        for w in [32, 256, 1_024, 4_096, LARGEST_WIDTH] {
             for (row, (repeat, times)) in rows.iter_mut().zip(&whole(8, w, kind)) {
                 let groups = (repeat * w) as f64;
                 row.push(format!("{:.1} ({:.1})", times[0] * 1e9 / groups, times[1] * 1e9 / groups));

@@ -79,7 +79,7 @@ fn plain_c_follows_the_paper() {
         same("image_read", a, reference::image_read(d, w, &mut model, &words), &mut given);
         compare("image_read", &c, &model);
         if rng.once_in(50) {
-            let (d, w) = (rng.within(0..10), rng.pick(&[0, 32, 33, 64, 131_072]));
+            let (d, w) = (rng.within(0..10), rng.pick(&[0, 32, 33, 64, 16_384, 32_768]));
             same(
                 "clear",
                 plain::clear(d, w, c.get_mut()),
@@ -131,7 +131,7 @@ fn plain_signed_c_follows_the_paper() {
         );
         compare("subtract", &c, &model);
         if rng.once_in(50) {
-            let (d, w) = (rng.within(0..10), rng.pick(&[0, 32, 33, 64, 131_072]));
+            let (d, w) = (rng.within(0..10), rng.pick(&[0, 32, 33, 64, 16_384, 32_768]));
             same(
                 "clear",
                 plain::signed_clear(d, w, c.get_mut()),

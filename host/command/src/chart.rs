@@ -256,7 +256,7 @@ fn histogram(svg: &mut Svg, in_use: &Use, top: usize) {
         n => ((n as f64).log10() / decades * (ROOM - 6) as f64) as usize + 6,
     };
     let bottom = top + 26 + LEVELS * STEP;
-    // there are at most 8 * 65,536 counters
+    // there are at most 8 * 16,384 counters
     for (power, label) in (0..=decades as u32).zip(["1", "10", "100", "1 k", "10 k", "100 k", "1 M"]) {
         let x = FROM + along(10u64.pow(power));
         svg.line(x, top + 18, x, bottom, LINE);
@@ -379,7 +379,7 @@ mod tests {
         assert_eq!(short(999_990_000), "1.0 G");
         assert_eq!(short(u128::from(u64::MAX)), "18.4 E");
         assert_eq!(share(0, 32), "0.0 %");
-        assert_eq!(share(1, 65_536), "< 0.1 %");
+        assert_eq!(share(1, 16_384), "< 0.1 %");
         assert_eq!(share(32, 32), "100.0 %");
     }
 

@@ -1,5 +1,6 @@
 //! Arguments, failures and their exit statuses.
 
+use meter::LARGEST_WIDTH;
 use std::ffi::{OsStr, OsString};
 use std::fmt;
 use std::os::unix::ffi::OsStrExt;
@@ -142,9 +143,12 @@ pub fn geometry(d: &[u8], w: &[u8]) -> Result<(usize, usize), String> {
     let Some(depth) = depth else {
         return Err(format!("d is 1 to 8, not {} (number 1)", shown(d)));
     };
-    let width = decimal(w).filter(|w| (32..=65_536).contains(w) && w.is_power_of_two());
+    let width = decimal(w).filter(|w| (32..=LARGEST_WIDTH as u64).contains(w) && w.is_power_of_two());
     let Some(width) = width else {
-        return Err(format!("w is a power of two from 32 to 65536, not {} (number 2)", shown(w)));
+        return Err(format!(
+            "w is a power of two from 32 to {LARGEST_WIDTH}, not {} (number 2)",
+            shown(w)
+        ));
     };
     Ok((depth as usize, width as usize))
 }

@@ -4,7 +4,7 @@ use crate::cli::{refused, usage, Arguments, Failure, Outcome};
 use crate::files::{self, Output, Progress};
 use crate::layout::{self, bits, Use, LEVELS};
 use crate::words;
-use meter::{Meter, Reason, Refused};
+use meter::{Meter, Reason, Refused, LARGEST_WIDTH};
 use std::ffi::{OsStr, OsString};
 use std::fmt::Write;
 
@@ -49,7 +49,7 @@ pub fn no_leftover(bytes: &[u8]) -> Result<(), Refused> {
 
 /// The bytes of an image file. No image is longer than the largest meter's, so one word more is enough to tell that words are none.
 pub fn read(file: &OsStr) -> Outcome<Vec<u8>> {
-    let most = meter::most_image_words(8, 65_536).unwrap_or(0);
+    let most = meter::most_image_words(8, LARGEST_WIDTH).unwrap_or(0);
     files::read_at_most(file, 4 * (most + 1))
 }
 

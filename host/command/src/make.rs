@@ -15,7 +15,7 @@ Writes the image of a clear meter.
 usage: meter new D W -o IMAGE
 
 D is the number of rows, 1 to 8, and W the slots of a row, a power of two from
-32 to 65536; meter size D W says what that means. -o - is standard output.
+32 to 16384; meter size D W says what that means. -o - is standard output.
 ";
 
 pub fn new(given: &[OsString]) -> Outcome {

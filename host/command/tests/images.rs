@@ -1,9 +1,11 @@
 //! Images: info, check, dump, unite, ask, new, size, chart.
 
 mod common;
+#[path = "../../tests/common/wide_image.rs"]
+mod wide_image;
 
 use common::{bad, good, meter, text, to_bytes, to_words, Folder, Rng};
-use meter::Meter;
+use meter::{Meter, LARGEST_WIDTH};
 use std::fs;
 
 /// A meter whose counters are random at every level.
@@ -176,6 +178,31 @@ fn check_names_the_faulty_word() {
     }
 }
 
+/// An image that was written while rows could be wider is none any more: its head says a width that no meter has, and to a union, which
+/// has d and w from the first image, it is of another width.
+#[test]
+fn an_image_of_wider_rows() {
+    let folder = Folder::new();
+    let file = folder.put("wider", &to_bytes(&wide_image::words()));
+    let out = folder.path("out");
+    for arguments in [
+        &["image", "check", &file][..],
+        &["image", "info", &file],
+        &["image", "dump", &file],
+        &["ask", &file, "tenant-7"],
+        &["chart", &file, "-o", "-"],
+        &["unite", &file, "-o", &out],
+    ] {
+        let message = bad(arguments, b"", 1);
+        let what = "/wider: not an image: word 0 (10000102): number 2: the width is not a power of two from 32 to 16,384\n";
+        assert!(message.ends_with(what), "{arguments:?}: {message}");
+    }
+    let first = folder.put("first", &image(&Meter::new(2, LARGEST_WIDTH).unwrap()));
+    let message = bad(&["unite", &first, &file, "-o", &out], b"", 1);
+    assert!(message.contains("/wider: word 0 (10000102): number 10: "), "{message}");
+    assert_eq!(folder.names(), ["first", "wider"]);
+}
+
 #[test]
 fn unions() {
     let mut rng = Rng::new("unions");
@@ -292,7 +319,9 @@ fn figures() {
 /// The figures of `size` are those of meters.
 #[test]
 fn sizes() {
-    for (d, w) in [(1, 32), (4, 4096), (8, 65_536)] {
+    let help = text(&good(&["new", "--help"], b""));
+    assert!(help.contains(&format!("32 to {LARGEST_WIDTH}; ")), "{help}");
+    for (d, w) in [(1, 32), (4, 4096), (8, LARGEST_WIDTH)] {
         let lines = text(&good(&["size", &d.to_string(), &w.to_string(), "--total", "1000000"], b""));
         let memory = d * w / 8 * 9;
         let most = Meter::new(d, w).unwrap().image().unwrap().len();
@@ -320,6 +349,7 @@ fn sizes() {
         &["size", "4"],
         &["size", "9", "32"],
         &["size", "1", "48"],
+        &["size", "1", "32768"],
         &["size", "1", "32", "--total", "-1"],
     ] {
         bad(wrong, b"", 2);
@@ -328,7 +358,7 @@ fn sizes() {
 
 #[test]
 fn clear_meters() {
-    for (d, w) in [(1, 32), (8, 65_536)] {
+    for (d, w) in [(1, 32), (8, LARGEST_WIDTH)] {
         let words = to_words(&good(&["new", &d.to_string(), &w.to_string(), "-o", "-"], b""));
         assert_eq!(Meter::from_image(&words).unwrap(), Meter::new(d, w).unwrap());
     }
@@ -336,6 +366,7 @@ fn clear_meters() {
         &["new", "1", "32"][..],
         &["new", "1", "-o", "-"],
         &["new", "0", "32", "-o", "-"],
+        &["new", "1", "32768", "-o", "-"],
     ] {
         bad(wrong, b"", 2);
     }
@@ -365,7 +396,7 @@ fn well_formed(svg: &str) {
 fn charts() {
     let mut rng = Rng::new("charts");
     let folder = Folder::new();
-    for (d, w) in [(1, 32), (2, 512), (3, 1024), (8, 4096), (8, 65_536)] {
+    for (d, w) in [(1, 32), (2, 512), (3, 1024), (8, 4096), (8, LARGEST_WIDTH)] {
         let meter = random_meter(&mut rng, d, w);
         let file = folder.put("rack <7> & \"8\".image", &image(&meter));
         let svg = folder.path("out.svg");

@@ -85,9 +85,9 @@ fn mistakes_are_named_with_their_line() {
         (
             "meter 1 33\nend",
             1,
-            "w is a power of two from 32 to 65536, not 33 (number 2)",
+            "w is a power of two from 32 to 16384, not 33 (number 2)",
         ),
-        ("meter 1 131072\nend", 1, "not 131072 (number 2)"),
+        ("meter 1 32768\nend", 1, "not 32768 (number 2)"),
         ("meter 1\nend", 1, "expected: meter D W"),
         ("meter 1 32 3\nend", 1, "expected: meter D W"),
         ("ask A\nmeter 1 32\nend", 2, "meter comes first"),

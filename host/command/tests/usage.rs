@@ -106,7 +106,7 @@ fn files_are_replaced_whole() {
 fn closed_pipes() {
     let folder = Folder::new();
     let image = folder.path("image");
-    good(&["new", "8", "65536", "-o", &image], b"");
+    good(&["new", "8", "16384", "-o", &image], b"");
     let feed = to_bytes(&random_feed(&mut Rng::new("closed_pipes"), 1, 32, 100_000));
     let empty = folder.put("empty", &to_bytes(&[head(1, 32), 0x4000_0001]));
     for (arguments, input) in [

@@ -369,7 +369,7 @@ pub fn slot(row: usize, key: &[u8], w: usize) -> usize {
 }
 
 fn is_width(w: usize) -> bool {
-    [32, 64, 128, 256, 512, 1024, 2048, 4096, 8192, 16384, 32768, 65536].contains(&w)
+    [32, 64, 128, 256, 512, 1024, 2048, 4096, 8192, 16384].contains(&w)
 }
 
 fn good_geometry(d: usize, w: usize) -> Result<(), Refused> {

@@ -419,13 +419,13 @@ pub fn told(rng: &mut Rng, d: usize, w: usize) -> (usize, usize) {
         0 => (rng.pick(&[0, 9, 10, 16, 256, usize::MAX, 1 << 32]), w),
         1 => (
             d,
-            rng.pick(&[0, 1, 16, 31, 33, 48, 96, 65_535, 65_537, 131_072, 1 << 32, usize::MAX]),
+            rng.pick(&[0, 1, 16, 31, 33, 48, 96, 16_383, 16_385, 32_768, 65_536, 1 << 32, usize::MAX]),
         ),
         2 => (0, 33),
         3 => (rng.within(1..9), w),
         4 => (d, 32 << rng.below(12)),
-        // Other rows of the same memory.
-        5 if d & 1 == 0 && w < 65_536 => (d / 2, w * 2),
+        // Other rows of the same memory, too wide ones too.
+        5 if d & 1 == 0 => (d / 2, w * 2),
         6 if d <= 4 && w > 32 => (d * 2, w / 2),
         _ => (d, w),
     }
