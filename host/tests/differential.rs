@@ -5,7 +5,7 @@ mod common;
 
 use common::{
     amount, break_list, damage, key, lend_bytes, lend_words, list, memory, other_length, record, seed, some_image, told,
-    unmerged, valid_keys, Lent, Numbers, Rng,
+    unmerged, valid_keys, widths, Lent, Numbers, Rng,
 };
 use meter::LARGEST_WIDTH;
 use reference::{Memory, Record, Watch, WATCH_SIZE};
@@ -450,7 +450,7 @@ fn random_lists_of_calls() {
         let w = list.rng.pick(&[32, 32, 32, 32, 64, 64, 128]);
         list.run(d, w, 100);
     }
-    for w in (5..15).map(|n| 1 << n) {
+    for w in widths() {
         for d in [1, 3, 8] {
             list.run(d, w, (2_000_000 / (d * w)).clamp(30, 1000));
         }
@@ -486,7 +486,7 @@ fn random_lists_of_watch_calls() {
         let w = list.rng.pick(&[32, 32, 64]);
         list.run_watched(d, w, 200);
     }
-    for w in (7..15).map(|n| 1 << n) {
+    for w in widths().skip(2) {
         for d in [1, 4, 8] {
             list.run_watched(d, w, (2_000_000 / (d * w)).clamp(30, 1_000));
         }

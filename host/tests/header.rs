@@ -66,7 +66,7 @@ fn expected() -> String {
         )
     };
     for d in 1..=8 {
-        for log in 5..=14 {
+        for log in 5..=LARGEST_WIDTH.ilog2() {
             lines.push(both(d, 1 << log));
         }
     }

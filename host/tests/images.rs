@@ -4,7 +4,7 @@ mod common;
 #[path = "common/wide_image.rs"]
 mod wide_image;
 
-use common::{memory, seed, Rng};
+use common::{memory, seed, widths, Rng};
 use meter::{Meter, Reason, Refused, LARGEST_WIDTH};
 
 fn image(d: usize, w: usize, bytes: &[u8]) -> Option<Vec<u32>> {
@@ -81,7 +81,7 @@ fn an_image_of_wider_rows() {
     let words = wide_image::words();
     assert_eq!((words.len(), words[0]), (135_152, 0x1000_0102));
     for d in 1..=8 {
-        for w in (5..15).map(|n| 1 << n) {
+        for w in widths() {
             let before = vec![0xee; meter::size(d, w).expect("a meter")];
             let mut memory = before.clone();
             let answer = meter::image_read(d, w, &mut memory, &words);

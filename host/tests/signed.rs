@@ -5,7 +5,7 @@ mod common;
 
 use common::{
     counters, group_at, key, lend_bytes, other_length, plant_minus_zero, put_minus_zero, put_signed, seed, signed_amount,
-    signed_limit, signed_memory, signed_number, told, valid_keys, Lent, Numbers, Rng,
+    signed_limit, signed_memory, signed_number, told, valid_keys, widths, Lent, Numbers, Rng,
 };
 use meter::{Reason, Refused, SignedMeter, LARGEST_WIDTH};
 use reference::row_sign;
@@ -197,7 +197,7 @@ fn random_lists_of_calls() {
         let w = rng.pick(&[32, 32, 32, 32, 64, 64, 128]);
         both.run(&mut rng, d, w, 100);
     }
-    for w in (5..15).map(|n| 1 << n) {
+    for w in widths() {
         for d in [1, 3, 5, 7] {
             both.run(&mut rng, d, w, (400_000 / (d * w)).clamp(12, 400));
         }

@@ -61,7 +61,7 @@ fn random_feeds() {
     for n in 0..120 {
         let [before, after] = [0, 1].map(|_| random_feed(&mut rng, 1, 32, 40));
         let [first, second] = [("before", &before), ("after", &after)].map(|(name, words)| folder.put(name, &to_bytes(words)));
-        let (d, w) = ([1, 3, 5, 7][rng.below(4)], 32 << rng.below(12));
+        let (d, w) = ([1, 3, 5, 7][rng.below(4)], rng.width());
         let top = rng.below(30);
         let (d_text, w_text, top_text) = (d.to_string(), w.to_string(), top.to_string());
         let mut arguments = vec!["compare", &first, &second];

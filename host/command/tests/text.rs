@@ -136,7 +136,7 @@ fn mistakes_are_named_with_their_line() {
 fn a_feed_goes_to_text_and_back() {
     let mut rng = Rng::new("a_feed_goes_to_text_and_back");
     for _ in 0..40 {
-        let (d, w, records) = (1 + rng.below(8), 32 << rng.below(12), rng.below(200));
+        let (d, w, records) = (1 + rng.below(8), rng.width(), rng.below(200));
         let feed = to_bytes(&random_feed(&mut rng, d, w, records));
         let lines = good(&["feed", "--text"], &feed);
         assert_eq!(good(&["feed"], &lines), feed);

@@ -36,7 +36,7 @@ fn random_feeds() {
     let mut rng = Rng::new("random_feeds");
     let (mut listed, mut left) = (0, 0);
     for _ in 0..120 {
-        let (d, w) = (1 + rng.below(8), 32 << rng.below(12));
+        let (d, w) = (1 + rng.below(8), rng.width());
         let words = random_feed(&mut rng, d, w, 60);
         let threshold = 1 + (rng.next() >> (20 + rng.below(44)));
         let expected = watched(d, w, &words, threshold);

@@ -413,6 +413,11 @@ pub fn signed_memory(rng: &mut Rng, d: usize, w: usize) -> Vec<u8> {
     bytes
 }
 
+/// Every width of a meter.
+pub fn widths() -> impl Iterator<Item = usize> {
+    (5..=meter::LARGEST_WIDTH.ilog2()).map(|n| 1 << n)
+}
+
 /// A depth and a width as told: mostly the meter's own.
 pub fn told(rng: &mut Rng, d: usize, w: usize) -> (usize, usize) {
     match rng.below(40) {
@@ -423,6 +428,7 @@ pub fn told(rng: &mut Rng, d: usize, w: usize) -> (usize, usize) {
         ),
         2 => (0, 33),
         3 => (rng.within(1..9), w),
+        // Any power of two, two too wide ones too.
         4 => (d, 32 << rng.below(12)),
         // Other rows of the same memory, too wide ones too.
         5 if d & 1 == 0 => (d / 2, w * 2),

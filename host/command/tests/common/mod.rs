@@ -168,6 +168,11 @@ impl Rng {
         (self.next() % n as u64) as usize
     }
 
+    /// Any width of a meter.
+    pub fn width(&mut self) -> usize {
+        32 << self.below(meter::LARGEST_WIDTH.ilog2() as usize - 4)
+    }
+
     pub fn bytes(&mut self, n: usize) -> Vec<u8> {
         (0..n).map(|_| self.next() as u8).collect()
     }
