@@ -125,7 +125,7 @@ static void compare(enum kind kind, size_t w, size_t pairs) {
 int main(void) {
     static const struct {
         size_t w, pairs;
-    } sizes[] = {{16384, 1}, {16384, 32}, {1024, MOST_PAIRS}, {64, MOST_PAIRS}, {32, MOST_PAIRS}};
+    } sizes[] = {{METER_LARGEST_WIDTH, 1}, {METER_LARGEST_WIDTH, 32}, {1024, MOST_PAIRS}, {64, MOST_PAIRS}, {32, MOST_PAIRS}};
     printf("| union, d 8, medians of %d rounds | before, µs | after, µs | after to before | a copy, µs |\n|---|---|---|---|---|\n", ROUNDS);
     for (size_t i = 0; i < sizeof sizes / sizeof *sizes; i++)
         for (enum kind kind = 0; kind < KINDS; kind++)

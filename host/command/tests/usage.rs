@@ -3,6 +3,7 @@
 mod common;
 
 use common::{bad, good, head, meter, random_feed, record, terminal, text, to_bytes, Folder, Rng, METER};
+use meter::LARGEST_WIDTH;
 use std::fs;
 use std::io::{Read, Write};
 use std::os::unix::fs::{symlink, PermissionsExt};
@@ -106,7 +107,7 @@ fn files_are_replaced_whole() {
 fn closed_pipes() {
     let folder = Folder::new();
     let image = folder.path("image");
-    good(&["new", "8", "16384", "-o", &image], b"");
+    good(&["new", "8", &LARGEST_WIDTH.to_string(), "-o", &image], b"");
     let feed = to_bytes(&random_feed(&mut Rng::new("closed_pipes"), 1, 32, 100_000));
     let empty = folder.put("empty", &to_bytes(&[head(1, 32), 0x4000_0001]));
     for (arguments, input) in [

@@ -95,7 +95,7 @@ fn main() {
         }
     }
     println!("{heading}\n|{}", "---|".repeat(heading.matches('|').count() - 1));
-    for w in [1_024, 4_096, 16_384] {
+    for w in [1_024, 4_096, meter::LARGEST_WIDTH] {
         for d in [2, 4, 8] {
             let mut line = format!(
                 "| {} | {d} | {} |",
