@@ -13,20 +13,14 @@
  * *place and *figure always. METER_ACCEPTED, 0, is acceptance. Any other number says why the call was refused; then the figure is
  * 0 and every lent byte and word is as before. So test every number: only of an accepted call the figure says anything.
  *
- * An estimate, by meter_estimate or by an asking record, is the figure of one counter, the least of the key's, and level and row
- * say which. The row is counted from 0, and of equal counters the one in the lowest row is meant. The level is 0 to 3: 1 << level
- * slots, so 1, 2, 4 or 8, share the counter, and from clearing on the figure is exactly what was accepted for all keys that land
- * in these slots in that row. A call that has *level and *row writes them always; both are 0 unless an estimate was accepted.
- *
  * The first number that applies is returned, in this order: 1, 2, 12, 3 and 4 for the call's own d, w, lengths and key; then the
  * words, of which the first faulty one decides, by 8, 9 and 10, then in a feed's head by 1 and 2 and for a record's key length by
  * 4; then 5, 13, 11, 6 and 7. A number of any group that the call reads comes before a later one of every other. The place is an
  * index, from 0, into the lent words where a word is at fault, else 0; a missing word's index is the number of words lent.
  *
- * What the caller owes: a pointer points to as many bytes or words as the length beside it says, place, figure, level and row to
- * one number each and merges to four bytes. No pointer is null, also where the length is 0. Words, level and row are aligned for
- * uint32_t, place and figure for uint64_t. What a call may write overlaps nothing else that it is given. A memory or a list is used
- * by one call at a time.
+ * What the caller owes: a pointer points to as many bytes or words as the length beside it says, place and figure to one number
+ * each and merges to four bytes. No pointer is null, also where the length is 0. Words are aligned for uint32_t, place and figure
+ * for uint64_t. What a call may write overlaps nothing else that it is given. A memory or a list is used by one call at a time.
  */
 #ifndef METER_H
 #define METER_H
@@ -47,14 +41,12 @@
 
 /* A watch list is METER_WATCH_SIZE lent bytes, of any alignment. It has places for METER_WATCH_PLACES keys. Byte i is the length of
  * the key at place i, 0 from the first free place on; byte METER_WATCH_MARK is the mark, 0 or 1. The key at place i starts at byte
- * METER_WATCH_KEY(i), its estimate, eight bytes, lowest first, at METER_WATCH_ESTIMATE(i); byte METER_WATCH_LEVEL(i) is the level of
- * that estimate, 0 to 3. */
+ * METER_WATCH_KEY(i), its estimate, eight bytes, lowest first, at METER_WATCH_ESTIMATE(i). */
 #define METER_WATCH_PLACES 64
 #define METER_WATCH_MARK 64
 #define METER_WATCH_KEY(i) (65 + 64 * (size_t)(i))
 #define METER_WATCH_ESTIMATE(i) (4161 + 8 * (size_t)(i))
-#define METER_WATCH_LEVEL(i) (4673 + (size_t)(i))
-#define METER_WATCH_SIZE 4737
+#define METER_WATCH_SIZE 4673
 
 #ifdef __cplusplus
 extern "C" {
@@ -68,12 +60,12 @@ enum meter_number {
     METER_DEPTH = 1,
     /* w is not a power of two from 32 to 16,384. */
     METER_WIDTH = 2,
-    /* A lent memory, the target's or the source's, has another length than d * w * 9 / 8, or a watch list another than 4,737. */
+    /* A lent memory, the target's or the source's, has another length than d * w * 9 / 8, or a watch list another than 4,673. */
     METER_LENGTH = 3,
     /* The key length is not 1 to 64. */
     METER_KEY_LENGTH = 4,
     /* A merge byte of a group that the call reads is not one of the 26 valid ones; or a watch list breaks its layout: a key length
-     * above 64, a length other than 0 after a 0, a mark above 1, or a level above 3 of a place in use. */
+     * above 64, a length other than 0 after a 0, or a mark above 1. */
     METER_CONTENT = 5,
     /* An update, a union or a difference would make a counter of 64 bits overflow: 2^64 or more, in a signed meter a magnitude of
      * 2^63 or more. */
@@ -105,7 +97,7 @@ static inline const char *meter_text(uint32_t number) {
     case METER_WIDTH:
         return "the width is not a power of two from 32 to 16,384";
     case METER_LENGTH:
-        return "a memory's length is not d * w * 9 / 8, or a watch list's not 4,737";
+        return "a memory's length is not d * w * 9 / 8, or a watch list's not 4,673";
     case METER_KEY_LENGTH:
         return "the key length is not 1 to 64";
     case METER_CONTENT:
@@ -138,9 +130,9 @@ uint32_t meter_clear(size_t d, size_t w, uint8_t *memory, size_t memory_len, uin
 uint32_t meter_update(size_t d, size_t w, uint8_t *memory, size_t memory_len, const uint8_t *key, size_t key_len,
                       uint32_t amount, uint64_t *place, uint64_t *figure);
 
-/* The figure is the least of the key's counters; level and row are those of that counter. Gives 0 to 5. */
+/* The figure is the least of the key's counters. Gives 0 to 5. */
 uint32_t meter_estimate(size_t d, size_t w, const uint8_t *memory, size_t memory_len, const uint8_t *key, size_t key_len,
-                        uint64_t *place, uint64_t *figure, uint32_t *level, uint32_t *row);
+                        uint64_t *place, uint64_t *figure);
 
 /* The figure is the largest level of any counter: 0, 1, 2, 3 for 8, 16, 32, 64 bits. Gives 0 to 3 and 5. */
 uint32_t meter_widest(size_t d, size_t w, const uint8_t *memory, size_t memory_len, uint64_t *place, uint64_t *figure);
@@ -170,11 +162,11 @@ uint32_t meter_image_read(size_t d, size_t w, uint8_t *memory, size_t memory_len
 uint32_t meter_feed_head(const uint32_t *words, size_t words_len, uint64_t *place, uint64_t *figure);
 
 /* Carries out one record or the end of a feed, which starts at the first of the lent words; no word after it is looked at. Before
- * is how many words of the feed came before. Figure, level and row are the estimate's for an asking record, else 0. An update record
- * takes 3 + n words and an asking record 1 + n, n being the key length divided by 3, rounded up; the end takes one. Gives 0 to 6, 8
+ * is how many words of the feed came before. The figure is the estimate for an asking record, else 0. An update record takes
+ * 3 + n words and an asking record 1 + n, n being the key length divided by 3, rounded up; the end takes one. Gives 0 to 6, 8
  * and 9. */
 uint32_t meter_feed_record(size_t d, size_t w, uint8_t *memory, size_t memory_len, uint64_t before, const uint32_t *words,
-                           size_t words_len, uint64_t *place, uint64_t *figure, uint32_t *level, uint32_t *row);
+                           size_t words_len, uint64_t *place, uint64_t *figure);
 
 /* How many words the record or the end takes that starts at the first of the lent words: where the next record starts. It gives no
  * number and writes nothing; of a record with a faulty word it says nothing. */
@@ -183,10 +175,9 @@ size_t meter_feed_taken(const uint32_t *words, size_t words_len);
 /* Sets every byte of a watch list to 0, whatever it was: no key, no mark. Gives 0 and 3. */
 uint32_t meter_watch_clear(uint8_t *list, size_t list_len, uint64_t *place, uint64_t *figure);
 
-/* An update of the meter that the list takes note of, or no change of either. If the key is listed, its estimate and level become
- * what the update left in the memory, whatever the threshold. If it is not and that estimate is at or above the threshold, it joins
- * the list after all others; where no place is free it sets the mark instead, which stays until the list is cleared. Gives 0 to 6
- * and 11. */
+/* An update of the meter that the list takes note of, or no change of either. If the key is listed, its estimate becomes what the
+ * update left in the memory, whatever the threshold. If it is not and that estimate is at or above the threshold, it joins the list
+ * after all others; where no place is free it sets the mark instead, which stays until the list is cleared. Gives 0 to 6 and 11. */
 uint32_t meter_watch_update(size_t d, size_t w, uint8_t *memory, size_t memory_len, uint8_t *list, size_t list_len,
                             const uint8_t *key, size_t key_len, uint32_t amount, uint64_t threshold, uint64_t *place,
                             uint64_t *figure);

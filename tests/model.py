@@ -68,13 +68,7 @@ class Meter:
         return True
 
     def estimate(self, key):
-        """Figure, level and row of the least counter, the first of equal ones."""
-        found = []
-        for r, (row, g, s) in enumerate(self.places(key)):
-            _, level, figure = counter(row.get(g, {}), s)
-            found.append((figure, r, level))
-        figure, r, level = min(found)
-        return figure, level, r
+        return min(counter(row.get(g, {}), s)[2] for row, g, s in self.places(key))
 
 
 # The program.
@@ -134,7 +128,7 @@ def carry_out(feed, lines):
             key += part.to_bytes(3, "big")[:used]
             i += 1
         if kind == 6:
-            lines.append("estimate %d %d %d" % meter.estimate(key))
+            lines.append("estimate %d" % meter.estimate(key))
         else:
             amount = 0
             for _ in range(2):

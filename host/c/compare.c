@@ -1,9 +1,21 @@
 /* What host/bench/compare-unions runs: unions by two builds of the library, turn by turn in one run, and a plain copy of as many bytes. The
  * builds are linked under the names before_ and after_. */
-#include "builds.h"
+#define _POSIX_C_SOURCE 199309L
+#include <stdio.h>
+#include <stdlib.h>
+#include <string.h>
+#include <time.h>
+
+#include "either.h"
 
 extern __typeof__(meter_unite) before_meter_unite, after_meter_unite;
 extern __typeof__(meter_update) after_meter_update;
+
+/* What the libraries ask of C, under their names. */
+void *before_memcpy(void *to, const void *from, size_t n) { return memcpy(to, from, n); }
+void *before_memset(void *to, int byte, size_t n) { return memset(to, byte, n); }
+void *after_memcpy(void *to, const void *from, size_t n) { return memcpy(to, from, n); }
+void *after_memset(void *to, int byte, size_t n) { return memset(to, byte, n); }
 
 enum { D = 8, MOST_PAIRS = 64, ROUNDS = 501 };
 
@@ -12,6 +24,19 @@ enum way { BEFORE, AFTER, COPY, WAYS };
 /* What the two meters of a pair hold. */
 enum kind { NOTHING_MERGED, PAST_255, FEW_MERGED, TRAFFIC, ALL_LEVELS, KINDS };
 static const char *const names[KINDS] = {"nothing merged", "nothing merged, sums past 255", "one group of 512 merged", "after traffic", "all levels"};
+
+static void must(int holds, const char *what) {
+    if (!holds) {
+        fprintf(stderr, "compare: %s\n", what);
+        exit(1);
+    }
+}
+
+static void *room(size_t n) {
+    void *bytes = malloc(n);
+    must(bytes != NULL, "no memory");
+    return bytes;
+}
 
 /* A meter of a kind, whose union with another such meter is accepted. */
 static uint8_t *meter(enum kind kind, size_t w) {
@@ -36,6 +61,12 @@ static uint8_t *meter(enum kind kind, size_t w) {
     return memory;
 }
 
+static double microseconds(void) {
+    struct timespec t;
+    clock_gettime(CLOCK_THREAD_CPUTIME_ID, &t);
+    return (double)t.tv_sec * 1e6 + (double)t.tv_nsec / 1e3;
+}
+
 static void carry_out(enum way way, size_t w, uint8_t *target, const uint8_t *source) {
     size_t n = D * (w / 8 * 9);
     uint64_t place, figure;
@@ -43,6 +74,16 @@ static void carry_out(enum way way, size_t w, uint8_t *target, const uint8_t *so
         memcpy(target, source, n);
     else
         must((way == AFTER ? after_meter_unite : before_meter_unite)(D, w, target, n, source, n, &place, &figure) == 0, "a union was refused");
+}
+
+static int order(const void *a, const void *b) {
+    double x = *(const double *)a, y = *(const double *)b;
+    return (x > y) - (x < y);
+}
+
+static double median(double *times) {
+    qsort(times, ROUNDS, sizeof *times, order);
+    return times[ROUNDS / 2];
 }
 
 /* In each round each way takes every pair once, the ways in another order; targets are restored before, which is not measured. */
@@ -70,8 +111,8 @@ static void compare(enum kind kind, size_t w, size_t pairs) {
         for (size_t i = 0; i < pairs; i++)
             must(memcmp(targets[BEFORE][i], targets[AFTER][i], n) == 0, "the two builds differ");
     }
-    printf("| %s, w %zu, %zu in turn | %.4g | %.4g | %.2f | %.4g |\n", names[kind], w, pairs, median(times[BEFORE], ROUNDS),
-           median(times[AFTER], ROUNDS), median(ratios, ROUNDS), median(times[COPY], ROUNDS));
+    printf("| %s, w %zu, %zu in turn | %.4g | %.4g | %.2f | %.4g |\n", names[kind], w, pairs, median(times[BEFORE]), median(times[AFTER]),
+           median(ratios), median(times[COPY]));
     fflush(stdout);
     for (size_t i = 0; i < pairs; i++) {
         free(starts[i]);

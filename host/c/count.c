@@ -36,27 +36,26 @@ static void accepted(uint32_t number) {
 static void keyed(size_t d, size_t key_len) {
     size_t w = 1024, len = d * (w / 8 * 9);
     uint64_t place, figure;
-    uint32_t level, row;
     accepted(call(clear)(d, w, memory, len, &place, &figure));
     CALLGRIND_ZERO_STATS;
     for (size_t i = 0; i < CALLS; i++)
         accepted(call(update)(d, w, memory, len, keys + i % KEYS * key_len, key_len, amounts[i], &place, &figure));
     told("update", d, key_len);
     for (size_t i = 0; i < CALLS; i++)
-        accepted(call(estimate)(d, w, memory, len, keys + i % KEYS * key_len, key_len, &place, &figure, &level, &row));
+        accepted(call(estimate)(d, w, memory, len, keys + i % KEYS * key_len, key_len, &place, &figure));
     told("estimate", d, key_len);
     accepted(call(clear)(d, w, memory, len, &place, &figure));
     for (size_t i = 0; i < CALLS; i++)
         make_record(records[i], keys + i % KEYS * key_len, key_len, &amounts[i]);
     CALLGRIND_ZERO_STATS;
     for (size_t i = 0; i < CALLS; i++)
-        accepted(call(feed_record)(d, w, memory, len, 1, records[i], ROOM, &place, &figure, &level, &row));
+        accepted(call(feed_record)(d, w, memory, len, 1, records[i], ROOM, &place, &figure));
     told("feed record, update", d, key_len);
     for (size_t i = 0; i < CALLS; i++)
         make_record(records[i], keys + i % KEYS * key_len, key_len, NULL);
     CALLGRIND_ZERO_STATS;
     for (size_t i = 0; i < CALLS; i++)
-        accepted(call(feed_record)(d, w, memory, len, 1, records[i], ROOM, &place, &figure, &level, &row));
+        accepted(call(feed_record)(d, w, memory, len, 1, records[i], ROOM, &place, &figure));
     told("feed record, asking", d, key_len);
 #ifndef PLAIN /* which has no lists */
     /* 64 other keys of the same length: none of the keys counted here joins a full list. */

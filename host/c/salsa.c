@@ -93,38 +93,22 @@ static uint32_t update(size_t d, size_t w, uint8_t *memory, const uint8_t *key, 
     return 0;
 }
 
-/* The counter that a slot is in, and its level. */
-static inline uint64_t counter(const uint8_t *row, uint32_t slot, unsigned merge, uint32_t *level) {
-    unsigned k = slot & 7, n = level_of(merge, k);
-    *level = n;
-    return load(row + (slot & ~7u)) >> 8 * (k >> n << n) & most[n];
-}
-
-/* Which row has least is not to be foreseen: each choice is a move, so that nothing waits for a jump. */
-static inline uint32_t estimate(size_t d, size_t w, const uint8_t *memory, const uint8_t *key, size_t key_len, uint64_t *figure,
-                                uint32_t *level, uint32_t *row) {
+static uint32_t estimate(size_t d, size_t w, const uint8_t *memory, const uint8_t *key, size_t key_len, uint64_t *figure) {
     uint32_t slot[8];
     key_slots(slot, d, w, key, key_len);
     size_t stride = w + w / 8;
-    uint8_t m = memory[w + slot[0] / 8];
-    if (!code_and_one[m])
-        return 5;
-    uint32_t least_level, least_row = 0;
-    uint64_t least = counter(memory, slot[0], m, &least_level);
-    for (uint32_t r = 1; r < d; r++) {
-        memory += stride;
-        m = memory[w + slot[r] / 8];
+    uint64_t least = UINT64_MAX;
+    for (size_t r = 0; r < d; r++, memory += stride) {
+        uint8_t m = memory[w + slot[r] / 8];
         if (!code_and_one[m])
             return 5;
-        uint32_t n;
-        uint64_t value = counter(memory, slot[r], m, &n);
-        least_level = value < least ? n : least_level;
-        least_row = value < least ? r : least_row;
-        least = value < least ? value : least;
+        unsigned k = slot[r] & 7;
+        unsigned n = level_of(m, k);
+        uint64_t value = load(memory + (slot[r] & ~7u)) >> 8 * (k >> n << n) & most[n];
+        if (value < least)
+            least = value;
     }
     *figure = least;
-    *level = least_level;
-    *row = least_row;
     return 0;
 }
 
@@ -140,14 +124,14 @@ uint32_t salsa_update(size_t d, size_t w, uint8_t *memory, size_t memory_len, co
 }
 
 uint32_t salsa_estimate(size_t d, size_t w, const uint8_t *memory, size_t memory_len, const uint8_t *key, size_t key_len,
-                        uint64_t *place, uint64_t *figure, uint32_t *level, uint32_t *row) {
-    *place = *figure = *level = *row = 0;
+                        uint64_t *place, uint64_t *figure) {
+    *place = *figure = 0;
     uint32_t bad = bad_shape(d, w, memory_len);
     if (bad)
         return bad;
     if (key_len < 1 || key_len > 64)
         return 4;
-    return estimate(d, w, memory, key, key_len, figure, level, row);
+    return estimate(d, w, memory, key, key_len, figure);
 }
 
 static void unite(uint8_t *counts, uint8_t *merge, const uint8_t *source, unsigned mb) {
@@ -373,8 +357,8 @@ uint32_t salsa_image_read(size_t d, size_t w, uint8_t *memory, size_t memory_len
 }
 
 uint32_t salsa_feed_record(size_t d, size_t w, uint8_t *memory, size_t memory_len, uint64_t before, const uint32_t *words,
-                           size_t words_len, uint64_t *place, uint64_t *figure, uint32_t *level, uint32_t *row) {
-    *place = *figure = *level = *row = 0;
+                           size_t words_len, uint64_t *place, uint64_t *figure) {
+    *place = *figure = 0;
     uint32_t bad = bad_shape(d, w, memory_len);
     if (bad)
         return bad;
@@ -400,7 +384,7 @@ uint32_t salsa_feed_record(size_t d, size_t w, uint8_t *memory, size_t memory_le
             return refuse(9, at, place);
     }
     if (kind == KIND_ASK)
-        return estimate(d, w, memory, key, payload, figure, level, row);
+        return estimate(d, w, memory, key, payload, figure);
     uint32_t amount = 0;
     for (unsigned i = 0; i < 2; i++, at++) {
         if ((bad = bad_word(words, words_len, at, KIND_AMOUNT, 1u << 16)) != 0)

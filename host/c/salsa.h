@@ -10,7 +10,7 @@ uint32_t salsa_clear(size_t d, size_t w, uint8_t *memory, size_t memory_len, uin
 uint32_t salsa_update(size_t d, size_t w, uint8_t *memory, size_t memory_len, const uint8_t *key, size_t key_len,
                       uint32_t amount, uint64_t *place, uint64_t *figure);
 uint32_t salsa_estimate(size_t d, size_t w, const uint8_t *memory, size_t memory_len, const uint8_t *key, size_t key_len,
-                        uint64_t *place, uint64_t *figure, uint32_t *level, uint32_t *row);
+                        uint64_t *place, uint64_t *figure);
 uint32_t salsa_unite(size_t d, size_t w, uint8_t *memory, size_t memory_len, const uint8_t *source, size_t source_len,
                      uint64_t *place, uint64_t *figure);
 uint32_t salsa_image_write(size_t d, size_t w, const uint8_t *memory, size_t memory_len, uint32_t *words, size_t words_len,
@@ -18,6 +18,6 @@ uint32_t salsa_image_write(size_t d, size_t w, const uint8_t *memory, size_t mem
 uint32_t salsa_image_read(size_t d, size_t w, uint8_t *memory, size_t memory_len, const uint32_t *words, size_t words_len,
                           uint64_t *place, uint64_t *figure);
 uint32_t salsa_feed_record(size_t d, size_t w, uint8_t *memory, size_t memory_len, uint64_t before, const uint32_t *words,
-                           size_t words_len, uint64_t *place, uint64_t *figure, uint32_t *level, uint32_t *row);
+                           size_t words_len, uint64_t *place, uint64_t *figure);
 
 #endif

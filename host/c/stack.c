@@ -9,7 +9,7 @@
 
 #include "either.h"
 
-enum { STACK = 1 << 20, DEEP = 1 << 13, CALLS = 40000, WIDEST = 4096, LIST = 4737 };
+enum { STACK = 1 << 20, DEEP = 1 << 13, CALLS = 40000, WIDEST = 4096, LIST = 4673 };
 
 enum { UPDATE, ESTIMATE, RECORD, UNITE, WRITE, READ, WATCH, REMOVE, SIGNED_UPDATE, SIGNED_ESTIMATE, SIGNED_UNITE, SIGNED_SUBTRACT, COUNT };
 static const char *const names[COUNT] = {"update",        "estimate",        "feed record",           "union",
@@ -26,7 +26,6 @@ static uint32_t words[8 * WIDEST + 8 * WIDEST / 32 + 2], record[3 + 22], amount;
 /* Makes the call with the stack below filled with a byte; how much of it was written. Nothing of this function's own frame is below. */
 __attribute__((noinline)) static size_t written(int which, int fill) {
     uint64_t place, figure;
-    uint32_t level, row;
     int64_t change;
     volatile uint8_t *top, *at;
     __asm__ volatile("mov %%rsp, %0" : "=r"(top));
@@ -37,10 +36,10 @@ __attribute__((noinline)) static size_t written(int which, int fill) {
         call(update)(d, w, memory, len, key, key_len, amount, &place, &figure);
         break;
     case ESTIMATE:
-        call(estimate)(d, w, memory, len, key, key_len, &place, &figure, &level, &row);
+        call(estimate)(d, w, memory, len, key, key_len, &place, &figure);
         break;
     case RECORD:
-        call(feed_record)(d, w, memory, len, 1, record, sizeof record / 4, &place, &figure, &level, &row);
+        call(feed_record)(d, w, memory, len, 1, record, sizeof record / 4, &place, &figure);
         break;
     case UNITE:
         call(unite)(d, w, memory, len, source, len, &place, &figure);

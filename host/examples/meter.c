@@ -28,8 +28,7 @@ static void update(uint8_t *memory, const char *key, uint32_t amount) {
 
 static uint64_t estimate(const uint8_t *memory, const char *key) {
     uint64_t place, figure;
-    uint32_t level, row;
-    uint32_t n = meter_estimate(D, W, memory, METER_SIZE(D, W), (const uint8_t *)key, strlen(key), &place, &figure, &level, &row);
+    uint32_t n = meter_estimate(D, W, memory, METER_SIZE(D, W), (const uint8_t *)key, strlen(key), &place, &figure);
     return accepted("estimate", n, place, figure);
 }
 

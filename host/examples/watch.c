@@ -49,8 +49,7 @@ int main(void) {
         uint64_t estimate = 0;
         for (byte = 7; byte >= 0; byte--)
             estimate = estimate << 8 | list[METER_WATCH_ESTIMATE(i) + (size_t)byte];
-        printf("%.*s %" PRIu64 " in %d slots\n", (int)list[i], (const char *)&list[METER_WATCH_KEY(i)], estimate,
-               1 << list[METER_WATCH_LEVEL(i)]);
+        printf("%.*s %" PRIu64 "\n", (int)list[i], (const char *)&list[METER_WATCH_KEY(i)], estimate);
     }
     if (list[METER_WATCH_MARK] == 0)
         printf("none is left out\n");

@@ -10,8 +10,7 @@ fn main() -> Result<(), Refused> {
         heavy.update(&mut meter, tenant.as_bytes(), bytes, 1_000)?;
     }
     for entry in &heavy {
-        let tenant = String::from_utf8_lossy(entry.key);
-        println!("{tenant} {} in {} slots", entry.estimate, entry.slots());
+        println!("{} {}", String::from_utf8_lossy(entry.key), entry.estimate);
     }
     if !heavy.is_marked() {
         println!("none is left out");

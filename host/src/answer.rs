@@ -3,8 +3,7 @@
 use std::error::Error;
 use std::fmt;
 
-/// The answer of a call: its number, place and figure, which is signed for the estimate of a signed meter, and a [`Reading`] for an
-/// estimate and for a feed's record.
+/// The answer of a call: its number, place and figure, which is signed for the estimate of a signed meter alone.
 ///
 /// Number 0 is acceptance. Its figure is the estimate, the widest level, the layout code, a feed head's payload or the count of an
 /// image's words, else 0. Of a call that is refused the figure is 0, and the place is an index into the lent words where the
@@ -17,48 +16,6 @@ pub struct Answer<F = u64> {
     pub place: u64,
     /// What an accepted call found, else 0.
     pub figure: F,
-}
-
-/// What an estimate finds: the figure of one counter, the least of the key's, and which counter that is. From clearing on the figure is
-/// exactly what was accepted for all keys that land in the counter's slots in its row, so level and row tell how coarse it is.
-///
-/// All are 0 unless an estimate was accepted.
-///
-/// ```
-/// use meter::Meter;
-///
-/// let mut meter = Meter::new(4, 1024)?;
-/// meter.update(b"tenant-17", 70_000)?;
-/// meter.update(b"tenant-18", 40)?;
-/// // A byte does not hold 70,000: in every row four slots have become one counter.
-/// let reading = meter.reading(b"tenant-17")?;
-/// assert_eq!((reading.figure, reading.slots(), reading.row), (70_000, 4, 0));
-/// // The other key lands beside them in some rows, but not in all: there it has a slot of its own.
-/// let reading = meter.reading(b"tenant-18")?;
-/// assert_eq!((reading.figure, reading.slots()), (40, 1));
-/// # Ok::<(), meter::Refused>(())
-/// ```
-#[derive(Clone, Copy, Debug, Default, PartialEq, Eq, Hash)]
-pub struct Reading {
-    /// The least of the key's counters.
-    pub figure: u64,
-    /// The level of that counter, 0 to 3 for 8, 16, 32 or 64 bits.
-    pub level: u32,
-    /// The row that it is in, 0 to 7; of rows with the same figure the lowest.
-    pub row: u32,
-}
-
-impl Reading {
-    /// How many slots share the figure: 1, 2, 4 or 8.
-    #[must_use]
-    pub fn slots(self) -> usize {
-        slots(self.level)
-    }
-}
-
-/// The slots of a counter of a level.
-pub(crate) fn slots(level: u32) -> usize {
-    1 << level
 }
 
 impl<F> Answer<F> {
@@ -90,7 +47,7 @@ pub enum Reason {
     Depth,
     /// 2: the width is not a power of two from 32 to 16,384.
     Width,
-    /// 3: a lent memory has another length than d * w * 9 / 8, or a watch list another than 4,737.
+    /// 3: a lent memory has another length than d * w * 9 / 8, or a watch list another than 4,673.
     Length,
     /// 4: the key length is not 1 to 64.
     KeyLength,
@@ -166,7 +123,7 @@ impl fmt::Display for Reason {
         f.write_str(match self {
             Reason::Depth => "the depth is not 1 to 8",
             Reason::Width => "the width is not a power of two from 32 to 16,384",
-            Reason::Length => "a memory's length is not d * w * 9 / 8, or a watch list's not 4,737",
+            Reason::Length => "a memory's length is not d * w * 9 / 8, or a watch list's not 4,673",
             Reason::KeyLength => "the key length is not 1 to 64",
             Reason::Content => "a merge byte or a watch list is not valid",
             Reason::CounterFull => "a counter of 64 bits would overflow",

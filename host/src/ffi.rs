@@ -22,8 +22,6 @@ extern "C" {
         key_len: usize,
         place: *mut u64,
         figure: *mut u64,
-        level: *mut u32,
-        row: *mut u32,
     ) -> u32;
     pub fn meter_widest(d: usize, w: usize, memory: *const u8, memory_len: usize, place: *mut u64, figure: *mut u64) -> u32;
     pub fn meter_unite(
@@ -69,8 +67,6 @@ extern "C" {
         words_len: usize,
         place: *mut u64,
         figure: *mut u64,
-        level: *mut u32,
-        row: *mut u32,
     ) -> u32;
     pub fn meter_feed_taken(words: *const u32, words_len: usize) -> usize;
     pub fn meter_watch_clear(list: *mut u8, list_len: usize, place: *mut u64, figure: *mut u64) -> u32;

@@ -32,8 +32,7 @@
 //! let mut memory = vec![0xaa; size(d, w).unwrap()];
 //! clear(d, w, &mut memory).result()?;
 //! update(d, w, &mut memory, b"tenant-17", 1_564).result()?;
-//! let reading = estimate(d, w, &memory, b"tenant-17").result()?;
-//! assert_eq!((reading.figure, reading.level, reading.row), (1_564, 1, 0));
+//! assert_eq!(estimate(d, w, &memory, b"tenant-17").result()?, 1_564);
 //! assert_eq!(widest(d, w, &memory).result()?, 1);
 //!
 //! let mut words = vec![0; most_image_words(d, w).unwrap()];
@@ -51,7 +50,7 @@ mod meter;
 mod signed;
 mod watch;
 
-pub use answer::{Answer, Reading, Reason, Refused};
+pub use answer::{Answer, Reason, Refused};
 pub use meter::Meter;
 pub use signed::SignedMeter;
 pub use watch::{Entries, Entry, WatchList, WATCH_PLACES, WATCH_SIZE};
@@ -99,24 +98,6 @@ fn call_from<F>(mut figure: F, f: impl FnOnce(*mut u64, *mut F) -> u32) -> Answe
     Answer { number, place, figure }
 }
 
-/// A call that gives level and row beside the figure. All are written by every call.
-#[inline]
-fn call_reading(f: impl FnOnce(*mut u64, *mut u64, *mut u32, *mut u32) -> u32) -> Answer<Reading> {
-    let mut reading = Reading {
-        figure: u64::MAX,
-        level: u32::MAX,
-        row: u32::MAX,
-    };
-    let Reading { figure, level, row } = &mut reading;
-    let mut place = u64::MAX;
-    let number = f(&mut place, figure, level, row);
-    Answer {
-        number,
-        place,
-        figure: reading,
-    }
-}
-
 /// Sets every byte of a memory to 0.
 #[must_use = "the call may be refused"]
 pub fn clear(d: usize, w: usize, memory: &mut [u8]) -> Answer {
@@ -142,23 +123,12 @@ pub fn update(d: usize, w: usize, memory: &mut [u8], key: &[u8], amount: u32) ->
     })
 }
 
-/// The least figure of the key's counters, with level and row of that counter.
+/// The least figure of the key's counters.
 #[inline]
 #[must_use = "the call may be refused"]
-pub fn estimate(d: usize, w: usize, memory: &[u8], key: &[u8]) -> Answer<Reading> {
-    call_reading(|place, figure, level, row| unsafe {
-        ffi::meter_estimate(
-            d,
-            w,
-            memory.as_ptr(),
-            memory.len(),
-            key.as_ptr(),
-            key.len(),
-            place,
-            figure,
-            level,
-            row,
-        )
+pub fn estimate(d: usize, w: usize, memory: &[u8], key: &[u8]) -> Answer {
+    call(|place, figure| unsafe {
+        ffi::meter_estimate(d, w, memory.as_ptr(), memory.len(), key.as_ptr(), key.len(), place, figure)
     })
 }
 
@@ -241,12 +211,12 @@ pub fn feed_head(words: &[u32]) -> Answer {
     call(|place, figure| unsafe { ffi::meter_feed_head(words.as_ptr(), words.len(), place, figure) })
 }
 
-/// Carries out the record or the end of a feed that the words start with, after so many words of the feed. An asking record gives the
-/// estimate with its level and row; of an update record and of the end all three are 0.
+/// Carries out the record or the end of a feed that the words start with, after so many words of the feed. The figure of an asking
+/// record is the estimate.
 #[inline]
 #[must_use = "the call may be refused"]
-pub fn feed_record(d: usize, w: usize, memory: &mut [u8], before: u64, words: &[u32]) -> Answer<Reading> {
-    call_reading(|place, figure, level, row| unsafe {
+pub fn feed_record(d: usize, w: usize, memory: &mut [u8], before: u64, words: &[u32]) -> Answer {
+    call(|place, figure| unsafe {
         ffi::meter_feed_record(
             d,
             w,
@@ -257,8 +227,6 @@ pub fn feed_record(d: usize, w: usize, memory: &mut [u8], before: u64, words: &[
             words.len(),
             place,
             figure,
-            level,
-            row,
         )
     })
 }
@@ -277,8 +245,8 @@ pub fn watch_clear(list: &mut [u8]) -> Answer {
     call(|place, figure| unsafe { ffi::meter_watch_clear(list.as_mut_ptr(), list.len(), place, figure) })
 }
 
-/// An update of a meter that a watch list takes note of, or no change of either: a listed key's estimate is renewed with its level, and
-/// one that is not listed joins if its estimate is now at or above the threshold, or sets the mark where no place is free.
+/// An update of a meter that a watch list takes note of, or no change of either: a listed key's estimate is renewed, and one that is
+/// not listed joins if its estimate is now at or above the threshold, or sets the mark where no place is free.
 #[inline]
 #[must_use = "the call may be refused"]
 pub fn watch_update(d: usize, w: usize, memory: &mut [u8], list: &mut [u8], key: &[u8], amount: u32, threshold: u64) -> Answer {

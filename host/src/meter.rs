@@ -1,6 +1,6 @@
 //! A meter that knows its own depth and width.
 
-use crate::{Reading, Reason, Refused};
+use crate::{Reason, Refused};
 use std::fmt;
 
 /// A meter that owns its memory and keeps the depth `d` and the width `w` that it was made with, so that no call can be told
@@ -16,7 +16,6 @@ use std::fmt;
 /// here.update(b"tenant-17", 1_500)?;
 /// here.update(b"tenant-17", 64)?;
 /// assert_eq!(here.estimate(b"tenant-17")?, 1_564);
-/// assert_eq!(here.reading(b"tenant-17")?.slots(), 2);
 /// assert_eq!(here.widest()?, 1);
 ///
 /// // The image says d and w itself.
@@ -96,7 +95,7 @@ impl Meter {
     /// let mut meter = Meter::from_feed_head(&feed)?;
     /// assert_eq!((meter.d(), meter.w()), (1, 32));
     /// meter.record(1, &feed[1..])?;
-    /// assert_eq!(meter.record(5, &feed[5..])?.figure, 300);
+    /// assert_eq!(meter.record(5, &feed[5..])?, 300);
     /// assert_eq!(Meter::from_feed_head(&[]).unwrap_err().reason, Reason::Word);
     /// # Ok::<(), meter::Refused>(())
     /// ```
@@ -151,25 +150,6 @@ impl Meter {
     ///
     /// Refused with [`Reason::KeyLength`].
     pub fn estimate(&self, key: &[u8]) -> Result<u64, Refused> {
-        self.reading(key).map(|reading| reading.figure)
-    }
-
-    /// The estimate with how coarse it is: the least of the key's counters, its level and the row that it is in. That many slots of that
-    /// row share the figure, which from clearing on is exactly what was accepted for the keys that land there.
-    ///
-    /// Refused with [`Reason::KeyLength`].
-    ///
-    /// ```
-    /// # use meter::{Meter, Reading};
-    /// let mut meter = Meter::new(1, 32)?;
-    /// meter.update(b"A", 300)?;
-    /// let reading = meter.reading(b"A")?;
-    /// assert_eq!(reading, Reading { figure: 300, level: 1, row: 0 });
-    /// assert_eq!(reading.slots(), 2);
-    /// assert_eq!(meter.estimate(b"A")?, reading.figure);
-    /// # Ok::<(), meter::Refused>(())
-    /// ```
-    pub fn reading(&self, key: &[u8]) -> Result<Reading, Refused> {
         crate::estimate(self.d, self.w, &self.bytes, key).result()
     }
 
@@ -236,12 +216,12 @@ impl Meter {
             .map(|count| count as usize)
     }
 
-    /// Carries out the record or the end of a feed that the words start with, after so many words of the feed. An asking record gives
-    /// what [`Meter::reading`] does for its key; of an update record and of the end all is 0. No word after the record is looked at.
+    /// Carries out the record or the end of a feed that the words start with, after so many words of the feed. The figure of an
+    /// asking record is the estimate, else 0. No word after the record is looked at.
     ///
     /// Refused with [`Reason::Word`], [`Reason::Payload`] and [`Reason::KeyLength`] at the first faulty word, and with
     /// [`Reason::CounterFull`].
-    pub fn record(&mut self, before: u64, words: &[u32]) -> Result<Reading, Refused> {
+    pub fn record(&mut self, before: u64, words: &[u32]) -> Result<u64, Refused> {
         crate::feed_record(self.d, self.w, &mut self.bytes, before, words).result()
     }
 }

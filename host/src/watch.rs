@@ -1,6 +1,5 @@
 //! A watch list that knows its own layout.
 
-use crate::answer::slots;
 use crate::{Meter, Reason, Refused};
 use std::fmt;
 use std::ops::Range;
@@ -9,18 +8,17 @@ use std::ops::Range;
 pub const WATCH_PLACES: usize = 64;
 
 /// The bytes of a watch list.
-pub const WATCH_SIZE: usize = 4_737;
+pub const WATCH_SIZE: usize = 4_673;
 
-// The layout: the key length of each place, the mark, the keys, the estimates, their levels.
+// The layout: the key length of each place, the mark, the keys, the estimates.
 const MARK: usize = 64;
 const KEYS: usize = 65;
 const KEY_SIZE: usize = 64;
 const ESTIMATES: usize = 4_161;
 const ESTIMATE_SIZE: usize = 8;
-const LEVELS: usize = 4_673;
 
 /// The heavy keys of a meter: up to 64 keys, in the order they joined, each with the estimate that it had at its last update through
-/// the list and the level of that estimate. It is kept beside a [`Meter`] and owns its bytes.
+/// the list. It is kept beside a [`Meter`] and owns its bytes.
 ///
 /// A key joins when an update through the list leaves its estimate at or above the threshold handed in with it. Where all places are
 /// taken, such a key sets the mark instead, which stays until the list is cleared. While the mark is off, and if all updates since
@@ -36,7 +34,7 @@ const LEVELS: usize = 4_673;
 /// heavy.update(&mut meter, b"tenant-18", 40, 1_000)?;
 /// heavy.update(&mut meter, b"tenant-17", 64, 1_000)?;
 /// for entry in &heavy {
-///     assert_eq!((entry.key, entry.estimate, entry.slots()), (&b"tenant-17"[..], 1_564, 2));
+///     assert_eq!((entry.key, entry.estimate), (&b"tenant-17"[..], 1_564));
 /// }
 /// assert_eq!((heavy.len(), heavy.is_marked()), (1, false));
 /// assert_eq!(meter.estimate(b"tenant-18")?, 40);
@@ -53,23 +51,13 @@ pub struct WatchList {
     bytes: Box<[u8; WATCH_SIZE]>,
 }
 
-/// A key of a watch list, with its estimate and the level of that.
+/// A key of a watch list, with its estimate.
 #[derive(Clone, Copy, Debug, PartialEq, Eq, Hash)]
 pub struct Entry<'a> {
     /// The key.
     pub key: &'a [u8],
     /// The estimate that it had at its last update through the list.
     pub estimate: u64,
-    /// The level of that estimate, 0 to 3. A list does not keep the row.
-    pub level: u32,
-}
-
-impl Entry<'_> {
-    /// How many slots shared the estimate: 1, 2, 4 or 8.
-    #[must_use]
-    pub fn slots(self) -> usize {
-        slots(self.level)
-    }
 }
 
 impl WatchList {
@@ -85,8 +73,8 @@ impl WatchList {
 
     /// The list that the bytes are. Bytes past a key and in free places may hold anything.
     ///
-    /// Refused with [`Reason::Length`] and, where a key length is above 64, a length other than 0 follows a 0, the mark is above 1 or
-    /// the level of a listed key above 3, with [`Reason::Content`].
+    /// Refused with [`Reason::Length`] and, where a key length is above 64, a length other than 0 follows a 0 or the mark is above 1,
+    /// with [`Reason::Content`].
     ///
     /// ```
     /// # use meter::{Reason, WatchList, WATCH_SIZE};
@@ -108,7 +96,7 @@ impl WatchList {
         }
     }
 
-    /// The bytes: 64 key lengths, the mark, 64 keys of 64 bytes, 64 estimates of eight bytes, lowest first, 64 levels.
+    /// The bytes: 64 key lengths, the mark, 64 keys of 64 bytes, 64 estimates of eight bytes, lowest first.
     #[must_use]
     pub fn bytes(&self) -> &[u8] {
         &self.bytes[..]
@@ -189,7 +177,6 @@ impl WatchList {
                 .iter()
                 .rev()
                 .fold(0, |number, byte| number << 8 | u64::from(*byte)),
-            level: u32::from(self.bytes[LEVELS + place]),
         }
     }
 }

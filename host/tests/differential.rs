@@ -1,17 +1,15 @@
 //! The proved calls beside an independent implementation of documents 01 and 02, on random lists of calls. After every call number,
-//! place and figure are compared, an estimate's level and row too, and the whole content of everything that was lent.
+//! place and figure are compared, and the whole content of everything that was lent.
 
 mod common;
 
 use common::{
-    amount, answered, break_list, damage, key, lend_bytes, lend_words, list, memory, other_length, record, seed, some_image,
-    told, unmerged, valid_keys, widths, Lent, Numbers, Rng,
+    amount, break_list, damage, key, lend_bytes, lend_words, list, memory, other_length, record, seed, some_image, told,
+    unmerged, valid_keys, widths, Lent, Numbers, Rng,
 };
-use meter::{Reading, LARGEST_WIDTH};
+use meter::LARGEST_WIDTH;
 use reference::{Memory, Record, Watch, WATCH_SIZE};
-use std::collections::{BTreeMap, BTreeSet};
-use std::fmt::Debug;
-use std::ops::Range;
+use std::collections::BTreeMap;
 use std::time::Instant;
 
 /// Which numbers each call can give.
@@ -41,9 +39,7 @@ const EVENTS: &[&str] = &[
     "joined",
     "joined at its threshold",
     "joined by 0",
-    "joined above level 0",
     "renewed",
-    "renewed at another level",
     "renewed below the threshold",
     "renewed at the first of two places",
     "below the threshold",
@@ -51,13 +47,11 @@ const EVENTS: &[&str] = &[
     "taken off the first place",
     "taken off the last of 64 places",
     "taken off the first of two places",
-    "taken off before another level",
     "not there to be taken off",
     "a length above 64",
     "a 0 before a length",
     "a length after a 0",
     "a mark above 1",
-    "a level above 3",
 ];
 
 /// How often each call gave each number.
@@ -68,13 +62,11 @@ struct Tally {
     later: BTreeMap<(&'static str, u32), u64>,
     /// Of feed records, by what they are, where their words pass.
     records: BTreeMap<(&'static str, u32), u64>,
-    /// The levels and rows that accepted estimates gave, by call and by record.
-    counters: BTreeSet<(&'static str, u32, u32)>,
     events: BTreeMap<&'static str, u64>,
 }
 
 impl Tally {
-    fn compare<F: Debug + PartialEq>(&mut self, call: &'static str, proved: meter::Answer<F>, model: reference::Answer<F>) {
+    fn compare(&mut self, call: &'static str, proved: meter::Answer, model: reference::Answer) {
         assert_eq!(
             (proved.number, proved.place, proved.figure),
             (model.number, model.place, model.figure),
@@ -83,19 +75,6 @@ impl Tally {
         self.given.note(call, proved.number);
         if proved.place > 0 {
             *self.later.entry((call, proved.number)).or_default() += 1;
-        }
-    }
-
-    /// The same with level and row.
-    fn compare_reading(
-        &mut self,
-        call: &'static str,
-        proved: meter::Answer<Reading>,
-        model: reference::Answer<reference::Reading>,
-    ) {
-        self.compare(call, answered(proved), model);
-        if proved.number == 0 {
-            self.counters.insert((call, proved.figure.level, proved.figure.row));
         }
     }
 
@@ -119,14 +98,6 @@ impl Tally {
             ("end", 0),
         ] {
             assert!(self.records.contains_key(&known), "{known:?}");
-        }
-        for call in ["estimate", "feed_record"] {
-            for (level, row) in (0..4).flat_map(|level| (0..8).map(move |row| (level, row))) {
-                assert!(
-                    self.counters.contains(&(call, level, row)),
-                    "{call}: level {level}, row {row}"
-                );
-            }
         }
     }
 }
@@ -195,7 +166,7 @@ impl List {
     fn estimate(&mut self, d: usize, w: usize, p: &mut Pair, key: &[u8]) {
         let a = meter::estimate(d, w, p.proved.get(), key);
         self.tally
-            .compare_reading("estimate", a, reference::estimate(d, w, &mut p.model, key));
+            .compare("estimate", a, reference::estimate(d, w, &mut p.model, key));
         p.compare("estimate");
     }
 
@@ -267,7 +238,7 @@ impl List {
         let lent = lend_words(words);
         let a = meter::feed_record(d, w, p.proved.get_mut(), before, lent.get());
         let (model, record) = reference::feed_record(d, w, &mut p.model, before, words);
-        self.tally.compare_reading("feed_record", a, model);
+        self.tally.compare("feed_record", a, model);
         let kind = match record {
             Some(Record::Update(..)) => "update",
             Some(Record::Ask(_)) => "asking",
@@ -299,14 +270,10 @@ impl List {
             return;
         }
         let [before, after] = [&before, &l.model].map(|bytes| Watch::parse(bytes).expect("a list"));
-        let listed = after.find(key).map(|at| &after.places[at]);
-        let estimate = listed.map(|place| place.estimate);
-        match (before.find(key), listed) {
+        let estimate = after.find(key).map(|at| after.places[at].estimate);
+        match (before.find(key), estimate) {
             (Some(at), _) => {
                 self.tally.event("renewed");
-                if listed.is_some_and(|place| place.level != before.places[at].level) {
-                    self.tally.event("renewed at another level");
-                }
                 if estimate < Some(threshold) {
                     self.tally.event("renewed below the threshold");
                 }
@@ -314,13 +281,10 @@ impl List {
                     self.tally.event("renewed at the first of two places");
                 }
             }
-            (None, Some(joined)) => {
+            (None, Some(estimate)) => {
                 self.tally.event("joined");
-                if joined.estimate == threshold {
+                if estimate == threshold {
                     self.tally.event("joined at its threshold");
-                }
-                if joined.level > 0 {
-                    self.tally.event("joined above level 0");
                 }
                 if amount == 0 {
                     self.tally.event("joined by 0");
@@ -354,15 +318,11 @@ impl List {
         if before.places.iter().filter(|place| place.key == key).count() > 1 {
             self.tally.event("taken off the first of two places");
         }
-        let moved = before.find(key).map(|at| &before.places[at..before.used()]);
-        if moved.is_some_and(|places| places.windows(2).any(|two| two[0].level != two[1].level)) {
-            self.tally.event("taken off before another level");
-        }
     }
 
     /// A threshold: 0, 1, small, large, or close to what the key comes to.
     fn threshold(&mut self, (d, w): (usize, usize), p: &mut Pair, key: &[u8], amount: u32) -> u64 {
-        let estimate = reference::estimate(d, w, &mut p.model, key).figure.figure;
+        let estimate = reference::estimate(d, w, &mut p.model, key).figure;
         match self.rng.below(16) {
             0 => 0,
             1..=5 => 1,
@@ -538,8 +498,9 @@ fn random_lists_of_watch_calls() {
     }
 }
 
-/// Every byte at each of these offsets, in lists with few and with many places in use: a call takes the list, or refuses it.
-fn every_byte(offsets: Range<usize>) {
+/// Every key length at every place and every mark, in lists with few and with many places in use: a call takes them, or refuses.
+#[test]
+fn all_lengths_and_marks() {
     let mut list = List {
         rng: Rng::new(0),
         tally: Tally::default(),
@@ -551,7 +512,7 @@ fn every_byte(offsets: Range<usize>) {
             bytes[place] = 1 + place as u8;
             bytes[65 + 64 * place..][..64].fill(b'k');
         }
-        for at in offsets.clone() {
+        for at in 0..65 {
             for byte in 0..=255 {
                 let mut lists = Lists::new(&bytes);
                 lists.model[at] = byte;
@@ -566,18 +527,6 @@ fn every_byte(offsets: Range<usize>) {
     for call in ["watch_remove", "watch_update"] {
         assert!([0, 5].iter().all(|n| list.tally.given.has(call, *n)), "{call}");
     }
-}
-
-/// Every key length at every place, and every mark.
-#[test]
-fn all_lengths_and_marks() {
-    every_byte(0..65);
-}
-
-/// Every level at every place, in use and free.
-#[test]
-fn all_levels() {
-    every_byte(4_673..4_737);
 }
 
 /// Every layout code, those just past the last, and every merge byte at each place.
@@ -691,10 +640,12 @@ fn the_widest_row() {
         let (m, key) = (&mut memory, b"tenant-17");
         for (call, answer, otherwise) in [
             ("update", meter::update(1, w, m, key, 1), 5),
+            ("estimate", meter::estimate(1, w, m, key), 5),
             ("widest", meter::widest(1, w, m), 5),
             ("unite", meter::unite(1, w, m, &before), 5),
             ("image_write", meter::image_write(1, w, m, &mut words), 5),
             ("image_read", meter::image_read(1, w, m, &[0x1000_0051]), 10),
+            ("feed_record", meter::feed_record(1, w, m, 1, &[0x6000_0001, 0x7041_0000]), 5),
             ("watch_update", meter::watch_update(1, w, m, &mut list, key, 1, 1), 5),
             ("signed_update", meter::signed_update(1, w, m, key, 1), 5),
             ("signed_unite", meter::signed_unite(1, w, m, &before), 5),
@@ -702,13 +653,6 @@ fn the_widest_row() {
         ] {
             let given = (answer.number, answer.place, answer.figure);
             assert_eq!(given, (number(otherwise), 0, 0), "{call}: w {w}, {lent} bytes");
-        }
-        for (call, answer) in [
-            ("estimate", meter::estimate(1, w, m, key)),
-            ("feed_record", meter::feed_record(1, w, m, 1, &[0x6000_0001, 0x7041_0000])),
-        ] {
-            let given = (answer.number, answer.place, answer.figure);
-            assert_eq!(given, (number(5), 0, Reading::default()), "{call}: w {w}, {lent} bytes");
         }
         let answer = meter::signed_estimate(1, w, m, key);
         assert_eq!(

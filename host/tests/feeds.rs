@@ -3,9 +3,8 @@
 mod common;
 
 use common::{amount, record_words, seed, Rng};
-use meter::Reading;
 
-fn accepted<F>(figure: F) -> meter::Answer<F> {
+fn accepted(figure: u64) -> meter::Answer {
     meter::Answer {
         number: 0,
         place: 0,
@@ -28,15 +27,9 @@ fn example() {
     ];
     let mut memory = [0; 36];
     assert_eq!(meter::feed_head(&feed), accepted(0x51));
-    let estimate = Reading {
-        figure: 300,
-        level: 1,
-        row: 0,
-    };
-    let nothing = accepted(Reading::default());
-    assert_eq!(meter::feed_record(1, 32, &mut memory, 1, &feed[1..]), nothing);
-    assert_eq!(meter::feed_record(1, 32, &mut memory, 5, &feed[5..]), accepted(estimate));
-    assert_eq!(meter::feed_record(1, 32, &mut memory, 7, &feed[7..]), nothing);
+    assert_eq!(meter::feed_record(1, 32, &mut memory, 1, &feed[1..]), accepted(0));
+    assert_eq!(meter::feed_record(1, 32, &mut memory, 5, &feed[5..]), accepted(300));
+    assert_eq!(meter::feed_record(1, 32, &mut memory, 7, &feed[7..]), accepted(0));
     assert_eq!([1, 5, 7].map(|at| meter::feed_taken(&feed[at..])), [4, 2, 1]);
 }
 
@@ -64,18 +57,12 @@ fn records_are_the_calls() {
             let before = by_record.clone();
             for cut in 0..words.len() {
                 let answer = meter::feed_record(d, w, &mut by_record, start as u64, &words[..cut]);
-                assert_eq!(
-                    (answer.number, answer.place, answer.figure),
-                    (8, cut as u64, Reading::default())
-                );
+                assert_eq!((answer.number, answer.place, answer.figure), (8, cut as u64, 0));
                 assert!(by_record == before, "a record cut short changes nothing");
                 cuts += 1;
             }
             let expected = match amount {
-                Some(amount) => {
-                    assert_eq!(meter::update(d, w, &mut by_call, &key, amount), accepted(0));
-                    accepted(Reading::default())
-                }
+                Some(amount) => meter::update(d, w, &mut by_call, &key, amount),
                 None => meter::estimate(d, w, &by_call, &key),
             };
             let behind = rng.below(5);
@@ -88,7 +75,7 @@ fn records_are_the_calls() {
         let end = feed.len() as u64;
         for before in [end, end + (1 << 28), end + (1 << 60)] {
             let answer = meter::feed_record(d, w, &mut by_record, before, &[0x4000_0000 | end as u32]);
-            assert_eq!(answer, accepted(Reading::default()));
+            assert_eq!(answer, accepted(0));
         }
         let answer = meter::feed_record(d, w, &mut by_record, end + 1, &[0x4000_0000 | end as u32]);
         assert_eq!((answer.number, answer.place), (9, 0));

@@ -43,8 +43,8 @@ int main(void) {
     }
     printf("%lu %lu\n", (unsigned long)METER_HEAD_D(0x10 | 1), (unsigned long)METER_HEAD_W(0x50 | 1));
     for (i = 0; i < METER_WATCH_PLACES; i++)
-        printf("%lu %lu %lu\n", (unsigned long)METER_WATCH_KEY(i), (unsigned long)METER_WATCH_ESTIMATE(i), (unsigned long)METER_WATCH_LEVEL(i));
-    printf("%lu %lu %lu\n", (unsigned long)METER_WATCH_KEY(1 + 1), (unsigned long)METER_WATCH_ESTIMATE(1 + 1), (unsigned long)METER_WATCH_LEVEL(1 + 1));
+        printf("%lu %lu\n", (unsigned long)METER_WATCH_KEY(i), (unsigned long)METER_WATCH_ESTIMATE(i));
+    printf("%lu %lu\n", (unsigned long)METER_WATCH_KEY(1 + 1), (unsigned long)METER_WATCH_ESTIMATE(1 + 1));
     list[METER_WATCH_SIZE - 1] = list[METER_WATCH_MARK];
     printf("%lu %d\n", (unsigned long)sizeof list, METER_WATCH_MARK);
     return 0;
@@ -76,12 +76,8 @@ fn expected() -> String {
         lines.push(format!("{d} {w}"));
     }
     lines.push("1 32".into());
-    // A list: the lengths, the mark, the keys, the estimates, the levels.
-    let place = |i: usize| {
-        let levels = WATCH_SIZE - WATCH_PLACES;
-        let [key, estimate, level] = [WATCH_PLACES + 1 + 64 * i, levels - 8 * (WATCH_PLACES - i), levels + i];
-        format!("{key} {estimate} {level}")
-    };
+    // A list: the lengths, the mark, the keys, the estimates.
+    let place = |i: usize| format!("{} {}", WATCH_PLACES + 1 + 64 * i, WATCH_SIZE - 8 * (WATCH_PLACES - i));
     lines.extend((0..WATCH_PLACES).map(place));
     lines.extend([place(2), format!("{WATCH_SIZE} {WATCH_PLACES}")]);
     lines.join("\n") + "\n"

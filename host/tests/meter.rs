@@ -3,24 +3,21 @@
 
 mod common;
 
-use common::{
-    amount, break_list, damage, found, key, list, memory, record, seed, some_image, valid_keys, Numbers, Rng, LAST_NUMBER,
-};
+use common::{amount, break_list, damage, key, list, memory, record, seed, some_image, valid_keys, Numbers, Rng, LAST_NUMBER};
 use meter::{most_image_words, Entry, Meter, Reason, Refused, WatchList, LARGEST_WIDTH, WATCH_SIZE};
 use reference::{Memory, Watch};
-use std::fmt::Debug;
 
 #[derive(Default)]
 struct Tally(Numbers);
 
 impl Tally {
     /// What the reference answered, as a result.
-    fn compare<T, F: Debug + PartialEq>(
+    fn compare<T>(
         &mut self,
         method: &'static str,
         proved: Result<T, Refused>,
-        model: reference::Answer<F>,
-        figure: impl Fn(T) -> F,
+        model: reference::Answer,
+        figure: impl Fn(T) -> u64,
     ) {
         let proved = proved.map(figure).map_err(|refused| (refused.number(), refused.place));
         let expected = if model.number == 0 {
@@ -156,9 +153,7 @@ fn methods() {
                 }
                 4 | 5 => {
                     let answer = reference::estimate(d, w, &mut memory, &other_key);
-                    let reading = meter.reading(&other_key);
-                    assert_eq!(meter.estimate(&other_key), reading.map(|reading| reading.figure));
-                    tally.compare("reading", reading, answer, found);
+                    tally.compare("estimate", meter.estimate(&other_key), answer, |figure| figure);
                 }
                 6 => {
                     let answer = reference::widest(d, w, &mut memory);
@@ -192,7 +187,7 @@ fn methods() {
                     let before = rng.next() >> rng.below(64);
                     let words = record(&mut rng, before, &other_key);
                     let (answer, _) = reference::feed_record(d, w, &mut memory, before, &words);
-                    tally.compare("record", meter.record(before, &words), answer, found);
+                    tally.compare("record", meter.record(before, &words), answer, |figure| figure);
                 }
             }
             assert!(meter.bytes() == memory.to_bytes(), "the memory after a call");
@@ -203,7 +198,7 @@ fn methods() {
     }
     tally.0.finish(&[
         ("update", &[0, 4, 6]),
-        ("reading", &[0, 4]),
+        ("estimate", &[0, 4]),
         ("widest", &[0]),
         ("unite", &[0, 6]),
         ("write_image", &[0, 7]),
@@ -301,15 +296,11 @@ fn told_right(watch: &WatchList, bytes: &[u8], some_key: &[u8]) {
         .map(|place| Entry {
             key: &place.key,
             estimate: place.estimate,
-            level: u32::from(place.level),
         })
         .collect();
     assert_eq!((watch.len(), watch.is_empty()), (used, used == 0));
     assert_eq!(watch.is_marked(), expected.marked);
     assert_eq!(watch.iter().collect::<Vec<_>>(), entries);
-    for entry in watch {
-        assert_eq!(entry.slots(), [1, 2, 4, 8][entry.level as usize]);
-    }
     assert_eq!(watch.into_iter().len(), used);
     assert!(watch.iter().rev().eq(entries.into_iter().rev()), "from the last on");
     let estimate = expected.find(some_key).map(|at| expected.places[at].estimate);
@@ -416,6 +407,6 @@ fn debug_is_short() {
     watch.update(&mut largest.clone(), b"A", 300, 300).expect("accepted");
     assert_eq!(
         format!("{watch:?}"),
-        "WatchList { entries: [Entry { key: [65], estimate: 300, level: 1 }], marked: false }"
+        "WatchList { entries: [Entry { key: [65], estimate: 300 }], marked: false }"
     );
 }

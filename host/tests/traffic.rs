@@ -1,12 +1,11 @@
 //! Demand 3 on random lists of calls: after every call each estimate lies between the key's total and the least, over the rows, of
-//! the totals of the level L blocks it lands in, and the widest level is L. And what an estimate's level and row mean: its figure is the
-//! total of the block of that level that the key lands in, in that row. Totals come from the traffic of a list, which sees the calls'
-//! arguments and whether each was accepted, and no memory.
+//! the totals of the level L blocks it lands in, and the widest level is L. Totals come from the traffic of a list, which sees the
+//! calls' arguments and whether each was accepted, and no memory.
 
 mod common;
 
 use common::{amount, break_list, list, memory, record_words, seed, Rng};
-use meter::{Reading, LARGEST_WIDTH};
+use meter::LARGEST_WIDTH;
 use std::collections::BTreeMap;
 
 /// The traffic of a list of calls: pairs of key and amount, those of one key added up.
@@ -55,8 +54,6 @@ struct Seen {
     images: u64,
     watched: u64,
     levels: [u64; 4],
-    /// Estimates by their level and row.
-    counters: [[u64; 8]; 4],
 }
 
 fn check(d: usize, w: usize, m: &mut Meter, keys: &[Vec<u8>], seen: &mut Seen) {
@@ -70,19 +67,12 @@ fn check(d: usize, w: usize, m: &mut Meter, keys: &[Vec<u8>], seen: &mut Seen) {
         assert_eq!(answer.number, 0, "every key is accepted");
         let asked = meter::feed_record(d, w, &mut m.memory, 0, &record_words(key, None));
         assert_eq!(asked, answer, "an asking record gives the estimate");
-        let Reading { figure, level, row } = answer.figure;
-        let (figure, level, row) = (u128::from(figure), level as usize, row as usize);
-        let block = totals[row][level][reference::slot(row, key, w) >> level];
-        assert_eq!(
-            figure, block,
-            "the figure is the total of the block of level {level} in row {row}"
-        );
+        let figure = answer.figure as u128;
         let least = m.traffic.get(key).copied().unwrap_or(0);
         let most = (0..d).map(|r| totals[r][l][reference::slot(r, key, w) >> l]).min().unwrap();
         assert!(least <= figure, "{figure} is at least the key's total {least}");
         assert!(figure <= most, "{figure} is at most {most}");
         seen.estimates += 1;
-        seen.counters[level][row] += 1;
         seen.exact += (figure == least) as u64;
     }
 }
@@ -168,17 +158,17 @@ fn call(rng: &mut Rng, d: usize, w: usize, meters: &mut [Meter], keys: &[Vec<u8>
         }
         _ => {
             let amount = if rng.once_in(3) { amount(rng) } else { rng.below(100) as u32 };
-            let number = if rng.once_in(3) {
-                meter::feed_record(d, w, &mut m.memory, rng.next(), &record_words(key, Some(amount))).number
+            let answer = if rng.once_in(3) {
+                meter::feed_record(d, w, &mut m.memory, rng.next(), &record_words(key, Some(amount)))
             } else {
-                meter::update(d, w, &mut m.memory, key, amount).number
+                meter::update(d, w, &mut m.memory, key, amount)
             };
-            match number {
+            match answer.number {
                 0 => *m.traffic.entry(key.clone()).or_default() += amount as u128,
                 6 => seen.full += 1,
                 n => panic!("an update of a listed meter gave {n}"),
             }
-            number == 0
+            answer.number == 0
         }
     };
     seen.calls += 1;
@@ -226,11 +216,6 @@ fn estimates_lie_between_the_two_figures() {
     );
     assert!(seen.watched > 1_000, "updates through lists were accepted");
     assert!(seen.levels.iter().all(|&n| n > 100), "every L was reached");
-    println!("estimates by level and row: {:?}", seen.counters);
-    assert!(
-        seen.counters.iter().flatten().all(|&n| n > 100),
-        "every level was given in every row"
-    );
     assert!(seen.full > 10, "a full counter was reached");
     assert!(seen.exact > 0 && seen.exact < seen.estimates);
 }

@@ -5,12 +5,9 @@
 mod common;
 
 use common::{amount, seed, valid_keys, Rng};
-use meter::{Reading, WatchList, WATCH_PLACES, WATCH_SIZE};
+use meter::{WatchList, WATCH_PLACES, WATCH_SIZE};
 use reference::{Place, Watch};
 use std::collections::{BTreeMap, BTreeSet};
-
-/// A listed key, its estimate and the level of that.
-type Listed = (Vec<u8>, u64, u32);
 
 /// What is known of the calls so far.
 #[derive(Default)]
@@ -18,8 +15,8 @@ struct Book {
     totals: BTreeMap<Vec<u8>, u128>,
     /// Taken off since their last accepted update.
     off: BTreeSet<Vec<u8>>,
-    /// The listed keys with their estimates and levels, and the mark.
-    entries: Vec<Listed>,
+    /// The listed keys with their estimates, and the mark.
+    entries: Vec<(Vec<u8>, u64)>,
     marked: bool,
 }
 
@@ -33,8 +30,6 @@ struct Seen {
     excused: u64,
     joined: u64,
     joined_again: u64,
-    /// Listed keys that were renewed at a higher level.
-    widened: u64,
     marked: u64,
     /// Lists with all places taken and no mark.
     full: u64,
@@ -42,7 +37,7 @@ struct Seen {
 
 /// What holds of the list after every call.
 fn check(book: &Book, list: &[u8], threshold: u64, seen: &mut Seen) {
-    let listed: BTreeSet<&[u8]> = book.entries.iter().map(|(key, ..)| &key[..]).collect();
+    let listed: BTreeSet<&[u8]> = book.entries.iter().map(|(key, _)| &key[..]).collect();
     assert_eq!(listed.len(), book.entries.len(), "no key is there twice");
     for (key, total) in &book.totals {
         if *total < u128::from(threshold) || book.marked {
@@ -55,7 +50,7 @@ fn check(book: &Book, list: &[u8], threshold: u64, seen: &mut Seen) {
             seen.excused += 1;
         }
     }
-    for (key, estimate, _) in &book.entries {
+    for (key, estimate) in &book.entries {
         let total = book.totals.get(key).copied().unwrap_or(0);
         assert!(u128::from(*estimate) >= total, "{estimate} is at least {total}");
     }
@@ -64,9 +59,9 @@ fn check(book: &Book, list: &[u8], threshold: u64, seen: &mut Seen) {
     let mut places: Vec<Place> = book
         .entries
         .iter()
-        .map(|(key, estimate, level)| Place::new(key, *estimate, *level as u8))
+        .map(|(key, estimate)| Place::new(key, *estimate))
         .collect();
-    places.resize(WATCH_PLACES, Place::free());
+    places.resize(WATCH_PLACES, Place::new(b"", 0));
     let expected = Watch {
         marked: book.marked,
         places,
@@ -74,10 +69,10 @@ fn check(book: &Book, list: &[u8], threshold: u64, seen: &mut Seen) {
     assert!(expected.bytes() == list, "unused bytes are 0");
 }
 
-fn read(list: &[u8]) -> (Vec<Listed>, bool) {
+fn read(list: &[u8]) -> (Vec<(Vec<u8>, u64)>, bool) {
     let watch = WatchList::from_bytes(list.to_vec()).expect("a list");
-    let entries = watch.iter().map(|entry| (entry.key.to_vec(), entry.estimate, entry.level));
-    (entries.collect(), watch.is_marked())
+    let entries = watch.iter().map(|entry| (entry.key.to_vec(), entry.estimate)).collect();
+    (entries, watch.is_marked())
 }
 
 /// A call that is refused, whatever else it is handed.
@@ -111,7 +106,7 @@ fn heavy_keys_are_listed() {
             seen.calls += 1;
             let key = &keys[rng.below(count)];
             let before = (memory.clone(), list.clone());
-            let was = book.entries.iter().position(|(listed, ..)| listed == key);
+            let was = book.entries.iter().position(|(listed, _)| listed == key);
             match rng.below(24) {
                 0 => {
                     let number = refused_call(&mut rng, d, w, &mut memory, &mut list, key, threshold);
@@ -136,21 +131,16 @@ fn heavy_keys_are_listed() {
                     let answer = meter::watch_update(d, w, &mut memory, &mut list, key, amount, threshold);
                     assert_eq!((answer.number, answer.place, answer.figure), (0, 0, 0));
                     *book.totals.entry(key.clone()).or_default() += u128::from(amount);
-                    let Reading {
-                        figure: estimate, level, ..
-                    } = meter::estimate(d, w, &memory, key).figure;
+                    let estimate = meter::estimate(d, w, &memory, key).figure;
                     match was {
-                        Some(at) => {
-                            seen.widened += u64::from(book.entries[at].2 < level);
-                            book.entries[at] = (key.clone(), estimate, level);
-                        }
+                        Some(at) => book.entries[at].1 = estimate,
                         None if estimate < threshold => {}
                         None if book.entries.len() == WATCH_PLACES => {
                             seen.marked += u64::from(!book.marked);
                             book.marked = true;
                         }
                         None => {
-                            book.entries.push((key.clone(), estimate, level));
+                            book.entries.push((key.clone(), estimate));
                             seen.joined += 1;
                             seen.joined_again += u64::from(book.off.contains(key));
                         }
@@ -166,10 +156,10 @@ fn heavy_keys_are_listed() {
         }
     }
     println!(
-        "{} calls, {} of them refused; {} times a heavy key was listed, {} times one was off; {} joined, {} of them again; {} widened; {} marks; {} full without",
-        seen.calls, seen.refused, seen.heavy, seen.excused, seen.joined, seen.joined_again, seen.widened, seen.marked, seen.full
+        "{} calls, {} of them refused; {} times a heavy key was listed, {} times one was off; {} joined, {} of them again; {} marks; {} full without",
+        seen.calls, seen.refused, seen.heavy, seen.excused, seen.joined, seen.joined_again, seen.marked, seen.full
     );
     assert!(seen.heavy > 100_000 && seen.excused > 10_000);
-    assert!(seen.joined > 10_000 && seen.joined_again > 1_000 && seen.widened > 1_000);
+    assert!(seen.joined > 10_000 && seen.joined_again > 1_000);
     assert!(seen.marked > 100 && seen.full > 100 && seen.refused > 1_000);
 }

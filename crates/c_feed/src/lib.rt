@@ -1,6 +1,6 @@
 // Feeds for C and Rust. Each function passes its arguments to the proved call and hands its answer out; include/meter.h declares it.
 ghost use Rattle.std.specs.Prelude.{◌≡◌};
-ghost use Rattle.feed.specs.Answers.{record_estimate};
+ghost use Rattle.feed.specs.Answers.{record_answer};
 ghost use Rattle.feed.specs.Head.{headed};
 ghost use Rattle.feed.specs.Record.{recorded};
 ghost use Rattle.feed_lengths.specs.Lengths.{words_taken};
@@ -23,22 +23,16 @@ pub extern "C" fn meter_feed_record(
     words: &[u32],
     place: &mut u64,
     figure: &mut u64,
-    level: &mut u32,
-    row: &mut u32,
 ) -> u32
-    ensures value { result ≡ (record_estimate (recorded d w memory.old before words.now).outcome).answer.status }
-    ensures place_after { place.new ≡ (record_estimate (recorded d w memory.old before words.now).outcome).answer.position }
-    ensures figure_after { figure.new ≡ (record_estimate (recorded d w memory.old before words.now).outcome).answer.value }
-    ensures level_after { level.new ≡ (record_estimate (recorded d w memory.old before words.now).outcome).level }
-    ensures row_after { row.new ≡ (record_estimate (recorded d w memory.old before words.now).outcome).row }
+    ensures value { result ≡ (record_answer (recorded d w memory.old before words.now).outcome).status }
+    ensures place_after { place.new ≡ (record_answer (recorded d w memory.old before words.now).outcome).position }
+    ensures figure_after { figure.new ≡ (record_answer (recorded d w memory.old before words.now).outcome).value }
     ensures memory_after { memory.new ≡ (recorded d w memory.old before words.now).memory }
 {
-    meter_least::give(
-        feed::estimate(feed::record(d, w, memory, before, words)),
+    answer::give(
+        feed::answer(feed::record(d, w, memory, before, words)),
         place,
         figure,
-        level,
-        row,
     )
 }
 

@@ -44,22 +44,12 @@ pub extern "C" fn meter_estimate(
     key: &[u8],
     place: &mut u64,
     figure: &mut u64,
-    level: &mut u32,
-    row: &mut u32,
 ) -> u32
-    ensures value { result ≡ (estimated d w memory.now key.now).answer.status }
-    ensures place_after { place.new ≡ (estimated d w memory.now key.now).answer.position }
-    ensures figure_after { figure.new ≡ (estimated d w memory.now key.now).answer.value }
-    ensures level_after { level.new ≡ (estimated d w memory.now key.now).level }
-    ensures row_after { row.new ≡ (estimated d w memory.now key.now).row }
+    ensures value { result ≡ (estimated d w memory.now key.now).status }
+    ensures place_after { place.new ≡ (estimated d w memory.now key.now).position }
+    ensures figure_after { figure.new ≡ (estimated d w memory.now key.now).value }
 {
-    meter_least::give(
-        meter::estimate(d, w, memory, key),
-        place,
-        figure,
-        level,
-        row,
-    )
+    answer::give(meter::estimate(d, w, memory, key), place, figure)
 }
 
 #[unsafe(no_mangle)]

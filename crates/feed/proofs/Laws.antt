@@ -12,7 +12,7 @@ use Rattle.feed_records.specs.declared.Body.{Body}
 use Rattle.feed_records.specs.declared.Body.TheVariants as body
 use Rattle.feed.specs.declared.Recorded.TheVariants as case
 use Rattle.feed_records.specs.Answers.{body_answer}
-use Rattle.feed.specs.Record.{refusal, update_outcome, estimate_outcome, queried, record_outcome, recorded}
+use Rattle.feed.specs.Record.{refusal, outcome_of, update_outcome, queried, record_outcome, recorded}
 use Rattle.feed_keys.specs.Keys.{key_of}
 use Rattle.feed_records.specs.Words.{opened}
 use Rattle.feed_keys.proofs.Laws.{key_length}
@@ -31,7 +31,7 @@ query_refused d w memory n words (body.Sound a) h = absurd (omega arith)
 query_refused d w memory n words (body.Refused s p) h = refl
 
 pub query_sound : (d w : ℕ) (memory : List ℕ) (n : ℕ) (words : List ℕ) (b : Body) → HasTag 0 b
-    → queried d w memory n words b ≡ estimate_outcome (estimated d w memory (key_of n words))
+    → queried d w memory n words b ≡ outcome_of (estimated d w memory (key_of n words)) (case.Estimate (estimated d w memory (key_of n words)).value)
 unfolding queried
 query_sound d w memory n words (body.Sound a) h = refl
 query_sound d w memory n words (body.Refused s p) h = absurd (omega arith)

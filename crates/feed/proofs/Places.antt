@@ -10,8 +10,6 @@ use lib.ListN.{length}
 use Rattle.answer.specs.declared.Answer.{Answer}
 use Rattle.answer.specs.Answers.{answer_of, finish, leaves}
 use Rattle.geometry.specs.Checks.{bad_shape}
-use Rattle.meter_least.specs.declared.Located.{Located}
-use Rattle.meter_least.specs.Least.{estimate_of}
 use Rattle.meter.specs.Meter.{updated, estimated}
 use Rattle.feed_records.specs.declared.Opening.{Opening}
 use Rattle.feed_records.specs.declared.Opening.TheVariants as opening
@@ -35,11 +33,6 @@ unfolding answer_of
 no_place zero v = refl
 no_place (suc s) v = refl
 
-no_estimate_place : (s : ℕ) (c : Located) → (estimate_of s c).answer.position ≡ 0
-unfolding estimate_of
-no_estimate_place zero c = refl
-no_estimate_place (suc s) c = refl
-
 outcome_in : (n : ℕ) (a : Answer) (r : Recorded) → a.position ≡ 0 → Inside n r → Inside n (outcome_of a r)
 unfolding outcome_of
 outcome_in n a r e h = test (eqb a.status 0)
@@ -61,7 +54,7 @@ unfolding queried query_body query_step body_of estimated
 query_place d w memory n words h = test (eqb (query_step n words).status 0)
   where
     test : (t : Bool) → Inside (length words) (queried d w memory n words (cond t (body.Sound 0) (body.Refused (query_step n words).status (query_step n words).position)))
-    test true = outcome_in (length words) (estimated d w memory (key_of n words)).answer _ (no_estimate_place _ _) (omega arith)
+    test true = outcome_in (length words) (estimated d w memory (key_of n words)) (case.Estimate (estimated d w memory (key_of n words)).value) (no_place _ _) (omega arith)
     test false = key_in (key_words n) n words 1 h
 
 -- what a first word that is there opens

@@ -4,7 +4,6 @@ use Rattle.answer.specs.declared.Answer.{Answer}
 use Rattle.answer.specs.Answers.{leaves}
 use Rattle.geometry.specs.Checks.{bad_shape}
 use Rattle.meter.specs.Meter.{updated, estimated}
-use Rattle.meter_least.specs.declared.Estimate.{Estimate}
 use Rattle.feed_records.specs.declared.Opening.{Opening}
 use Rattle.feed_records.specs.declared.Opening.TheVariants as opening
 use Rattle.feed_records.specs.declared.Body.{Body}
@@ -34,13 +33,10 @@ unfoldable pub update_outcome : ℕ → ℕ → List ℕ → ℕ → List ℕ �
 update_outcome d w memory n words (body.Sound a) = outcome_of (updated d w memory (key_of n words) a).answer case.Updated
 update_outcome d w memory n words (body.Refused s p) = refusal (body_answer (body.Refused s p))
 
--- an estimate's figure, level and row, or its refusal
-abbrev pub estimate_outcome : Estimate → Recorded
-estimate_outcome e = outcome_of e.answer (case.Estimate e.answer.value e.level e.row)
-
 -- a query is the meter's estimate of the record's key
 unfoldable pub queried : ℕ → ℕ → List ℕ → ℕ → List ℕ → Body → Recorded
-queried d w memory n words (body.Sound a) = estimate_outcome (estimated d w memory (key_of n words))
+queried d w memory n words (body.Sound a) =
+    outcome_of (estimated d w memory (key_of n words)) (case.Estimate (estimated d w memory (key_of n words)).value)
 queried d w memory n words (body.Refused s p) = refusal (body_answer (body.Refused s p))
 
 -- each record is opened only after its kind and key length pass

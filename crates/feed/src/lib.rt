@@ -2,7 +2,7 @@
 ghost use Rattle.std.specs.Prelude.{◌≡◌, ◌≤◌, length};
 ghost use Rattle.geometry.specs.Checks.{bad_shape, bad_key};
 ghost use Rattle.feed_records.specs.Answers.{body_answer};
-ghost use Rattle.feed.specs.Answers.{record_answer, record_estimate};
+ghost use Rattle.feed.specs.Answers.{record_answer};
 ghost use Rattle.feed_records.specs.Words.{update_body, query_body};
 ghost use Rattle.feed.specs.Record as spec;
 ghost use Rattle.feed.specs.Record.{update_outcome, queried, update_memory, finish_record, recorded};
@@ -11,36 +11,25 @@ use answer::Answer;
 pub use feed_head::{head, head_depth, head_width};
 pub use feed_lengths::{words_needed, words_taken};
 use feed_records::{Body, Opening};
-use meter_least::Estimate;
 
 // What a record or the end did.
 #[derive(Drop)]
 pub enum Recorded {
     Updated,
-    Estimate { value: u64, level: u32, row: u32 },
+    Estimate { value: u64 },
     Ended,
     Refused { status: u8, position: u64 },
 }
 
-fn answered(answer: Answer, level: u32, row: u32) -> Estimate
-    ensures { result ≡ record { answer = answer; level = level; row = row } }
-{
-    Estimate { answer, level, row }
-}
-
-// The number, place and figure of a record, and an estimate's level and row.
-pub fn estimate(r: Recorded) -> Estimate
-    ensures { result ≡ record_estimate r }
+// The number, place and figure of a record.
+pub fn answer(r: Recorded) -> Answer
+    ensures { result ≡ record_answer r }
 {
     match r {
-        Recorded::Updated => answered(answer::accepted(0), 0, 0),
-        Recorded::Estimate { value, level, row } => {
-            answered(answer::accepted(value), level, row)
-        }
-        Recorded::Ended => answered(answer::accepted(0), 0, 0),
-        Recorded::Refused { status, position } => {
-            answered(answer::refused_at(status, position), 0, 0)
-        }
+        Recorded::Updated => answer::accepted(0),
+        Recorded::Estimate { value } => answer::accepted(value),
+        Recorded::Ended => answer::accepted(0),
+        Recorded::Refused { status, position } => answer::refused_at(status, position),
     }
 }
 
@@ -96,16 +85,11 @@ fn query(d: usize, w: usize, memory: &[u8], n: usize, words: &[u32]) -> Recorded
     let Body::Sound { amount: _ } = b else {
         return refused(b);
     };
-    let e = meter::estimate_checked(d, w, memory, &key[0..n]);
-    let a = e.answer;
+    let a = meter::estimate_checked(d, w, memory, &key[0..n]);
     if a.status != 0 {
         return refusal(a);
     }
-    Recorded::Estimate {
-        value: a.value,
-        level: e.level,
-        row: e.row,
-    }
+    Recorded::Estimate { value: a.value }
 }
 
 // One update or query, or the end, after so many words of the feed.

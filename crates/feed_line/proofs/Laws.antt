@@ -22,7 +22,7 @@ by_tag : (l : Line) → continues l ≡ continuing (tag_of the-line.the_type l)
 unfolding continues
 by_tag (line.Geometry d w) = refl
 by_tag line.Updated = refl
-by_tag (line.Estimate v l r) = refl
+by_tag (line.Estimate v) = refl
 by_tag (line.End n) = refl
 by_tag (line.Refused s) = refl
 by_tag (line.Stopped s i) = refl
@@ -35,7 +35,7 @@ pub tag_end : (l : Line) → is_end l ≡ eqb (tag_of the-line.the_type l) 3
 unfolding is_end
 tag_end (line.Geometry d w) = refl
 tag_end line.Updated = refl
-tag_end (line.Estimate v l r) = refl
+tag_end (line.Estimate v) = refl
 tag_end (line.End n) = refl
 tag_end (line.Refused s) = refl
 tag_end (line.Stopped s i) = refl

@@ -14,7 +14,7 @@ refused_line s i = cond (stops s) (line.Stopped s i) (line.Refused s)
 -- whether a record follows
 unfoldable pub continues : Line → Bool
 continues line.Updated = true
-continues (line.Estimate v l r) = true
+continues (line.Estimate v) = true
 continues (line.Refused s) = true
 continues (line.Geometry d w) = true
 continues (line.End n) = false
@@ -24,7 +24,7 @@ continues (line.Stopped s i) = false
 unfoldable pub is_end : Line → Bool
 is_end (line.End n) = true
 is_end line.Updated = false
-is_end (line.Estimate v l r) = false
+is_end (line.Estimate v) = false
 is_end (line.Refused s) = false
 is_end (line.Geometry d w) = false
 is_end (line.Stopped s i) = false

@@ -7,7 +7,7 @@ ghost use Rattle.feed_line.specs.Line.{is_end};
 pub enum Line {
     Geometry { d: usize, w: usize },
     Updated,
-    Estimate { value: u64, level: u32, row: u32 },
+    Estimate { value: u64 },
     End { records: u64 },
     Refused { status: u8 },
     Stopped { status: u8, index: u64 },
@@ -20,11 +20,7 @@ pub fn continues(l: Line) -> bool
     match l {
         Line::Geometry { d: _, w: _ } => true,
         Line::Updated => true,
-        Line::Estimate {
-            value: _,
-            level: _,
-            row: _,
-        } => true,
+        Line::Estimate { value: _ } => true,
         Line::End { records: _ } => false,
         Line::Refused { status: _ } => true,
         Line::Stopped {

@@ -15,13 +15,13 @@ use Rattle.feed_lines.specs.Line.{line_of}
 pub updated_line : (r : Recorded) (before records : ℕ) → OneOf (0 ∷ []) (tag_of the-recorded.the_type r) → line_of r before records ≡ line.Updated
 unfolding line_of
 updated_line recorded.Updated before records h = refl
-updated_line (recorded.Estimate v l r) before records h = absurd (omega arith)
+updated_line (recorded.Estimate v) before records h = absurd (omega arith)
 updated_line recorded.Ended before records h = absurd (omega arith)
 updated_line (recorded.Refused s p) before records h = absurd (omega arith)
 
 pub ended_line : (r : Recorded) (before records : ℕ) → OneOf (2 ∷ []) (tag_of the-recorded.the_type r) → line_of r before records ≡ line.End records
 unfolding line_of
 ended_line recorded.Updated before records h = absurd (omega arith)
-ended_line (recorded.Estimate v l r) before records h = absurd (omega arith)
+ended_line (recorded.Estimate v) before records h = absurd (omega arith)
 ended_line recorded.Ended before records h = refl
 ended_line (recorded.Refused s p) before records h = absurd (omega arith)

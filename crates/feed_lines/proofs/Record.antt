@@ -23,7 +23,7 @@ use Rattle.feed_keys.proofs.Places.{key_in}
 use Rattle.feed_records.proofs.Places.{update_in}
 use Rattle.feed.specs.declared.Recorded.{Recorded}
 use Rattle.feed.specs.declared.Recorded.TheVariants as case
-use Rattle.feed.specs.Record.{Carried, outcome_of, update_outcome, estimate_outcome, queried, opened_outcome, recorded}
+use Rattle.feed.specs.Record.{Carried, outcome_of, update_outcome, queried, opened_outcome, recorded}
 use Rattle.feed.proofs.Cases.{carried_update, carried}
 use Rattle.feed.proofs.Laws.{record_good}
 use Rattle.feed_line.specs.declared.Line.{Line}
@@ -144,7 +144,7 @@ module _ (d w : ℕ) (memory : List ℕ) (before : ℕ) (words : List ℕ) (shap
       (updates : words_taken words ≤ length words
       → P (record { outcome = outcome_of (updated d w memory key amount).answer case.Updated; memory = (updated d w memory key amount).memory }))
       (queries : words_taken words ≤ length words
-      → P (record { outcome = estimate_outcome (estimated d w memory key); memory = memory }))
+      → P (record { outcome = outcome_of (estimated d w memory key) (case.Estimate (estimated d w memory key).value); memory = memory }))
       (ends : words_taken words ≤ length words → P (record { outcome = case.Ended; memory = memory })) where
     sound : P (carried d w memory words (opened before words))
     unfolding carried opened_outcome opened opens_key update_body query_body body_of carried_update update_outcome queried
@@ -193,7 +193,7 @@ module _ (d w : ℕ) (memory : List ℕ) (before : ℕ) (words : List ℕ) (shap
   record-lies records =
       record-cases (λ c. taken_by (line_of c.outcome before records) words ≤ length words) (λ s p h. rw h (omega arith))
       (λ h. omega (arith, taken_most (line_of (outcome_of (updated d w memory key amount).answer case.Updated) before records) words))
-      (λ h. omega (arith, taken_most (line_of (estimate_outcome (estimated d w memory key)) before records) words))
+      (λ h. omega (arith, taken_most (line_of (outcome_of (estimated d w memory key) (case.Estimate (estimated d w memory key).value)) before records) words))
       (λ h. h)
 
 -- the same of what the code finds one after another

@@ -12,7 +12,7 @@ Fitting d w = (valid_depth d ≡ true) × (valid_width w ≡ true) × (w ≤ mos
 abbrev pub FittingLine : Line → Type 0
 FittingLine (line.Geometry d w) = Fitting d w
 FittingLine line.Updated = Unit
-FittingLine (line.Estimate v l r) = Unit
+FittingLine (line.Estimate v) = Unit
 FittingLine (line.End n) = Unit
 FittingLine (line.Refused s) = Unit
 FittingLine (line.Stopped s i) = Unit

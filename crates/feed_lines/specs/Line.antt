@@ -23,6 +23,6 @@ head_line a =
 -- the line of a record or the end, after so many words of the feed and so many records
 unfoldable pub line_of : Recorded → ℕ → ℕ → Line
 line_of recorded.Updated before records = line.Updated
-line_of (recorded.Estimate v l r) before records = line.Estimate v l r
+line_of (recorded.Estimate v) before records = line.Estimate v
 line_of recorded.Ended before records = line.End records
 line_of (recorded.Refused s p) before records = refused_line s (before + p)

@@ -81,7 +81,7 @@ fn line_of(r: Recorded, before: u64, records: u64) -> Line
 {
     match r {
         Recorded::Updated => Line::Updated,
-        Recorded::Estimate { value, level, row } => Line::Estimate { value, level, row },
+        Recorded::Estimate { value } => Line::Estimate { value },
         Recorded::Ended => Line::End { records },
         Recorded::Refused { status, position } => {
             feed_line::refused_line(status, before + position)

@@ -47,22 +47,6 @@ pub less_places : (k n : ℕ) → 1 ≤ k → n < 10 ^ k → n / 10 < 10 ^ (k - 
 less_places zero n h l = absurd (omega arith)
 less_places (suc k) n h l = rw (sub-one (suc k)) ((div-lt_iff_lt-mul {k = 10} {x = n} {y = 10 ^ k} (omega arith)).1 (omega (arith, pow-suc 10 k)))
 
--- A number below 10 ^ k has at most k digits.
-digits_length : (j k n : ℕ) (text : List ℕ) → 1 ≤ k → n < 10 ^ k → length (digits_before j n text) ≤ k + length text
-unfolding digits_before
-digits_length zero k n text p h = omega arith
-digits_length (suc j) k n text p h = elim (dec_lt n 10) [
-  | yes l ↦ rw (lt-ltb n 10 l) (omega arith)
-  | no l ↦
-      let m : 10 ≤ n = omega arith in
-      rw (le-ltb n 10 m)
-      (omega (arith, digits_length j (k - 1) (n / 10) ((48 + n % 10) ∷ text) (omega (arith, two_places k n m h)) (less_places k n p h), two_places k n m h))
-]
-
-pub decimal_length : (k n : ℕ) → 1 ≤ k → n < 10 ^ k → length (decimal n) ≤ k
-unfolding decimal
-decimal_length k n p h = omega (arith, digits_length 20 k n [] p h)
-
 -- what is put in front of the end of a list
 pub drop_set_at : (xs : List ℕ) (i x : ℕ) → i < length xs → drop i (set xs i x) ≡ x ∷ drop (suc i) xs
 drop_set_at [] i x h = absurd (omega arith)
@@ -91,7 +75,7 @@ pub text_updated : (l : Line) → OneOf (1 ∷ []) (tag_of the-line.the_type l) 
 unfolding text
 text_updated (line.Geometry d w) h = absurd (omega arith)
 text_updated line.Updated h = refl
-text_updated (line.Estimate v l r) h = absurd (omega arith)
+text_updated (line.Estimate v) h = absurd (omega arith)
 text_updated (line.End n) h = absurd (omega arith)
 text_updated (line.Refused s) h = absurd (omega arith)
 text_updated (line.Stopped s i) h = absurd (omega arith)

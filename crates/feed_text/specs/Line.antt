@@ -40,7 +40,7 @@ space = 32 ∷ []
 unfoldable pub text : Line → List ℕ
 text (line.Geometry d w) = geometry_label ++ decimal d ++ space ++ decimal w ++ newline
 text line.Updated = updated_label
-text (line.Estimate v l r) = estimate_label ++ decimal v ++ space ++ decimal l ++ space ++ decimal r ++ newline
+text (line.Estimate v) = estimate_label ++ decimal v ++ newline
 text (line.End n) = end_label ++ decimal n ++ newline
 text (line.Refused s) = refused_label ++ decimal s ++ newline
 text (line.Stopped s i) = stopped_label ++ decimal s ++ at_label ++ decimal i ++ newline

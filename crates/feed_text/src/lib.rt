@@ -7,7 +7,7 @@ ghost use Rattle.feed_text.specs.Line as spec;
 
 use feed_line::Line;
 pub use text::Text;
-use text::{begin, pair, single, triple};
+use text::{begin, pair, single};
 
 // Each line begins with its word.
 pub fn text_of(l: Line) -> Text
@@ -17,7 +17,7 @@ pub fn text_of(l: Line) -> Text
     match l {
         Line::Geometry { d, w } => pair(b"geometry ", d as u64, b" ", w as u64),
         Line::Updated => begin(b"updated\n"),
-        Line::Estimate { value, level, row } => triple(b"estimate ", value, level, row),
+        Line::Estimate { value } => single(b"estimate ", value),
         Line::End { records } => single(b"end ", records),
         Line::Refused { status } => single(b"refused ", status as u64),
         Line::Stopped { status, index } => pair(b"stopped ", status as u64, b" at ", index),

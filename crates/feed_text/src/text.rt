@@ -2,7 +2,6 @@
 ghost use Rattle.std.specs.Prelude.{◌≡◌, ◌++◌, ◌+◌, ◌≤◌, ◌<◌, length};
 ghost use Rattle.feed_text.specs.Text as spec;
 ghost use Rattle.feed_text.specs.Text.{content, newline};
-ghost use Rattle.feed_text.specs.Line.{space};
 ghost use Rattle.feed_text.specs.Buffers.{digits_of};
 
 #[derive(Drop)]
@@ -75,31 +74,14 @@ fn decimal(n: u64) -> Digits
 }
 
 fn with_number(t: Text, n: u64) -> Text
-    requires { t.length + length (spec.decimal n) ≤ 64 }
+    requires { t.length + 20 ≤ 64 }
     ensures result_value { content result ≡ content t ++ spec.decimal n }
-    ensures length_value { result.length ≡ t.length + length (spec.decimal n) }
+    ensures length_bound { result.length ≤ t.length + 20 }
 {
     let d = decimal(n);
     let bytes = d.bytes;
     let start = d.start;
     with_bytes(t, &bytes[start..])
-}
-
-// The text with one more number, and what stands before it.
-fn with_next(t: Text, between: &[u8], n: u64) -> Text
-    requires { t.length + length between.now + length (spec.decimal n) ≤ 64 }
-    ensures result_value { content result ≡ content t ++ between.now ++ spec.decimal n }
-    ensures length_value { result.length ≡ t.length + length between.now + length (spec.decimal n) }
-{
-    with_number(with_bytes(t, between), n)
-}
-
-fn with_newline(t: Text) -> Text
-    requires { t.length < 64 }
-    ensures result_value { content result ≡ content t ++ newline }
-    ensures length_bound { result.length ≤ 64 }
-{
-    with_bytes(t, b"\n")
 }
 
 // A word and a number.
@@ -108,7 +90,8 @@ pub fn single(word: &[u8], n: u64) -> Text
     ensures result_value { content result ≡ word.now ++ spec.decimal n ++ newline }
     ensures length_bound { result.length ≤ 64 }
 {
-    with_newline(with_number(begin(word), n))
+    let t = with_number(begin(word), n);
+    with_bytes(t, b"\n")
 }
 
 // A word and two numbers.
@@ -119,16 +102,6 @@ pub fn pair(word: &[u8], m: u64, between: &[u8], n: u64) -> Text
     ensures length_bound { result.length ≤ 64 }
 {
     let t = with_number(begin(word), m);
-    with_newline(with_next(t, between, n))
-}
-
-// A word and three numbers one space apart, of which two have at most 10 digits.
-pub fn triple(word: &[u8], k: u64, m: u32, n: u32) -> Text
-    requires { length word.now ≤ 9 }
-    ensures result_value { content result ≡ word.now ++ spec.decimal k ++ space ++ spec.decimal m ++ space ++ spec.decimal n ++ newline }
-    ensures length_bound { result.length ≤ 64 }
-{
-    let t = with_number(begin(word), k);
-    let u = with_next(t, b" ", m as u64);
-    with_newline(with_next(u, b" ", n as u64))
+    let u = with_number(with_bytes(t, between), n);
+    with_bytes(u, b"\n")
 }

@@ -148,10 +148,8 @@ module _ (g : Group) (slot amount : ℕ) where
   added-kept r t h e =
       added-held (sym h ∙ t) ∙ ap (λ (l : List ℕ). record { status = 0; group = record { counts = l; merge = g.merge } }) (sym (rw t at e))
 
-  -- and the counter has the amount more, and its level
-  pub read_held : number g.counts < cap 3 → holds g slot amount ≡ true
-      → read (added g slot amount).group slot
-      ≡ record { status = 0; value = (counter_at (decode g) (slot % 8)).value + amount; level = (counter_at (decode g) (slot % 8)).level }
+  -- and the counter has the amount more
+  pub read_held : number g.counts < cap 3 → holds g slot amount ≡ true → (read (added g slot amount).group slot).value ≡ (counter_at (decode g) (slot % 8)).value + amount
   unfolding holds added settle read reading Sound
   read_held w h =
       let v = (and-eq-true_iff (valid 3 g.merge) _).0 h in

@@ -2,7 +2,7 @@
 ghost use Rattle.std.specs.Prelude.{◌≡◌, false, cond};
 ghost use Rattle.group_layout.specs.Layout.{valid};
 ghost use Rattle.group.specs.Group.{read, holds, added, united_groups, widest_of, changed};
-ghost use Rattle.group.specs.Stored.{stored, unread};
+ghost use Rattle.group.specs.Stored.{stored};
 ghost use Rattle.group.specs.Group as spec;
 
 use answer::Answer;
@@ -79,31 +79,26 @@ pub fn unchanged(status: u8, g: Group) -> Outcome
     Outcome { status, group: g }
 }
 
-// The count bytes after an addition that its counter holds, and the counter then; if it does not, the bytes as they were, and zeros.
+// The count bytes after an addition that its counter holds, and the counter's value then; if it does not, the bytes as they were, and 0.
 #[derive(Drop)]
 pub struct Kept {
     pub held: bool,
     pub counts: [u8; 8],
-    pub counter: Reading,
+    pub value: u64,
 }
 
 // An amount added to the counter that a slot is in, if the counter holds the sum. The layout stays and no other counter changes.
 pub fn add_in_place(g: Group, slot: usize, amount: u32) -> Kept
     ensures held_value { result.held ≡ holds g slot amount }
     ensures counts_value { result.counts ≡ cond result.held (added g slot amount).group.counts g.counts }
-    ensures counter_value { result.counter ≡ cond result.held (read (added g slot amount).group slot) unread }
+    ensures value_value { result.value ≡ cond result.held (read (added g slot amount).group slot).value 0 }
 {
     let counts = g.counts;
-    let unread = Reading {
-        status: 0,
-        value: 0,
-        level: 0,
-    };
     if !is_valid(g.merge) {
         return Kept {
             held: false,
             counts,
-            counter: unread,
+            value: 0,
         };
     }
     let sum = group_sums::add_in_place(little_endian::number_of(counts), g.merge, slot % 8, amount);
@@ -111,17 +106,13 @@ pub fn add_in_place(g: Group, slot: usize, amount: u32) -> Kept
         return Kept {
             held: false,
             counts,
-            counter: unread,
+            value: 0,
         };
     }
     Kept {
         held: true,
         counts: little_endian::bytes_of(sum.word),
-        counter: Reading {
-            status: 0,
-            value: sum.counter.value,
-            level: sum.counter.level,
-        },
+        value: sum.value,
     }
 }
 

@@ -25,16 +25,22 @@ same_is true false e = sym e
 same_is false true e = e
 same_is false false e = refl
 
--- bits 0 to 4 of a byte are among those of valid ones, and so are bits 3 to 7
-abbrev pub in_masks : ℕ → Bool
-in_masks m = eqb (bit_and (bit_and (2159214771 / 2 ^ bit_and m 31) (50437 / 2 ^ (m / 8))) 1) 1
+-- bits 0 to 4 of a byte are among those of valid ones
+abbrev pub low_valid : ℕ → ℕ
+low_valid m = bit_and (2159214771 / 2 ^ bit_and m 31) 1
 
-all_valid_lem : every (λ m. same (in_masks m) (valid 3 m)) 256 ≡ true
+-- bits 3 to 7 are
+abbrev pub high_valid : ℕ → Bool
+high_valid m = eqb (bit_and (50437 / 2 ^ (m / 8)) 1) 1
+
+all_valid_lem : every (λ m. same (cond (eqb (low_valid m) 0) false (high_valid m)) (valid 3 m)) 256 ≡ true
 unfolding every same valid ones
 all_valid_lem = refl
 
-pub bits_valid : (m : ℕ) → m < 256 → in_masks m ≡ valid 3 m
-bits_valid m h = same_is (in_masks m) (valid 3 m) (every_at (λ m. same (in_masks m) (valid 3 m)) 256 m all_valid_lem h)
+pub bits_valid : (m : ℕ) → m < 256 → cond (eqb (low_valid m) 0) false (high_valid m) ≡ valid 3 m
+bits_valid m h =
+    same_is (cond (eqb (low_valid m) 0) false (high_valid m)) (valid 3 m)
+    (every_at (λ m. same (cond (eqb (low_valid m) 0) false (high_valid m)) (valid 3 m)) 256 m all_valid_lem h)
 
 -- The level of a slot: the own bit of the block of a level around it, by its place.
 own_at : (j m i p : ℕ) → i * 2 ^ suc j + (2 ^ j - 1) ≡ p → bit_and (m / 2 ^ p) 1 ≡ own_bit j m i

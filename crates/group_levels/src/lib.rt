@@ -6,12 +6,15 @@ ghost use Rattle.group_block.specs.Block.{cap};
 ghost use Rattle.group_levels.specs.Levels as spec;
 
 // Whether a merge byte is one of the 26 valid ones: its bits 0 to 4 and its bits 3 to 7 are each such as a valid one has. The masks
-// have a bit for each value of those bits. Both are looked at at once, so that who asks has one branch.
+// have a bit for each value of those bits.
 pub fn is_valid(merge: u8) -> bool
     ensures { result ≡ valid 3 merge }
 {
     let bits = merge as u32;
-    (0x80b3_00b3u32 >> (bits & 31)) & (0xc505u32 >> (bits >> 3)) & 1 == 1
+    if (0x80b3_00b3u32 >> (bits & 31)) & 1 == 0 {
+        return false;
+    }
+    (0xc505u32 >> (bits >> 3)) & 1 == 1
 }
 
 // The level of the counter that a slot is in: in a valid layout one for each merged block around the slot, its pair, its half and
@@ -79,7 +82,7 @@ pub fn place(level: u32, slot: usize) -> usize
     ensures value { result ≡ 8 * (slot / 2 ^ level * 2 ^ level) }
     ensures upper_bound { result < 64 }
 {
-    ((8 * slot as u32) & (0xffff_fff8u32 << level)) as usize
+    8 * ((slot >> level) << level)
 }
 
 // The counter of a level at a place of the count bytes taken as one number.

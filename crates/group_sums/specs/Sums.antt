@@ -1,6 +1,5 @@
 -- Whether a counter holds a sum. The code's own terms: the count bytes of a group taken as one number, and its merge byte.
 use Rattle.std.specs.Prelude.{ℕ, ◌+◌, ◌≡◌, Bool, false, ltb}
-use Rattle.group_block.specs.declared.Counter.{Counter}
 use Rattle.group_block.specs.Block.{cap, block, counter_at}
 use Rattle.group_block.specs.Sum.{add}
 use Rattle.group_block.specs.Passed.{summed}
@@ -13,10 +12,6 @@ holds_at w m k a = ltb ((counter_at (block 3 w m) k).value + a) (cap (counter_at
 abbrev pub NotHeld : ℕ → ℕ → ℕ → ℕ → Type 0
 NotHeld w m k a = holds_at w m k a ≡ false
 
--- the counter of slot k with an amount a more
-abbrev pub more : ℕ → ℕ → ℕ → ℕ → Counter
-more w m k a = record { value = (counter_at (block 3 w m) k).value + a; level = (counter_at (block 3 w m) k).level }
-
--- what an addition that the counter holds leaves: the layout, another number, and the counter with the amount more
-abbrev pub Stays : ℕ → ℕ → ℕ → ℕ → ℕ → Counter → Type 0
-Stays w m k a word counter = (record { over = false; word = word; merge = m } ≡ summed (add (block 3 w m) k a)) × (counter ≡ more w m k a)
+-- what an addition that the counter holds leaves: the layout, another number, and the counter's value with the amount
+abbrev pub Stays : ℕ → ℕ → ℕ → ℕ → ℕ → ℕ → Type 0
+Stays w m k a word value = (record { over = false; word = word; merge = m } ≡ summed (add (block 3 w m) k a)) × (value ≡ (counter_at (block 3 w m) k).value + a)

@@ -26,12 +26,12 @@ pub fn counter_at(word: u64, merge: u8, slot: usize) -> Counter
     }
 }
 
-// The count bytes, taken as one number, after an addition that its counter holds, and the counter then. All 0 elsewhere.
+// The count bytes, taken as one number, after an addition that its counter holds, and the counter's value then. Both 0 elsewhere.
 #[derive(Drop)]
 pub struct InPlace {
     pub held: bool,
     pub word: u64,
-    pub counter: Counter,
+    pub value: u64,
 }
 
 // An amount added to the counter that a slot is in, if the counter holds the sum. The layout stays.
@@ -39,7 +39,7 @@ pub fn add_in_place(word: u64, merge: u8, slot: usize, amount: u32) -> InPlace
     requires fact_1 { valid 3 merge ≡ true }
     requires fact_2 { slot < 8 }
     ensures held_value { result.held ≡ spec.holds_at word merge slot amount }
-    ensures stays { result.held ≡ true → spec.Stays word merge slot amount result.word result.counter }
+    ensures stays { result.held ≡ true → spec.Stays word merge slot amount result.word result.value }
 {
     let level = level_at(merge, slot);
     let at = place(level, slot);
@@ -49,7 +49,7 @@ pub fn add_in_place(word: u64, merge: u8, slot: usize, amount: u32) -> InPlace
         return InPlace {
             held: false,
             word: 0,
-            counter: Counter { value: 0, level: 0 },
+            value: 0,
         };
     }
     let sum = word + ((amount as u64) << at);
@@ -57,7 +57,7 @@ pub fn add_in_place(word: u64, merge: u8, slot: usize, amount: u32) -> InPlace
     InPlace {
         held: true,
         word: sum,
-        counter: Counter { value, level },
+        value,
     }
 }
 

@@ -2,11 +2,11 @@
 use mathlib.Core.Path.{◌≡◌, refl, sym, ap, ◌∙◌}
 use mathlib.Core.Bool.{true, cond}
 use Prim.Native.Nat.{ℕ, zero, suc, ◌+◌, ◌*◌, ◌/◌, ◌%◌, ◌^◌, ◌≤◌, ◌<◌}
+use native.Mathlib.Nat.{mod-lt}
 use native.Mathlib.Omega.{arith}
 use lib.Dec.{eqb}
 use lib.ListN.{get_or, replicate}
 use Rattle.little_endian.specs.Bytes.{bytes}
-use Rattle.little_endian.proofs.Bytes.{bytes_lt}
 use Rattle.group_layout.specs.Layout.{valid, marks, ones}
 use Rattle.group_layout.specs.Layout as layouts
 use Rattle.group_layout.proofs.Laws.{layout_marks, marks_in, widest_le}
@@ -39,11 +39,17 @@ clear_group g = refl
 pub group_clear : (t : ℕ → ℕ → ℕ) → ((n i : ℕ) → t n i ≡ 0) → (g : ℕ) → group_of t g ≡ record { counts = replicate 8 0; merge = 0 }
 group_clear t e g = group_same t (λ n i. 0) e g ∙ clear_group g
 
+-- its bytes
+byte_lt : (n v i : ℕ) → get_or (bytes n v) i 0 < 256
+unfolding bytes
+byte_lt zero v i = omega arith
+byte_lt (suc n) v zero = mod-lt v (omega arith)
+byte_lt (suc n) v (suc i) = byte_lt n (v / 256) i
+
 module _ (t : ℕ → ℕ → ℕ) (g : ℕ) where
-  -- its bytes
   pub count-lt : (i : ℕ) → get_or (group_of t g).counts i 0 < 256
   unfolding group_of encode
-  count-lt i = bytes_lt 8 (number_of (canon t 3 g)) i
+  count-lt i = byte_lt 8 (number_of (canon t 3 g)) i
 
   pub merge-lt : (group_of t g).merge < 256
   unfolding group_of encode

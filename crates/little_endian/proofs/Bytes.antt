@@ -2,7 +2,7 @@
 use mathlib.Core.Path.{◌≡◌, refl, sym, ap, ◌∙◌}
 use Prim.Native.Nat.{ℕ, zero, suc, ◌+◌, ◌*◌, ◌/◌, ◌%◌, ◌^◌, ◌<◌}
 use mathlib.Core.List.{List, [], ◌∷◌}
-use native.Mathlib.Nat.{div-lt_iff_lt-mul, mod-lt, mul_comm}
+use native.Mathlib.Nat.{div-lt_iff_lt-mul, mul_comm}
 use native.Mathlib.Omega.{arith}
 use lib.ListN.{length, get_or, drop, drop_of_length-le}
 use lib.Pow.{pow-add}
@@ -53,12 +53,6 @@ pub bytes_length : (n v : ℕ) → length (bytes n v) ≡ n
 unfolding bytes
 bytes_length zero v = refl
 bytes_length (suc n) v = ap suc (bytes_length n (v / 256))
-
-pub bytes_lt : (n v : ℕ) → Bytes (bytes n v)
-unfolding bytes
-bytes_lt zero v i = omega arith
-bytes_lt (suc n) v zero = mod-lt v (omega arith)
-bytes_lt (suc n) v (suc i) = bytes_lt n (v / 256) i
 
 -- n elements of a list from the i-th
 unfoldable pub elements : ℕ → ℕ → List ℕ → List ℕ

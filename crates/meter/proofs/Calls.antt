@@ -10,17 +10,14 @@ use lib.Dec.{eqb}
 use lib.ListN.{length, replicate}
 use Rattle.hash.specs.Hash.{basis}
 use Rattle.geometry.specs.Geometry.{stride, size, RowsIn}
-use Rattle.answer.specs.Answers.{accepted, answer_of, finish, leaves}
+use Rattle.answer.specs.Answers.{answer_of, finish, leaves}
 use Rattle.answer.specs.Order.{first_of, earliest}
 use Rattle.geometry.specs.Checks.{bad_depth, bad_width, bad_length, bad_shape, bad_key}
-use Rattle.meter_memory.specs.Rows.{map_rows, of_rows, largest}
-use Rattle.meter_least.specs.declared.Located.{Located}
-use Rattle.meter_least.specs.Least.{least, estimate_of}
-use Rattle.meter_least.proofs.Estimates.{estimate_bad, estimate_accepted}
+use Rattle.meter_memory.specs.Rows.{map_rows, of_rows, least, largest}
 use Rattle.meter_row.specs.Row.{update_status, update_row}
 use Rattle.answer.proofs.Order.{first_rest, first_part, first_one, first_stop, first_skip}
 use Rattle.geometry.proofs.Widths.{shape_good}
-use Rattle.meter.specs.Meter.{bad_call, cleared, updated, read_status, read_counter, estimated, row_status, row_level, widest, source_status, source_added, united}
+use Rattle.meter.specs.Meter.{bad_call, cleared, updated, read_status, read_value, estimated, row_status, row_level, widest, source_status, source_added, united}
 use Rattle.answer.proofs.Answers.{answer_bad, refusing, accepting}
 
 -- a call with a key: its shape comes first
@@ -77,21 +74,16 @@ module _ (d w : ℕ) (memory : List ℕ) where
     unfolding updated rows after
     updated-good b e = accepting (first_of (bad_call d w memory key ∷ rows ∷ [])) after memory (first_skip (bad_call d w memory key) (rows ∷ []) b ∙ first_one rows ∙ e)
 
-  pub estimated-bad : (key : List ℕ) (s : ℕ) (c : Located) → s ≡ bad_call d w memory key → (s ≡ 0 → ⊥) → estimate_of s c ≡ estimated d w memory key
+  pub estimated-bad : (key : List ℕ) (s : ℕ) → s ≡ bad_call d w memory key → (s ≡ 0 → ⊥) → answer_of s 0 ≡ estimated d w memory key
   unfolding estimated
-  estimated-bad key s c e h =
-      rw (← e, first_stop s (earliest (of_rows (read_status w key) (stride w) d 0 memory) ∷ []) h) (estimate_bad s c (least (of_rows (read_counter w key) (stride w) d 0 memory)) h)
+  estimated-bad key s e h =
+      rw (← e, first_stop s (earliest (of_rows (read_status w key) (stride w) d 0 memory) ∷ []) h) (answer_bad s (least (of_rows (read_value w key) (stride w) d 0 memory)) h)
 
   pub estimated-good : (key : List ℕ) → bad_call d w memory key ≡ 0
-      → estimate_of (earliest (of_rows (read_status w key) (stride w) d 0 memory)) (least (of_rows (read_counter w key) (stride w) d 0 memory)) ≡ estimated d w memory key
+      → answer_of (earliest (of_rows (read_status w key) (stride w) d 0 memory)) (least (of_rows (read_value w key) (stride w) d 0 memory)) ≡ estimated d w memory key
   unfolding estimated
   estimated-good key b =
       rw (first_skip (bad_call d w memory key) (earliest (of_rows (read_status w key) (stride w) d 0 memory) ∷ []) b, first_one (earliest (of_rows (read_status w key) (stride w) d 0 memory)))
-
-  pub estimated-accepted : (key : List ℕ) → (estimated d w memory key).answer.status ≡ 0
-      → estimated d w memory key ≡ record { answer = accepted (estimated d w memory key).answer.value; level = (estimated d w memory key).level; row = (estimated d w memory key).row }
-  unfolding estimated
-  estimated-accepted key e = estimate_accepted _ (least (of_rows (read_counter w key) (stride w) d 0 memory)) e
 
   pub widest-bad : (s : ℕ) → s ≡ bad_shape d w (length memory) → (s ≡ 0 → ⊥) → answer_of s 0 ≡ widest d w memory
   unfolding widest

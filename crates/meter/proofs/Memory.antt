@@ -31,7 +31,7 @@ use Rattle.geometry.proofs.Widths.{shape_good, wide, stride_is, slot_in, group_i
 use Rattle.geometry.proofs.Widths.{one_row}
 use Rattle.meter_memory.proofs.Lists.{row_length}
 use Rattle.meter_memory.proofs.Groups.{eight_at}
-use Rattle.meter_memory.proofs.Written.{row_none, rows_after, length_after, rows_long, in_row_lem, full-row, slot_length, slot-group, slot-other, pair-group, pairs-taken, pairs-long, pairs-row}
+use Rattle.meter_memory.proofs.Written.{row_none, rows_after, length_after, rows_long, in_row, full-row, slot_length, slot-group, slot-other, pair-group, pairs-taken, pairs-long, pairs-row}
 use Rattle.meter_keys.proofs.Landing.{key_in}
 use Rattle.meter.specs.Meter.{bad_call, row_of, cleared, updated, source_status, source_added, united}
 use Rattle.meter.specs.Valid.{Valid}
@@ -43,7 +43,7 @@ module _ (w : ℕ) (v : valid_width w ≡ true) (key : List ℕ) (amount r : ℕ
   unfolding added_in
   eight =
       let slot = key_slot basis w key r in
-      added_eight (group_at w row (slot / 8)) slot amount (eight_at w (slot / 8) row (in_row_lem w v (slot / 8) row l (slot_in w slot v (key_in w key r v))).0 (full-row w v row l))
+      added_eight (group_at w row (slot / 8)) slot amount (eight_at w (slot / 8) row (in_row w v (slot / 8) row l (slot_in w slot v (key_in w key r v))).0 (full-row w v row l))
 
   update-length : length (update_row basis w key amount r row) ≡ stride w
   unfolding update_row

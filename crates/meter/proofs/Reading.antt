@@ -1,8 +1,7 @@
--- What an update answers by its rows, and what an estimate answers after it: the least of the counters. An estimate's level is at most 3.
+-- What an update answers by its rows, and what an estimate answers after it: the least of the counters' values.
 use mathlib.Core.Path.{◌≡◌, refl, sym, ap, ◌∙◌}
 use mathlib.Core.List.{List}
-use Prim.Native.Nat.{ℕ, zero, suc, ◌+◌, ◌/◌, ◌≤◌, ◌<◌}
-use native.Mathlib.Omega.{arith}
+use Prim.Native.Nat.{ℕ, zero, suc, ◌+◌, ◌/◌, ◌<◌}
 use native.Mathlib.Nat.{zero-add}
 use lib.ListN.{length, drop}
 use Rattle.answer.specs.declared.Answer.{Answer}
@@ -11,20 +10,17 @@ use Rattle.answer.proofs.Answers.{status_is}
 use Rattle.answer.specs.Order.{earlier, earliest}
 use Rattle.group.specs.declared.Group.{Group}
 use Rattle.group.specs.Group.{read}
-use Rattle.group.proofs.Outcomes.{read_added, read_level}
+use Rattle.group.proofs.Outcomes.{read_added}
 use Rattle.hash.specs.Hash.{basis}
 use Rattle.geometry.specs.Geometry.{stride}
-use Rattle.meter_memory.specs.Rows.{row_of, of_rows, group_at}
-use Rattle.meter_least.specs.declared.Located.{Located}
-use Rattle.meter_least.specs.Least.{in_row, least, estimate_of}
-use Rattle.meter_least.proofs.First.{least-is-first}
+use Rattle.meter_memory.specs.Rows.{row_of, of_rows, group_at, least}
 use Rattle.meter_keys.specs.Keys.{key_slot}
 use Rattle.meter_row.specs.Row.{added_in, update_status, read_row}
 use Rattle.meter_memory.proofs.Agree.{reads_same}
 use Rattle.geometry.proofs.Widths.{shape_good}
-use Rattle.meter.specs.Meter.{bad_call, updated, read_status, read_counter, estimated}
+use Rattle.meter.specs.Meter.{bad_call, updated, read_status, read_value, estimated}
 use Rattle.meter.proofs.Calls.{updated-rows, estimated-good}
-use Rattle.meter.proofs.Slots.{left_counter}
+use Rattle.meter.proofs.Slots.{left_value}
 use Rattle.meter.proofs.Memory.{Updated, update_accepted, update-group}
 use Rattle.meter_memory.proofs.Written.{rows_long}
 
@@ -41,6 +37,10 @@ rows_status d w memory key amount s b e = sym (status_is s 0) ∙ ap (λ (a : An
 pub answer_by_status : (d w : ℕ) (memory key : List ℕ) (amount : ℕ) → answer_of (updated d w memory key amount).answer.status 0 ≡ (updated d w memory key amount).answer
 unfolding updated finish
 answer_by_status d w memory key amount = ap (λ (s : ℕ). answer_of s 0) (status_is _ 0)
+
+pub value_is : (v : ℕ) → (answer_of 0 v).value ≡ v
+unfolding answer_of
+value_is v = refl
 
 -- the same tests of another memory of that length
 pub call_same : (d w : ℕ) (memory after key : List ℕ) → length after ≡ length memory → bad_call d w memory key ≡ 0 → bad_call d w after key ≡ 0
@@ -73,37 +73,21 @@ module _ (d w : ℕ) (memory key : List ℕ) (amount : ℕ) (e : (updated d w me
       ap earliest (reads_same (stride w) (read_status w key) (λ (r : ℕ) (row : List ℕ). 0) d 0 after after (λ k h. rw (zero-add k) (row-status k h)))
       ∙ zeros (stride w) d 0 after
 
-  counters : of_rows (left_counter w key amount) (stride w) d 0 memory ≡ of_rows (read_counter w key) (stride w) d 0 (updated d w memory key amount).memory
-  unfolding row_of read_counter read_row
-  counters =
-      reads_same (stride w) (left_counter w key amount) (read_counter w key) d 0 memory (updated d w memory key amount).memory
-      (λ k h. rw (zero-add k) (ap (λ (g : Group). in_row k (read g (key_slot basis w key k))) (sym (row-group k h))))
+  values : of_rows (left_value w key amount) (stride w) d 0 memory ≡ of_rows (read_value w key) (stride w) d 0 (updated d w memory key amount).memory
+  unfolding row_of read_value read_row
+  values =
+      reads_same (stride w) (left_value w key amount) (read_value w key) d 0 memory (updated d w memory key amount).memory
+      (λ k h. rw (zero-add k) (ap (λ (g : Group). (read g (key_slot basis w key k)).value) (sym (row-group k h))))
 
-  -- the least counter that is left is the estimate of the memory as a caller has it
-  pub estimate-left : (m : List ℕ) (c : Located) → bad_call d w memory key ≡ 0 → m ≡ (updated d w memory key amount).memory
-      → c ≡ least (of_rows (left_counter w key amount) (stride w) d 0 memory) → estimate_of 0 c ≡ estimated d w m key
-  estimate-left m c b is h =
+  -- the least value that is left is the estimate of the memory as a caller has it
+  pub value-left : (m : List ℕ) (v : ℕ) → bad_call d w memory key ≡ 0 → m ≡ (updated d w memory key amount).memory
+      → v ≡ least (of_rows (left_value w key amount) (stride w) d 0 memory) → v ≡ (estimated d w m key).value
+  unfolding answer_of
+  value-left m v b is h =
       let after = (updated d w memory key amount).memory in
-      let least-read = least (of_rows (read_counter w key) (stride w) d 0 after) in
+      let least-read = least (of_rows (read_value w key) (stride w) d 0 after) in
       rw is
-      (ap (λ (x : Located). estimate_of 0 x) (h ∙ ap least counters)
-      ∙ ap (λ (s : ℕ). estimate_of s least-read) (sym statuses)
-      ∙ estimated-good d w after key (call_same d w memory after key accepted.long b))
-
--- an estimate's level is that of a counter, whatever the memory holds
-estimate_of_level : (s : ℕ) (c : Located) → c.level ≤ 3 → (estimate_of s c).level ≤ 3
-unfolding estimate_of
-estimate_of_level zero c h = h
-estimate_of_level (suc s) c h = omega arith
-
-least_level : (d w : ℕ) (memory key : List ℕ) → (least (of_rows (read_counter w key) (stride w) d 0 memory)).level ≤ 3
-unfolding read_counter in_row read_row least of_rows
-least_level zero w memory key = omega arith
-least_level (suc n) w memory key =
-    let i = least-is-first (read_counter w key) w memory (suc n) (omega arith) in
-    let slot = key_slot basis w key i.row in
-    rw i.is (read_level (group_at w (row_of w memory i.row) (slot / 8)) slot)
-
-pub estimate_level : (d w : ℕ) (memory key : List ℕ) → (estimated d w memory key).level ≤ 3
-unfolding estimated
-estimate_level d w memory key = estimate_of_level _ (least (of_rows (read_counter w key) (stride w) d 0 memory)) (least_level d w memory key)
+      (h
+      ∙ ap least values
+      ∙ ap (λ (x : Answer). x.value)
+      (ap (λ (s : ℕ). answer_of s least-read) (sym statuses) ∙ estimated-good d w after key (call_same d w memory after key accepted.long b)))

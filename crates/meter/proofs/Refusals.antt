@@ -10,8 +10,6 @@ use Rattle.group.proofs.Outcomes.{Statuses, neither, full, invalid, added_read}
 use Rattle.answer.specs.declared.Answer.{Answer}
 use Rattle.answer.specs.Order.{place_in, earlier, earliest}
 use Rattle.answer.proofs.Answers.{status_is}
-use Rattle.meter_least.specs.declared.Estimate.{Estimate}
-use Rattle.meter_least.proofs.Estimates.{estimate_status}
 use Rattle.meter_memory.specs.Rows.{of_rows, group_at}
 use Rattle.meter_keys.specs.Keys.{key_slot}
 use Rattle.meter_row.specs.Row.{added_in, update_status, read_row}
@@ -45,18 +43,18 @@ same_line full line (inr e) = rw e
 same_line invalid line l = refl
 
 -- in a row
-in_row_lem : (w : ℕ) (key : List ℕ) (amount r : ℕ) (row : List ℕ) → Statuses (update_status basis w key amount r row) (read_status w key r row)
+in_row : (w : ℕ) (key : List ℕ) (amount r : ℕ) (row : List ℕ) → Statuses (update_status basis w key amount r row) (read_status w key r row)
 unfolding update_status added_in read_status read_row
-in_row_lem w key amount r row = added_read (group_at w row (key_slot basis w key r / 8)) (key_slot basis w key r) amount
+in_row w key amount r row = added_read (group_at w row (key_slot basis w key r / 8)) (key_slot basis w key r) amount
 
 -- Beside a line 5 or 11 an update's refusal is the estimate's.
 pub refused_as_estimated : (d w : ℕ) (memory key : List ℕ) (amount line : ℕ) → bad_call d w memory key ≡ 0 → (line ≡ 5) ⊎ (line ≡ 11)
-    → earlier (updated d w memory key amount).answer.status line ≡ earlier (estimated d w memory key).answer.status line
+    → earlier (updated d w memory key amount).answer.status line ≡ earlier (estimated d w memory key).status line
 refused_as_estimated d w memory key amount line b l =
     let u = (updated-rows d w memory key amount b (earliest (of_rows (update_status basis w key amount) (stride w) d 0 memory)) _ refl refl).0 in
     let v = estimated-good d w memory key b in
     ap (λ (a : Answer). earlier a.status line) (sym u)
     ∙ ap (λ (s : ℕ). earlier s line) (status_is _ 0)
-    ∙ same_line (of_rows_lem (update_status basis w key amount) (read_status w key) (in_row_lem w key amount) (stride w) d 0 memory) line l
-    ∙ sym (ap (λ (s : ℕ). earlier s line) (estimate_status _ _))
-    ∙ ap (λ (a : Estimate). earlier a.answer.status line) v
+    ∙ same_line (of_rows_lem (update_status basis w key amount) (read_status w key) (in_row w key amount) (stride w) d 0 memory) line l
+    ∙ sym (ap (λ (s : ℕ). earlier s line) (status_is _ _))
+    ∙ ap (λ (a : Answer). earlier a.status line) v

@@ -10,22 +10,20 @@ use Rattle.group.specs.Group.{read}
 use Rattle.hash.specs.Hash.{basis}
 use Rattle.geometry.specs.Geometry.{stride, size}
 use Rattle.answer.specs.Order.{earliest}
-use Rattle.meter_memory.specs.Rows.{map_rows, of_rows, group_at}
-use Rattle.meter_least.specs.declared.Located.{Located}
-use Rattle.meter_least.specs.Least.{in_row, least_or, least}
+use Rattle.meter_memory.specs.Rows.{map_rows, of_rows, group_at, least_or, least}
 use Rattle.meter_keys.specs.Keys.{key_slot}
 use Rattle.meter_row.specs.Row.{added_in, added_row, update_status, update_row, read_row}
 use Rattle.answer.proofs.Order.{earlier_none}
-use Rattle.meter_row.specs.Slots.{added_status, added_counter, slot_added, slot_status, slot_counter}
+use Rattle.meter_row.specs.Slots.{added_status, added_value, slot_added, slot_status, slot_value}
 use Rattle.meter_memory.proofs.Agree.{reads_same, maps_same}
-use Rattle.meter.specs.Meter.{read_status, read_counter}
+use Rattle.meter.specs.Meter.{read_status, read_value}
 
--- the key's counter that an update of row r leaves
-abbrev pub left_counter : ℕ → List ℕ → ℕ → ℕ → List ℕ → Located
-left_counter w key amount r row = in_row r (read (added_in w row (key_slot basis w key r) amount).group (key_slot basis w key r))
+-- the value of the key's counter that an update of row r leaves
+abbrev pub left_value : ℕ → List ℕ → ℕ → ℕ → List ℕ → ℕ
+left_value w key amount r row = (read (added_in w row (key_slot basis w key r) amount).group (key_slot basis w key r)).value
 
 -- a memory of one row
-pub one_read : {A : Type 0} (f : ℕ → List ℕ → A) (s : ℕ) (memory : List ℕ) → length memory ≡ s → of_rows f s 1 0 memory ≡ f 0 memory ∷ []
+pub one_read : (f : ℕ → List ℕ → ℕ) (s : ℕ) (memory : List ℕ) → length memory ≡ s → of_rows f s 1 0 memory ≡ f 0 memory ∷ []
 unfolding of_rows
 one_read f s memory l = rw (take_all s memory (omega arith))
 
@@ -38,12 +36,12 @@ module _ (d w : ℕ) (memory key slots : List ℕ) {state : ℕ} (start : state 
   slot_at k h = are (0 + k) (omega arith) ∙ ap (λ (s : ℕ). key_slot s w key (0 + k)) start
 
   -- what is read and written by the slots of the rows is by the key: for any operation on a slot of a row
-  pub reads-by-key : {A : Type 0} (f : ℕ → ℕ → List ℕ → A)
-      → of_rows (λ (r : ℕ) (row : List ℕ). f r (get_or slots r 0) row) (stride w) d 0 memory
-      ≡ of_rows (λ (r : ℕ) (row : List ℕ). f r (key_slot basis w key r) row) (stride w) d 0 memory
+  pub reads-by-key : (f : ℕ → List ℕ → ℕ)
+      → of_rows (λ (r : ℕ) (row : List ℕ). f (get_or slots r 0) row) (stride w) d 0 memory
+      ≡ of_rows (λ (r : ℕ) (row : List ℕ). f (key_slot basis w key r) row) (stride w) d 0 memory
   reads-by-key f =
-      reads_same (stride w) (λ (r : ℕ) (row : List ℕ). f r (get_or slots r 0) row) (λ (r : ℕ) (row : List ℕ). f r (key_slot basis w key r) row) d 0 memory memory
-      (λ k h. ap (λ (s : ℕ). f (0 + k) s (take (stride w) (drop (k * stride w) memory))) (slot_at k h))
+      reads_same (stride w) (λ (r : ℕ) (row : List ℕ). f (get_or slots r 0) row) (λ (r : ℕ) (row : List ℕ). f (key_slot basis w key r) row) d 0 memory memory
+      (λ k h. ap (λ (s : ℕ). f s (take (stride w) (drop (k * stride w) memory))) (slot_at k h))
 
   pub maps-by-key : (f : ℕ → List ℕ → List ℕ)
       → map_rows (λ (r : ℕ) (row : List ℕ). f (get_or slots r 0) row) (stride w) d 0 memory
@@ -55,23 +53,23 @@ module _ (d w : ℕ) (memory key slots : List ℕ) {state : ℕ} (start : state 
   pub status-by-key : (amount : ℕ)
       → earliest (of_rows (added_status w slots amount) (stride w) d 0 memory) ≡ earliest (of_rows (update_status basis w key amount) (stride w) d 0 memory)
   unfolding update_status
-  status-by-key amount = ap earliest (reads-by-key (λ (r s : ℕ) (row : List ℕ). (added_in w row s amount).status))
+  status-by-key amount = ap earliest (reads-by-key (λ (s : ℕ) (row : List ℕ). (added_in w row s amount).status))
 
   pub added-by-key : (amount : ℕ)
       → map_rows (slot_added w slots amount) (stride w) d 0 memory ≡ map_rows (update_row basis w key amount) (stride w) d 0 memory
   unfolding update_row
   added-by-key amount = maps-by-key (λ (s : ℕ) (row : List ℕ). added_row w row s amount)
 
-  pub left-by-key : (amount : ℕ) → least (of_rows (added_counter w slots amount) (stride w) d 0 memory) ≡ least (of_rows (left_counter w key amount) (stride w) d 0 memory)
-  left-by-key amount = ap least (reads-by-key (λ (r s : ℕ) (row : List ℕ). in_row r (read (added_in w row s amount).group s)))
+  pub left-by-key : (amount : ℕ) → least (of_rows (added_value w slots amount) (stride w) d 0 memory) ≡ least (of_rows (left_value w key amount) (stride w) d 0 memory)
+  left-by-key amount = ap least (reads-by-key (λ (s : ℕ) (row : List ℕ). (read (added_in w row s amount).group s).value))
 
   pub read-status-by-key : earliest (of_rows (slot_status w slots) (stride w) d 0 memory) ≡ earliest (of_rows (read_status w key) (stride w) d 0 memory)
   unfolding read_status read_row
-  read-status-by-key = ap earliest (reads-by-key (λ (r s : ℕ) (row : List ℕ). (read (group_at w row (s / 8)) s).status))
+  read-status-by-key = ap earliest (reads-by-key (λ (s : ℕ) (row : List ℕ). (read (group_at w row (s / 8)) s).status))
 
-  pub counter-by-key : least (of_rows (slot_counter w slots) (stride w) d 0 memory) ≡ least (of_rows (read_counter w key) (stride w) d 0 memory)
-  unfolding read_counter read_row
-  counter-by-key = ap least (reads-by-key (λ (r s : ℕ) (row : List ℕ). in_row r (read (group_at w row (s / 8)) s)))
+  pub read-value-by-key : least (of_rows (slot_value w slots) (stride w) d 0 memory) ≡ least (of_rows (read_value w key) (stride w) d 0 memory)
+  unfolding read_value read_row
+  read-value-by-key = ap least (reads-by-key (λ (s : ℕ) (row : List ℕ). (read (group_at w row (s / 8)) s).value))
 
 -- the same of a meter of one row, by its one slot
 pub one_long : (d w bytes : ℕ) → d ≡ 1 → bytes ≡ size d w → bytes ≡ stride w
@@ -103,13 +101,13 @@ module _ (d w : ℕ) (memory key : List ℕ) (one : d ≡ 1) (long : length memo
   unfolding read_status read_row
   one-read-status = ap (λ (s : ℕ). (read (group_at w memory (s / 8)) s).status) at-basis ∙ one-earliest (read_status w key)
 
-  one-least : (f : ℕ → List ℕ → Located) → f 0 memory ≡ least (of_rows f (stride w) d 0 memory)
+  one-least : (f : ℕ → List ℕ → ℕ) → f 0 memory ≡ least (of_rows f (stride w) d 0 memory)
   unfolding least least_or
   one-least f = ap least (sym (one_read f (stride w) memory long)) ∙ ap (λ (n : ℕ). least (of_rows f (stride w) n 0 memory)) (sym one)
 
-  pub one_left : (amount : ℕ) → in_row 0 (read (added_in w memory slot amount).group slot) ≡ least (of_rows (left_counter w key amount) (stride w) d 0 memory)
-  one_left amount = ap (λ (s : ℕ). in_row 0 (read (added_in w memory s amount).group s)) at-basis ∙ one-least (left_counter w key amount)
+  pub one_left : (amount : ℕ) → (read (added_in w memory slot amount).group slot).value ≡ least (of_rows (left_value w key amount) (stride w) d 0 memory)
+  one_left amount = ap (λ (s : ℕ). (read (added_in w memory s amount).group s).value) at-basis ∙ one-least (left_value w key amount)
 
-  pub one-counter : in_row 0 (read (group_at w memory (slot / 8)) slot) ≡ least (of_rows (read_counter w key) (stride w) d 0 memory)
-  unfolding read_counter read_row
-  one-counter = ap (λ (s : ℕ). in_row 0 (read (group_at w memory (s / 8)) s)) at-basis ∙ one-least (read_counter w key)
+  pub one-read-value : (read (group_at w memory (slot / 8)) slot).value ≡ least (of_rows (read_value w key) (stride w) d 0 memory)
+  unfolding read_value read_row
+  one-read-value = ap (λ (s : ℕ). (read (group_at w memory (s / 8)) s).value) at-basis ∙ one-least (read_value w key)

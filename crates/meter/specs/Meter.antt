@@ -1,5 +1,4 @@
--- A meter's calls. Document 01, 'Updating, asking, uniting' and 'Turned away, in checking order', and document 02, request 5. Cited by contracts
--- and theorems.
+-- A meter's calls. Document 01, 'Updating, asking, uniting' and 'Turned away, in checking order'. Cited by contracts and theorems.
 use Rattle.std.specs.Prelude.{ℕ, List, [], ◌∷◌, length, replicate}
 use Rattle.answer.specs.declared.Answer.{Answer}
 use Rattle.hash.specs.Hash.{basis}
@@ -7,10 +6,7 @@ use Rattle.geometry.specs.Geometry.{stride}
 use Rattle.answer.specs.Answers.{answer_of, Done, finish}
 use Rattle.answer.specs.Order.{first_of, earliest}
 use Rattle.geometry.specs.Checks.{bad_depth, bad_width, bad_length, bad_shape, bad_key}
-use Rattle.meter_memory.specs.Rows.{map_rows, of_rows, largest}
-use Rattle.meter_least.specs.declared.Located.{Located}
-use Rattle.meter_least.specs.declared.Estimate.{Estimate}
-use Rattle.meter_least.specs.Least.{in_row, least, estimate_of}
+use Rattle.meter_memory.specs.Rows.{map_rows, of_rows, least, largest}
 use Rattle.meter_row.specs.Row.{update_status, update_row, read_row}
 pub use Rattle.meter_row.specs.Row.{row_status, row_level}
 pub use Rattle.meter_union.specs.Union.{source_status, source_added}
@@ -30,17 +26,17 @@ updated d w memory key amount =
     finish (first_of (bad_call d w memory key ∷ earliest (of_rows (update_status basis w key amount) (stride w) d 0 memory) ∷ []))
     0 (map_rows (update_row basis w key amount) (stride w) d 0 memory) memory
 
--- An estimate is the least of the key's counters, one in each row: its value, its level and its row, the lowest row among equals.
+-- An estimate is the least value of the key's counters.
 unfoldable pub read_status : ℕ → List ℕ → ℕ → List ℕ → ℕ
 read_status w key r row = (read_row basis w key r row).status
 
-unfoldable pub read_counter : ℕ → List ℕ → ℕ → List ℕ → Located
-read_counter w key r row = in_row r (read_row basis w key r row)
+unfoldable pub read_value : ℕ → List ℕ → ℕ → List ℕ → ℕ
+read_value w key r row = (read_row basis w key r row).value
 
-unfoldable pub estimated : ℕ → ℕ → List ℕ → List ℕ → Estimate
+unfoldable pub estimated : ℕ → ℕ → List ℕ → List ℕ → Answer
 estimated d w memory key =
-    estimate_of (first_of (bad_call d w memory key ∷ earliest (of_rows (read_status w key) (stride w) d 0 memory) ∷ []))
-    (least (of_rows (read_counter w key) (stride w) d 0 memory))
+    answer_of (first_of (bad_call d w memory key ∷ earliest (of_rows (read_status w key) (stride w) d 0 memory) ∷ []))
+    (least (of_rows (read_value w key) (stride w) d 0 memory))
 
 -- The widest level is the largest level of any counter in the meter.
 unfoldable pub widest : ℕ → ℕ → List ℕ → Answer

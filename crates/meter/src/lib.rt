@@ -9,7 +9,6 @@ use answer::{Answer, answer_of};
 use geometry::{bad_key, bad_shape};
 use hash::Hash;
 use meter_keys::{key_slots, row_slot};
-use meter_least::{Estimate, Located, estimate_of, in_row};
 
 // Every byte 0: a meter, or what is kept beside one.
 pub fn fill(memory: &mut [u8])
@@ -53,23 +52,21 @@ pub fn whole(bytes: &[u8]) -> &[u8]
 }
 
 // An update whose geometry and key length have passed; and the estimate that it leaves.
-pub fn update_reading(d: usize, w: usize, memory: &mut [u8], key: &[u8], amount: u32) -> Estimate
+pub fn update_reading(d: usize, w: usize, memory: &mut [u8], key: &[u8], amount: u32) -> Answer
     requires { bad_call d w memory.old key.now ≡ 0 }
-    ensures status_value { result.answer.status ≡ (updated d w memory.old key.now amount).answer.status }
+    ensures status_value { result.status ≡ (updated d w memory.old key.now amount).answer.status }
     ensures memory_after { memory.new ≡ (updated d w memory.old key.now amount).memory }
-    ensures value { result.answer.status ≡ 0 → result ≡ estimated d w memory.new key.now }
+    ensures value_value { result.status ≡ 0 → result.value ≡ (estimated d w memory.new key.now).value }
 {
     let bytes = whole(key);
     if d == 1 {
         let slot = row_slot(Hash::start(), w, bytes, 0);
         let one = meter_row::update_one(memory, w, slot, amount);
-        let left = one.least;
-        return estimate_of(one.status, left);
+        return answer_of(one.status, one.value);
     }
     let slots = key_slots(Hash::start(), w, bytes, d);
     let all = meter_update::update_rows(d, w, memory, &slots, amount);
-    let least = all.least;
-    estimate_of(all.status, least)
+    answer_of(all.status, all.value)
 }
 
 // An update whose geometry and key length have passed.
@@ -79,7 +76,7 @@ pub fn update_checked(d: usize, w: usize, memory: &mut [u8], key: &[u8], amount:
     ensures memory_after { memory.new ≡ (updated d w memory.old key.now amount).memory }
 {
     let u = update_reading(d, w, memory, key, amount);
-    answer_of(u.answer.status, 0)
+    answer_of(u.status, 0)
 }
 
 // Adds an amount to the key's counter in each row. Stores in no row before every row is known to take it.
@@ -95,33 +92,27 @@ pub fn update(d: usize, w: usize, memory: &mut [u8], key: &[u8], amount: u32) ->
 }
 
 // An estimate whose geometry and key length have passed.
-pub fn estimate_checked(d: usize, w: usize, memory: &[u8], key: &[u8]) -> Estimate
+pub fn estimate_checked(d: usize, w: usize, memory: &[u8], key: &[u8]) -> Answer
     requires { bad_call d w memory.now key.now ≡ 0 }
     ensures { result ≡ estimated d w memory.now key.now }
 {
     let bytes = whole(key);
     if d == 1 {
         let c = meter_row::read_row(memory, w, row_slot(Hash::start(), w, bytes, 0));
-        return estimate_of(c.status, in_row(0, c));
+        return answer_of(c.status, c.value);
     }
     let slots = key_slots(Hash::start(), w, bytes, d);
     let found = meter_rows::read_rows(d, w, memory, &slots);
-    let least = found.least;
-    estimate_of(found.status, least)
+    answer_of(found.status, found.value)
 }
 
-// The least of the key's counters: its value, its level and its row.
-pub fn estimate(d: usize, w: usize, memory: &[u8], key: &[u8]) -> Estimate
+// The least value of the key's counters.
+pub fn estimate(d: usize, w: usize, memory: &[u8], key: &[u8]) -> Answer
     ensures { result ≡ estimated d w memory.now key.now }
 {
     let bad = bad_call(d, w, memory, key);
     if bad != 0 {
-        let none = Located {
-            value: 0,
-            level: 0,
-            row: 0,
-        };
-        return estimate_of(bad, none);
+        return answer_of(bad, 0);
     }
     estimate_checked(d, w, memory, key)
 }

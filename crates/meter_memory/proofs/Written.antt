@@ -71,8 +71,8 @@ rows_long d w memory p r h = row_length r (stride w) memory (one_row d w r p h).
 
 module _ (w : ℕ) (v : valid_width w ≡ true) where
   -- where groups lie
-  pub in_row_lem : (g : ℕ) (row : List ℕ) → length row ≡ stride w → g < w / 8 → (8 * g + 8 ≤ w) × (w + g < length row)
-  in_row_lem g row l h = let i = group_in w g v h in (i.0, omega (arith, i.1))
+  pub in_row : (g : ℕ) (row : List ℕ) → length row ≡ stride w → g < w / 8 → (8 * g + 8 ≤ w) × (w + g < length row)
+  in_row g row l h = let i = group_in w g v h in (i.0, omega (arith, i.1))
 
   pub full-row : (row : List ℕ) → length row ≡ stride w → w ≤ length row
   full-row row l = omega (arith, stride_is w)
@@ -80,7 +80,7 @@ module _ (w : ℕ) (v : valid_width w ≡ true) where
   -- the group of a slot written anew, and no other
   module _ (row : List ℕ) (l : length row ≡ stride w) (slot : ℕ) (s : slot < w) (x : Group) (eight : length x.counts ≡ 8) where
     at : (8 * (slot / 8) + 8 ≤ w) × (w + slot / 8 < length row)
-    at = in_row_lem (slot / 8) row l (slot_in w slot v s)
+    at = in_row (slot / 8) row l (slot_in w slot v s)
 
     pub slot_length : length (with_group w row (slot / 8) x) ≡ stride w
     slot_length = length-with w row (slot / 8) x eight at.0 at.1 ∙ l
@@ -89,7 +89,7 @@ module _ (w : ℕ) (v : valid_width w ≡ true) where
     slot-group = group_same w row (slot / 8) x eight at.0 at.1
 
     pub slot-other : (g : ℕ) → g < w / 8 → (g ≡ slot / 8 → ⊥) → group_at w (with_group w row (slot / 8) x) g ≡ group_at w row g
-    slot-other g h n = group-other w row (slot / 8) x eight at.0 at.1 g (in_row_lem g row l h).0 n
+    slot-other g h n = group-other w row (slot / 8) x eight at.0 at.1 g (in_row g row l h).0 n
 
   -- an operation on the groups of two rows keeps the row's length and writes each group
   module _ (f : Group → Group → Outcome) (eight : (x y : Group) → length x.counts ≡ 8 → length (f x y).group.counts ≡ 8) where

@@ -1,5 +1,5 @@
 -- Where rows and groups lie in a meter's memory. Document 01, 'Rows, groups and blocks' and 'Where a key lands'. Cited by contracts.
-use Rattle.std.specs.Prelude.{ℕ, zero, suc, ◌+◌, ◌*◌, max, List, [], ◌∷◌, ◌++◌, get_or, take, drop, set}
+use Rattle.std.specs.Prelude.{ℕ, zero, suc, ◌+◌, ◌*◌, min, max, List, [], ◌∷◌, ◌++◌, get_or, take, drop, set}
 use Rattle.group.specs.declared.Group.{Group}
 use Rattle.geometry.specs.Geometry.{stride}
 
@@ -30,7 +30,15 @@ unfoldable pub of_groups : (ℕ → ℕ) → ℕ → ℕ → List ℕ
 of_groups f zero g = []
 of_groups f (suc n) g = f g ∷ of_groups f n (g + 1)
 
--- the largest of a list
+-- the least of a number and of a list, the least of a list, and the largest
+unfoldable pub least_or : ℕ → List ℕ → ℕ
+least_or v [] = v
+least_or v (x ∷ xs) = least_or (min v x) xs
+
+unfoldable pub least : List ℕ → ℕ
+least [] = 0
+least (x ∷ xs) = least_or x xs
+
 unfoldable pub largest : List ℕ → ℕ
 largest [] = 0
 largest (x ∷ xs) = max x (largest xs)

@@ -4,8 +4,6 @@ use Rattle.group.specs.declared.Group.{Group}
 use Rattle.group.specs.Group.{read}
 use Rattle.geometry.specs.Geometry.{stride}
 use Rattle.meter_memory.specs.Rows.{row_of, map_rows, group_at}
-use Rattle.meter_least.specs.declared.Located.{Located}
-use Rattle.meter_least.specs.Least.{in_row}
 use Rattle.meter_row.specs.Row.{added_in, added_row}
 
 -- a slot for each of d rows
@@ -19,9 +17,9 @@ added_status w slots amount r row = (added_in w row (get_or slots r 0) amount).s
 abbrev pub slot_added : ℕ → List ℕ → ℕ → ℕ → List ℕ → List ℕ
 slot_added w slots amount r row = added_row w row (get_or slots r 0) amount
 
--- the counter that an update of row r leaves
-abbrev pub added_counter : ℕ → List ℕ → ℕ → ℕ → List ℕ → Located
-added_counter w slots amount r row = in_row r (read (added_in w row (get_or slots r 0) amount).group (get_or slots r 0))
+-- the value of the counter that an update of row r leaves
+abbrev pub added_value : ℕ → List ℕ → ℕ → ℕ → List ℕ → ℕ
+added_value w slots amount r row = (read (added_in w row (get_or slots r 0) amount).group (get_or slots r 0)).value
 
 -- the rows that updates of d rows leave, and groups that are those updates', not yet stored
 abbrev pub added_rows : ℕ → ℕ → List ℕ → ℕ → List ℕ → List ℕ
@@ -34,5 +32,5 @@ Added d w memory slots amount groups = (z : Group) (r : ℕ) → r < d → get_o
 abbrev pub slot_status : ℕ → List ℕ → ℕ → List ℕ → ℕ
 slot_status w slots r row = (read (group_at w row (get_or slots r 0 / 8)) (get_or slots r 0)).status
 
-abbrev pub slot_counter : ℕ → List ℕ → ℕ → List ℕ → Located
-slot_counter w slots r row = in_row r (read (group_at w row (get_or slots r 0 / 8)) (get_or slots r 0))
+abbrev pub slot_value : ℕ → List ℕ → ℕ → List ℕ → ℕ
+slot_value w slots r row = (read (group_at w row (get_or slots r 0 / 8)) (get_or slots r 0)).value

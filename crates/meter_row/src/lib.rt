@@ -1,15 +1,13 @@
 // One row of a meter: what an estimate and the widest level read of it, and an update in it.
-ghost use Rattle.std.specs.Prelude.{◌≡◌, true, cond, ◌/◌, ◌<◌, max, eqb, length};
+ghost use Rattle.std.specs.Prelude.{◌≡◌, true, cond, ◌/◌, ◌<◌, min, max, eqb, length};
 ghost use Rattle.geometry.specs.Geometry.{valid_width};
 ghost use Rattle.geometry.specs.Geometry as geometry;
 ghost use Rattle.meter_memory.specs.Rows.{group_at, with_group};
 ghost use Rattle.group.specs.Group.{read};
-ghost use Rattle.meter_least.specs.Least.{in_row};
 ghost use Rattle.meter_row.specs.Row.{widest_status, widest_row, added_in, added_row};
 
 use answer::{Answer, earlier};
 use group::{Group, Reading};
-use meter_least::{Found, in_row};
 use meter_memory::{load, store};
 
 // The counter of a slot.
@@ -22,7 +20,13 @@ pub fn read_row(row: &[u8], w: usize, slot: usize) -> Reading
     group::counter(load(row, w, slot / 8), slot)
 }
 
-// The larger of two numbers.
+// The smaller of two numbers, and the larger.
+pub fn smaller(a: u64, b: u64) -> u64
+    ensures { result ≡ min a b }
+{
+    if b < a { b } else { a }
+}
+
 pub fn larger(a: u64, b: u64) -> u64
     ensures { result ≡ max a b }
 {
@@ -39,13 +43,13 @@ pub fn update_row(row: &mut [u8], w: usize, slot: usize, x: Group)
     store(row, w, slot / 8, x);
 }
 
-// An amount added in the group of a slot of row 0, if the group takes it; the group's status, and the counter that is left.
-pub fn update_one(row: &mut [u8], w: usize, slot: usize, amount: u32) -> Found
+// An amount added in the group of a slot, if the group takes it; the group's status, and the value of the counter that is left.
+pub fn update_one(row: &mut [u8], w: usize, slot: usize, amount: u32) -> Answer
     requires fact_1 { valid_width w ≡ true }
     requires fact_2 { length row.old ≡ geometry.stride w }
     requires fact_3 { slot < w }
     ensures status_value { result.status ≡ (added_in w row.old slot amount).status }
-    ensures least_value { result.least ≡ in_row 0 (read (added_in w row.old slot amount).group slot) }
+    ensures value_value { result.value ≡ (read (added_in w row.old slot amount).group slot).value }
     ensures row_after { row.new ≡ cond (eqb result.status 0) (added_row w row.old slot amount) row.old }
 {
     let x = load(row, w, slot / 8);
@@ -57,25 +61,27 @@ pub fn update_one(row: &mut [u8], w: usize, slot: usize, amount: u32) -> Found
             merge: x.merge,
         };
         update_row(row, w, slot, kept);
-        let same = k.counter;
-        return Found {
+        return Answer {
             status: 0,
-            least: in_row(0, same),
+            position: 0,
+            value: k.value,
         };
     }
     let o = group::add_widening(x, slot, amount);
     let g = o.group;
     let c = group::counter(g, slot);
     if o.status != 0 {
-        return Found {
+        return Answer {
             status: o.status,
-            least: in_row(0, c),
+            position: 0,
+            value: c.value,
         };
     }
     update_row(row, w, slot, g);
-    Found {
+    Answer {
         status: 0,
-        least: in_row(0, c),
+        position: 0,
+        value: c.value,
     }
 }
 

@@ -3,33 +3,36 @@ ghost use Rattle.std.specs.Prelude.{◌≡◌, ◌≤◌, length};
 ghost use Rattle.geometry.specs.Geometry.{RowsIn};
 ghost use Rattle.geometry.specs.Geometry as geometry;
 ghost use Rattle.answer.specs.Order.{earliest};
-ghost use Rattle.meter_memory.specs.Rows.{map_rows, of_rows, largest};
-ghost use Rattle.meter_least.specs.Least.{least};
+ghost use Rattle.meter_memory.specs.Rows.{map_rows, of_rows, least, largest};
 ghost use Rattle.meter_row.specs.Row.{row_status, row_level};
-ghost use Rattle.meter_row.specs.Slots.{SlotsIn, slot_status, slot_counter};
+ghost use Rattle.meter_row.specs.Slots.{SlotsIn, slot_status, slot_value};
 ghost use Rattle.meter_union.specs.Union.{source_status, source_added};
 
 use answer::{Answer, earlier};
-use meter_least::{Found, in_row, lesser};
 use meter_memory::row_at;
+use meter_row::smaller;
 
-// The first status of the counters of a slot in each row, and the least of them.
-pub fn read_rows(d: usize, w: usize, memory: &[u8], slots: &[usize; 8]) -> Found
+// The first status of the counters of a slot in each row, and their least value.
+pub fn read_rows(d: usize, w: usize, memory: &[u8], slots: &[usize; 8]) -> Answer
     requires fact_1 { 1 ≤ d }
     requires fact_2 { RowsIn d w (length memory.now) }
     requires fact_3 { SlotsIn d w slots.now }
     ensures status_value { result.status ≡ earliest (of_rows (slot_status w slots.now) (geometry.stride w) d 0 memory.now) }
-    ensures least_value { result.least ≡ least (of_rows (slot_counter w slots.now) (geometry.stride w) d 0 memory.now) }
+    ensures value_value { result.value ≡ least (of_rows (slot_value w slots.now) (geometry.stride w) d 0 memory.now) }
 {
     let first = meter_row::read_row(row_at(w, memory, 0), w, slots[0]);
     let mut status = first.status;
-    let mut least = in_row(0, first);
+    let mut value = first.value;
     for r in 1..d {
         let c = meter_row::read_row(row_at(w, memory, r), w, slots[r]);
         status = earlier(status, c.status);
-        least = lesser(least, in_row(r as u32, c));
+        value = smaller(value, c.value);
     }
-    Found { status, least }
+    Answer {
+        status,
+        position: 0,
+        value,
+    }
 }
 
 // The first status of a meter's groups, and their largest level.

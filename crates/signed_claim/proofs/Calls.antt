@@ -17,7 +17,7 @@ use Rattle.group.specs.declared.Outcome.{Outcome}
 use Rattle.meter_memory.specs.Rows.{row_of, map_rows, of_rows, group_at}
 use Rattle.meter_memory.specs.Pairs.{paired_at}
 use Rattle.meter_memory.proofs.Groups.{eight_at}
-use Rattle.meter_memory.proofs.Written.{row_none, rows_after, length_after, rows_long, in_row_lem, full-row, slot_length, slot-group, slot-other, pairs-taken, pairs-long, pairs-group}
+use Rattle.meter_memory.proofs.Written.{row_none, rows_after, length_after, rows_long, in_row, full-row, slot_length, slot-group, slot-other, pairs-taken, pairs-long, pairs-group}
 use Rattle.meter_keys.specs.Keys.{key_slot}
 use Rattle.meter_keys.proofs.Landing.{key_in}
 use Rattle.signed_group.specs.Group.{combined}
@@ -50,7 +50,7 @@ module _ (d w : ℕ) (memory : List ℕ) (p : RowsIn d w (length memory)) (key :
   unfolding added_in
   eight r row l =
       added_eight (group_at w row (slot r / 8)) (slot r) (row_amount basis key amount r)
-      (eight_at w (slot r / 8) row (in_row_lem w p.0 (slot r / 8) row l (slot_in w (slot r) p.0 (key_in w key r p.0))).0 (full-row w p.0 row l))
+      (eight_at w (slot r / 8) row (in_row w p.0 (slot r / 8) row l (slot_in w (slot r) p.0 (key_in w key r p.0))).0 (full-row w p.0 row l))
 
   keeps : (r : ℕ) (row : List ℕ) → length row ≡ stride w → length (update_row basis w key amount r row) ≡ stride w
   unfolding update_row

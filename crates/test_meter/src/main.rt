@@ -2,7 +2,6 @@
 use answer::Answer;
 use hash::Hash;
 use libc::STDOUT_FILENO;
-use meter_least::Estimate;
 
 fn text(s: &[u8]) {
     io::write_all(STDOUT_FILENO, s);
@@ -14,23 +13,10 @@ fn decimal(n: u64) {
 }
 
 // An answer: status, position and value.
-fn answer(a: Answer) {
+fn show(a: Answer) {
     decimal(a.status as u64);
     decimal(a.position);
     decimal(a.value);
-}
-
-fn show(a: Answer) {
-    answer(a);
-    text(b"\n");
-}
-
-// An estimate: its answer, level and row.
-fn show_estimate(e: Estimate) {
-    let a = e.answer;
-    answer(a);
-    decimal(e.level as u64);
-    decimal(e.row as u64);
     text(b"\n");
 }
 
@@ -56,7 +42,7 @@ fn update(d: usize, w: usize, memory: &mut [u8], key: &[u8], amount: u32) {
 
 fn estimate(d: usize, w: usize, memory: &[u8], key: &[u8]) {
     text(b"estimate");
-    show_estimate(meter::estimate(d, w, memory, key));
+    show(meter::estimate(d, w, memory, key));
 }
 
 fn widest(d: usize, w: usize, memory: &[u8]) {
@@ -231,24 +217,10 @@ fn full() {
     update(2, 32, &mut m, b"a", 1);
 }
 
-// The least counter in a row after the first, of another level than the first row's; equal ones, of which the lowest row's is given.
-fn least_row() {
-    let mut m = [0u8; 72];
-    put(&mut m, 0, 32, 1);
-    put(&mut m, 32, 36, 127);
-    put(&mut m, 36, 68, 2);
-    estimate(2, 32, &m, b"a");
-    put(&mut m, 0, 36, 0);
-    put(&mut m, 36, 68, 0);
-    put(&mut m, 68, 72, 127);
-    estimate(2, 32, &m, b"a");
-}
-
 fn main() {
     one_row();
     two_rows();
     eight_rows();
     refused();
     full();
-    least_row();
 }

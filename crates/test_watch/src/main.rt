@@ -1,11 +1,7 @@
 // A watch list's calls run by the compiled code; what they print is compared with `stdout` beside src/.
-ghost use Rattle.std.specs.Prelude.{◌≡◌, ◌<◌, length};
-
 use answer::Answer;
 use hash::Hash;
 use libc::STDOUT_FILENO;
-use little_endian::number_of;
-use meter_memory::eight;
 
 fn text(s: &[u8]) {
     io::write_all(STDOUT_FILENO, s);
@@ -34,22 +30,12 @@ fn show(a: Answer) {
     decimal(a.value);
 }
 
-// A place: its key length, its estimate and its level.
-fn place(list: &[u8], i: usize)
-    requires { (length list.now ≡ 4737) × (i < 64) }
-{
-    byte(list[i]);
-    decimal(number_of(eight(list, 4161 + i * 8)));
-    byte(list[4673 + i]);
-}
-
-// The first two places, the mark, and all bytes.
+// The first two key lengths, the mark, and all bytes.
 fn list_line(list: &[u8]) {
     text(b" list");
-    if list.len() == 4737 {
-        place(list, 0);
-        place(list, 1);
-        text(b" mark");
+    if 64 < list.len() {
+        byte(list[0]);
+        byte(list[1]);
         byte(list[64]);
     }
     digest(list);
@@ -90,14 +76,6 @@ fn leaves(m: &mut [u8], list: &mut [u8]) {
     remove(list, b"tenant");
 }
 
-// A listed key is renewed with another level, one joins with a level above 0, and a level moves up with its place.
-fn widens(m: &mut [u8], list: &mut [u8]) {
-    update(m, list, b"tenant-1", 200, 100);
-    update(m, list, b"tenant-2", 70000, 100);
-    update(m, list, b"tenant-1", 65536, 100);
-    remove(list, b"tenant-1");
-}
-
 // The order of the numbers.
 fn numbers(m: &mut [u8], list: &mut [u8]) {
     update(m, list, b"", 1, 0);
@@ -105,25 +83,15 @@ fn numbers(m: &mut [u8], list: &mut [u8]) {
     remove(list, b"");
 }
 
-fn put(list: &mut [u8], at: usize, b: u8) {
-    if at < list.len() {
-        list[at] = b;
+// A key length after a 0.
+fn spoil(list: &mut [u8]) {
+    if 64 < list.len() {
+        list[63] = 8;
     }
 }
 
-// A level of 255 in a free place, and of 4 in one in use.
-fn levels(m: &mut [u8], list: &mut [u8]) {
-    put(list, 4736, 255);
-    update(m, list, b"tenant-2", 1, 100);
-    put(list, 4673, 4);
-    update(m, list, b"tenant-2", 1, 100);
-    remove(list, b"tenant-2");
-    put(list, 4673, 3);
-}
-
-// A key length after a 0.
 fn broken(m: &mut [u8], list: &mut [u8]) {
-    put(list, 63, 8);
+    spoil(list);
     update(m, list, b"tenant-1", 1, 0);
     remove(list, b"tenant-1");
 }
@@ -152,18 +120,16 @@ fn full(m: &mut [u8], list: &mut [u8]) {
 
 fn refused(m: &mut [u8], list: &mut [u8]) {
     numbers(m, list);
-    levels(m, list);
     broken(m, list);
     other_length(m, &mut list[0..0]);
 }
 
 fn main() {
     let mut m = [0u8; 36];
-    let mut list = [255u8; 4737];
+    let mut list = [255u8; 4673];
     clear(&mut list);
     joins(&mut m, &mut list);
     leaves(&mut m, &mut list);
-    widens(&mut m, &mut list);
     refused(&mut m, &mut list);
     full(&mut m, &mut list);
 }

@@ -1,5 +1,4 @@
--- What a memory that holds a traffic answers: the estimate of every key, between the two figures and exact for its level and row, and the
--- widest level.
+-- What a memory that holds a traffic answers: the estimate of every key, between the two figures, and the widest level.
 use mathlib.Core.Path.{◌≡◌, refl, sym, ap, ◌∙◌}
 use mathlib.Core.Bool.{true}
 use mathlib.Core.List.{List}
@@ -19,21 +18,18 @@ use Rattle.group_totals.proofs.Groups.{group_of, widest-status, widest-most, wid
 use Rattle.geometry.specs.Geometry.{valid_depth, valid_width, stride, size}
 use Rattle.answer.specs.Order.{first_of, earliest}
 use Rattle.geometry.specs.Checks.{bad_shape, bad_key}
-use Rattle.meter_memory.specs.Rows.{of_rows, of_groups, largest}
-use Rattle.meter_least.specs.declared.Located.{Located}
-use Rattle.meter_least.specs.Least.{in_row, least, estimate_of}
-use Rattle.meter_least.proofs.First.{First, least-is-first}
+use Rattle.meter_memory.specs.Rows.{of_rows, of_groups, least, largest}
 use Rattle.meter_keys.specs.Keys.{key_slot}
 use Rattle.meter_row.specs.Row.{read_row, level_status, group_level, widest_status, widest_row}
 use Rattle.geometry.proofs.Widths.{depth_in, slot_in, group_in}
-use Rattle.meter.specs.Meter.{row_of, read_status, read_counter, estimated, row_status, row_level, widest}
+use Rattle.meter.specs.Meter.{row_of, read_status, read_value, estimated, row_status, row_level, widest}
 use Rattle.meter.proofs.Calls.{call_key, estimated-good, widest-good}
 use Rattle.meter_keys.proofs.Landing.{key_in}
 use Rattle.traffic.specs.Traffic.{Pair, block_of, block_total, level_up_to, level, lower, landing_total, upper}
 use Rattle.traffic.proofs.Holds.{Holds}
 use Rattle.traffic.specs.Claim.{Between}
 use Rattle.traffic.proofs.Totals.{key-le, wider_le, overflow-some, some-overflow, level-least, level-cause}
-use Rattle.traffic.proofs.Gather.{rows_are, none_earliest, largest_le, le_largest, le_least_below}
+use Rattle.traffic.proofs.Gather.{rows_are, none_earliest, largest_le, le_largest, le_least, least_le, le_least_below}
 
 pub good_shape : (d w n : ℕ) → valid_depth d ≡ true → valid_width w ≡ true → n ≡ size d w → bad_shape d w n ≡ 0
 unfolding first_of
@@ -126,65 +122,48 @@ module _ (d w : ℕ) (vd : valid_depth d ≡ true) (vw : valid_width w ≡ true)
       unfolding read_status
       status-none = ap (λ (x : Reading). x.status) row_is ∙ read-status (block_total w r ps) (slot / 8) (holds.fits r (slot / 8) p group) slot
 
-      -- the key's counter: its value is the total of the block of its level
-      abbrev counter : Located
-      counter = read_counter w key r (row_of w memory r)
+      -- the value is a block's total
+      value_is : read_value w key r (row_of w memory r) ≡ block_total w r ps (read there slot).level (slot / 2 ^ (read there slot).level)
+      unfolding read_value
+      value_is = ap (λ (x : Reading). x.value) row_is ∙ read-value (block_total w r ps) (slot / 8) (holds.fits r (slot / 8) p group) slot refl
 
-      level_is : counter.level ≡ (read there slot).level
-      unfolding read_counter in_row
-      level_is = ap (λ (x : Reading). x.level) row_is
-
-      value_is : counter.value ≡ block_total w r ps counter.level (slot / 2 ^ counter.level)
-      unfolding read_counter in_row
-      value_is =
-          rw level_is (ap (λ (x : Reading). x.value) row_is ∙ read-value (block_total w r ps) (slot / 8) (holds.fits r (slot / 8) p group) slot refl)
-
-      level-high : counter.level ≤ level d w ps
-      level-high = omega (arith, level_is, read_level (block_total w r ps) (slot / 8) (holds.fits r (slot / 8) p group) slot, group-le r (slot / 8) p group)
-
-      level_most : counter.level ≤ 3
-      level_most = omega (arith, level_is, read_level (block_total w r ps) (slot / 8) (holds.fits r (slot / 8) p group) slot, widest-most (block_total w r ps) (slot / 8))
-
-      value_low : lower ps key ≤ counter.value
+      value_low : lower ps key ≤ read_value w key r (row_of w memory r)
       unfolding lower slot
-      value_low = omega (arith, value_is, key-le w r ps key counter.level)
+      value_low = omega (arith, value_is, key-le w r ps key (read there slot).level)
 
-      value-high : counter.value ≤ landing_total w (level d w ps) ps key r
+      value-high : read_value w key r (row_of w memory r) ≤ landing_total w (level d w ps) ps key r
       unfolding landing_total block_of slot
-      value-high = rw value_is (wider_le w r ps slot counter.level (level d w ps) level-high)
+      value-high =
+          let l = read_level (block_total w r ps) (slot / 8) (holds.fits r (slot / 8) p group) slot in
+          rw value_is (wider_le w r ps slot (read there slot).level (level d w ps) (omega (arith, l, group-le r (slot / 8) p group)))
 
       -- and so fits in 64 bits
-      value-fits : counter.value < cap 3
+      value-fits : read_value w key r (row_of w memory r) < cap 3
       value-fits =
-          let e = wider_le w r ps slot counter.level 3 level_most in
+          let l = read_level (block_total w r ps) (slot / 8) (holds.fits r (slot / 8) p group) slot in
+          let m = widest-most (block_total w r ps) (slot / 8) in
+          let e = wider_le w r ps slot (read there slot).level 3 (omega (arith, l, m)) in
           rw value_is (omega (arith, e, holds.fits r (slot / 8) p group))
 
-      -- of the row that it says
-      located : (counter.row < d) × (counter.level ≤ 3) × (counter.value ≡ landing_total w counter.level ps key counter.row)
-      unfolding landing_total block_of slot read_counter in_row
-      located = (p, level_most, value_is)
+    pub estimate-fits : least (of_rows (read_value w key) (stride w) d 0 memory) < cap 3
+    estimate-fits =
+        let f : ℕ → ℕ = λ r. read_value w key r (row_of w memory r) in
+        let some = (depth_in d vd).0 in
+        rw (rows_are (read_value w key) d w memory) (omega (arith, least_le f d 0 0 (omega arith) (omega arith), value-fits 0 (omega arith)))
 
-    abbrev found : Located
-    found = least (of_rows (read_counter w key) (stride w) d 0 memory)
-
-    first : First (read_counter w key) w memory d found
-    first = least-is-first (read_counter w key) w memory d (depth_in d vd).0
-
-    pub estimate-fits : found.value < cap 3
-    estimate-fits = rw first.is (value-fits first.row first.row_in)
-
-    pub estimate-holds : bad_key (length key) ≡ 0 → estimated d w memory key ≡ estimate_of 0 (least (of_rows (read_counter w key) (stride w) d 0 memory))
+    pub estimate-holds : bad_key (length key) ≡ 0 → estimated d w memory key ≡ accepted (least (of_rows (read_value w key) (stride w) d 0 memory))
+    unfolding answer_of
     estimate-holds k =
         let s : earliest (of_rows (read_status w key) (stride w) d 0 memory) ≡ 0 =
         rw (rows_are (read_status w key) d w memory) (none_earliest (λ r. read_status w key r (row_of w memory r)) d 0 (λ r h q. status-none r (omega arith))) in
         sym (estimated-good d w memory key (sym (call_key d w memory key shape_is) ∙ k)) ∙ rw s
 
-    pub estimate-between : Between d w ps key found.value
+    pub estimate-between : Between d w ps key (least (of_rows (read_value w key) (stride w) d 0 memory))
     unfolding upper
-    estimate-between = (
-      rw first.is (value_low first.row first.row_in),
-      le_least_below (landing_total w (level d w ps) ps key) found.value d (depth_in d vd).0 (λ r q. omega (arith, first.all r q, value-high r q)),
-    )
-
-    pub estimate-exact : (found.row < d) × (found.level ≤ 3) × (found.value ≡ landing_total w found.level ps key found.row)
-    estimate-exact = rw first.is (located first.row first.row_in)
+    estimate-between =
+        let f : ℕ → ℕ = λ r. read_value w key r (row_of w memory r) in
+        rw (rows_are (read_value w key) d w memory) (
+          le_least f (lower ps key) d 0 (depth_in d vd).0 (λ r h q. value_low r (omega arith)),
+          le_least_below (landing_total w (level d w ps) ps key) (least (of_groups f d 0)) d (depth_in d vd).0
+              (λ r q. omega (arith, least_le f d 0 r (omega arith) (omega arith), value-high r q)),
+        )

@@ -23,10 +23,10 @@ use Rattle.traffic.specs.Traffic.{Pair, block_total}
 use Rattle.traffic.proofs.Holds.{Holds, byte_in, byte_at}
 
 -- byte j of a row, by its groups
-in_row_lem : (w : ℕ) (row : List ℕ) (groups : ℕ → Group) → valid_width w ≡ true → ((g : ℕ) → g < w / 8 → group_at w row g ≡ groups g)
+in_row : (w : ℕ) (row : List ℕ) (groups : ℕ → Group) → valid_width w ≡ true → ((g : ℕ) → g < w / 8 → group_at w row g ≡ groups g)
     → (j : ℕ) → j < stride w → get_or row j 0 ≡ byte_in w groups j
 unfolding byte_in group_at
-in_row_lem w row groups v same j h =
+in_row w row groups v same j h =
     let eights = (wide w v).eights in
     elim (dec_lt j w) [
       | yes l ↦
@@ -57,7 +57,7 @@ module _ (d w : ℕ) (vw : valid_width w ≡ true) (memory : List ℕ) (ps : Lis
       ap (λ (k : ℕ). get_or memory k 0) (sym (div-add-mod' i s))
       ∙ sym (get_or-drop (r * s) memory j 0)
       ∙ sym (get_or-take s (drop (r * s) memory) j 0 l)
-      ∙ in_row_lem w (row_of w memory r) (group_of (block_total w r ps)) vw (λ g q. holds.groups r g p q) j l
+      ∙ in_row w (row_of w memory r) (group_of (block_total w r ps)) vw (λ g q. holds.groups r g p q) j l
 
   in-lt : (t : ℕ → ℕ → ℕ) (j : ℕ) → byte_in w (group_of t) j < 256
   unfolding byte_in

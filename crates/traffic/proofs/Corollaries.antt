@@ -58,11 +58,11 @@ pub within : Within
 within = every
 
 -- The record clause once more, by the case of the enum: only an asking record gives it.
-pub outcomes : (d w : ℕ) → valid_depth d ≡ true → valid_width w ≡ true → (calls : Calls) → Faithful d w calls → (before : ℕ) (words : List ℕ) (value level row : ℕ)
-    → (recorded d w (run d w calls) before words).outcome ≡ case.Estimate value level row → Between d w (traffic calls) (key_of (payload words 0) words) value
+pub outcomes : (d w : ℕ) → valid_depth d ≡ true → valid_width w ≡ true → (calls : Calls) → Faithful d w calls → (before : ℕ) (words : List ℕ) (value : ℕ)
+    → (recorded d w (run d w calls) before words).outcome ≡ case.Estimate value → Between d w (traffic calls) (key_of (payload words 0) words) value
 unfolding done
-outcomes d w vd vw calls f before words value level row e =
-    let due = only_queries d w (run d w calls) before words value level row e in
+outcomes d w vd vw calls f before words value e =
+    let due = only_queries d w (run d w calls) before words value e in
     rw e at ((demand_3 d w vd vw calls f).records before words due (ap (λ (x : Recorded). (record_answer x).status) e))
 
 -- what a pair adds to a sum

@@ -1,14 +1,14 @@
 -- Laws of lists that are gathered over rows and groups.
 use mathlib.Core.Path.{◌≡◌, refl, ap}
 use mathlib.Core.List.{List, [], ◌∷◌}
-use Prim.Native.Nat.{ℕ, zero, suc, ◌+◌, ◌*◌, ◌≤◌, ◌<◌}
+use Prim.Native.Nat.{ℕ, zero, suc, ◌+◌, ◌*◌, ◌≤◌, ◌<◌, min}
 use native.Mathlib.Nat.{zero-mul}
 use native.Mathlib.Decide.{ℕ_discrete}
 use native.Mathlib.Omega.{arith}
 use lib.ListN.{take, drop}
 use Rattle.geometry.specs.Geometry.{stride}
 use Rattle.answer.specs.Order.{earlier, earliest}
-use Rattle.meter_memory.specs.Rows.{of_rows, of_groups, largest}
+use Rattle.meter_memory.specs.Rows.{of_rows, of_groups, least_or, least, largest}
 use Rattle.meter.specs.Meter.{row_of}
 use Rattle.meter_memory.proofs.Lists.{drop_row}
 use Rattle.traffic.specs.Traffic.{least_below}
@@ -47,7 +47,37 @@ unfolding of_groups largest
 le_largest f zero k i p q = absurd (omega arith)
 le_largest f (suc n) k i p q = elim (ℕ_discrete i k) [ yes e ↦ rw e (omega arith) | no e ↦ omega (arith, le_largest f n (k + 1) i (omega arith) (omega arith)) ]
 
--- the least of some numbers
+-- the least of a number and others
+or_le : (v : ℕ) (xs : List ℕ) → least_or v xs ≤ v
+unfolding least_or
+or_le v [] = omega arith
+or_le v (x ∷ xs) = omega (arith, or_le (min v x) xs)
+
+le_or : (f : ℕ → ℕ) (b v n k : ℕ) → b ≤ v → All (λ i. b ≤ f i) n k → b ≤ least_or v (of_groups f n k)
+unfolding of_groups least_or
+le_or f b v zero k h a = h
+le_or f b v (suc n) k h a = le_or f b (min v (f k)) n (k + 1) (omega (arith, a k (omega arith) (omega arith))) (rest n k a)
+
+or_le_each : (f : ℕ → ℕ) (v n k : ℕ) → All (λ i. least_or v (of_groups f n k) ≤ f i) n k
+unfolding of_groups least_or
+or_le_each f v zero k i p q = absurd (omega arith)
+or_le_each f v (suc n) k i p q =
+    elim (ℕ_discrete i k) [
+      | yes e ↦ rw e (omega (arith, or_le (min v (f k)) (of_groups f n (k + 1))))
+      | no e ↦ or_le_each f (min v (f k)) n (k + 1) i (omega arith) (omega arith)
+    ]
+
+pub le_least : (f : ℕ → ℕ) (b n k : ℕ) → 1 ≤ n → All (λ i. b ≤ f i) n k → b ≤ least (of_groups f n k)
+unfolding of_groups least
+le_least f b zero k h a = absurd (omega arith)
+le_least f b (suc n) k h a = le_or f b (f k) n (k + 1) (a k (omega arith) (omega arith)) (rest n k a)
+
+pub least_le : (f : ℕ → ℕ) (n k : ℕ) → All (λ i. least (of_groups f n k) ≤ f i) n k
+unfolding of_groups least
+least_le f zero k i p q = absurd (omega arith)
+least_le f (suc n) k i p q =
+    elim (ℕ_discrete i k) [ yes e ↦ rw e (or_le (f k) (of_groups f n (k + 1))) | no e ↦ or_le_each f (f k) n (k + 1) i (omega arith) (omega arith) ]
+
 pub le_least_below : (f : ℕ → ℕ) (b n : ℕ) → 1 ≤ n → ((i : ℕ) → i < n → b ≤ f i) → b ≤ least_below n f
 unfolding least_below
 le_least_below f b zero h a = absurd (omega arith)

@@ -13,10 +13,9 @@ use Rattle.meter.specs.Meter.{updated, estimated}
 use Rattle.word.specs.Word.{end_kind, payload, is_due}
 use Rattle.feed.specs.declared.Recorded.{Recorded}
 use Rattle.feed.specs.declared.Recorded.TheVariants as case
-use Rattle.feed.specs.Answers.{record_estimate, record_answer}
-use Rattle.meter.proofs.Calls.{estimated-accepted}
+use Rattle.feed.specs.Answers.{record_answer}
 use Rattle.feed_records.specs.Words.{update_kind, query_kind, opens_key, opened, key_of, amount_of, update_step, query_step, body_of, update_body, query_body}
-use Rattle.feed.specs.Record.{Carried, outcome_of, estimate_outcome, update_outcome, queried, opened_outcome, record_outcome, recorded}
+use Rattle.feed.specs.Record.{Carried, outcome_of, update_outcome, queried, opened_outcome, record_outcome, recorded}
 use Rattle.feed.proofs.Cases.{carried_update, carried, carried_after, by_cases}
 use borrow.Table.Steps.{cases}
 
@@ -31,7 +30,7 @@ module _ (d w : ℕ) (memory : List ℕ) (before : ℕ) (words : List ℕ) where
   module _ (P : Carried → Type 0)
       (refuses : (s p : ℕ) → eqb s 0 ≡ false → P (record { outcome = case.Refused s p; memory = memory }))
       (updates : is_due words 0 update_kind ≡ true → P (record { outcome = outcome_of (updated d w memory key amount).answer case.Updated; memory = (updated d w memory key amount).memory }))
-      (queries : is_due words 0 update_kind ≡ false → is_due words 0 query_kind ≡ true → P (record { outcome = estimate_outcome (estimated d w memory key); memory = memory }))
+      (queries : is_due words 0 update_kind ≡ false → is_due words 0 query_kind ≡ true → P (record { outcome = outcome_of (estimated d w memory key) (case.Estimate (estimated d w memory key).value); memory = memory }))
       (ends : is_due words 0 update_kind ≡ false → is_due words 0 query_kind ≡ false → P (record { outcome = case.Ended; memory = memory })) where
     sound : P (carried d w memory words (opened before words))
     unfolding carried opened_outcome opened opens_key update_body query_body body_of carried_update update_outcome queried
@@ -76,30 +75,27 @@ one_kind words p j k e f =
 
 -- what an accepted query answers is the meter's estimate of the record's key
 pub query_is : (d w : ℕ) (memory : List ℕ) (before : ℕ) (words : List ℕ) → is_due words 0 query_kind ≡ true → (record_answer (recorded d w memory before words).outcome).status ≡ 0
-    → ((estimated d w memory (key_of (payload words 0) words)).answer.status ≡ 0)
-    × (estimated d w memory (key_of (payload words 0) words) ≡ record_estimate (recorded d w memory before words).outcome)
+    → ((estimated d w memory (key_of (payload words 0) words)).status ≡ 0)
+    × ((estimated d w memory (key_of (payload words 0) words)).value ≡ (record_answer (recorded d w memory before words).outcome).value)
 unfolding outcome_of
 query_is d w memory before words due =
-    let k = key_of (payload words 0) words in
-    let a = estimated d w memory k in
-    record-cases d w memory before words (λ c. (record_answer c.outcome).status ≡ 0 → (a.answer.status ≡ 0) × (a ≡ record_estimate c.outcome))
+    let a = estimated d w memory (key_of (payload words 0) words) in
+    record-cases d w memory before words (λ c. (record_answer c.outcome).status ≡ 0 → (a.status ≡ 0) × (a.value ≡ (record_answer c.outcome).value))
     (λ s p f e. absurd (eqb-false s 0 f e))
     (λ u e. absurd (five-not-six (one_kind words 0 update_kind query_kind u due)))
-    (λ u q. cases (eqb a.answer.status 0)
-    (λ t. rw t (λ e. (eqb-true a.answer.status 0 t, estimated-accepted d w memory k (eqb-true a.answer.status 0 t))))
-    (λ t. rw t (λ e. absurd (eqb-false a.answer.status 0 t e))))
+    (λ u q. cases (eqb a.status 0) (λ t. rw t (λ e. (eqb-true a.status 0 t, refl))) (λ t. rw t (λ e. absurd (eqb-false a.status 0 t e))))
     (λ u q e. absurd (true≢false (sym due ∙ q)))
   where
     five-not-six : update_kind ≡ query_kind → ⊥
     five-not-six e = omega arith
 
 -- only a query answers with an estimate
-pub only_queries : (d w : ℕ) (memory : List ℕ) (before : ℕ) (words : List ℕ) (value level row : ℕ) → (recorded d w memory before words).outcome ≡ case.Estimate value level row
+pub only_queries : (d w : ℕ) (memory : List ℕ) (before : ℕ) (words : List ℕ) (value : ℕ) → (recorded d w memory before words).outcome ≡ case.Estimate value
     → is_due words 0 query_kind ≡ true
 unfolding outcome_of
-only_queries d w memory before words value level row =
+only_queries d w memory before words value =
     let u = (updated d w memory (key_of (payload words 0) words) (amount_of (payload words 0) words)).answer in
-    record-cases d w memory before words (λ c. c.outcome ≡ case.Estimate value level row → is_due words 0 query_kind ≡ true)
+    record-cases d w memory before words (λ c. c.outcome ≡ case.Estimate value → is_due words 0 query_kind ≡ true)
     (λ s p f e. cc)
     (λ due. cases (eqb u.status 0) (λ t. rw t (λ e. cc)) (λ t. rw t (λ e. cc)))
     (λ due q e. q)

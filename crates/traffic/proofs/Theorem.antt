@@ -7,10 +7,7 @@ use native.Mathlib.Decide.{ℕ_discrete}
 use borrow.Author.Tests.{eqb-true}
 use lib.Dec.{eqb}
 use lib.ListN.{length, drop, replicate}
-use Rattle.meter_least.specs.declared.Located.{Located}
-use Rattle.meter_least.specs.declared.Estimate.{Estimate}
-use Rattle.meter_least.specs.Least.{estimate_of}
-use Rattle.meter_least.proofs.Estimates.{estimate_status}
+use Rattle.answer.specs.declared.Answer.{Answer}
 use Rattle.answer.specs.Answers.{accepted}
 use Rattle.group_block.specs.Block.{cap}
 use Rattle.geometry.specs.Geometry.{valid_depth, valid_width, size}
@@ -33,16 +30,12 @@ use Rattle.traffic.specs.Traffic.{Pair}
 use Rattle.traffic.specs.Calls.{Call, clear, update, estimate, widest, unite, write, read, feed, watch, Source, from, raw, Calls, none, then, record_pair, traffic, after, behind, run, done, bytes_of, words_of, Faithful, Listed, LeftBy}
 use Rattle.traffic.proofs.Holds.{Holds}
 use Rattle.traffic.specs.Claim.{Between, Claim, Demand3}
-use Rattle.traffic.specs.Exact.{Exact, ExactClaim, ExactFigures}
-use Rattle.traffic.proofs.Answers.{good_shape, good_key, widest-holds, estimate-holds, estimate-fits, estimate-between, estimate-exact}
+use Rattle.traffic.proofs.Answers.{good_shape, good_key, widest-holds, estimate-holds, estimate-fits, estimate-between}
 use Rattle.traffic.proofs.Steps.{start_holds, update-holds, unite-holds}
 use Rattle.traffic.proofs.Records.{record-cases, outcome_status, query_is}
+use Rattle.answer.proofs.Answers.{status_is}
 use Rattle.traffic.proofs.Refused.{kept}
 use Rattle.traffic.proofs.Bytes.{SameTotals, all-bytes, one_memory, holds_valid}
-
--- what stands for the counter of a refused estimate
-abbrev none_found : Located
-none_found = record { value = 0; level = 0; row = 0 }
 
 -- a clearing that is accepted leaves what a list starts from
 pub cleared_is : (d w : ℕ) (memory : List ℕ) → valid_depth d ≡ true → valid_width w ≡ true → length memory ≡ size d w → (cleared d w memory).memory ≡ replicate (size d w) 0
@@ -131,39 +124,30 @@ module _ (d w : ℕ) (vd : valid_depth d ≡ true) (vw : valid_width w ≡ true)
 
   module _ (calls : Calls) (f : Faithful d w calls) where
     pub answers : (key : List ℕ) → bad_key (length key) ≡ 0
-        → ((estimated d w (run d w calls) key).answer ≡ accepted (estimated d w (run d w calls) key).answer.value)
-        × Between d w (traffic calls) key (estimated d w (run d w calls) key).answer.value
-        × Exact d w (traffic calls) key (estimated d w (run d w calls) key)
-    unfolding estimate_of
+        → (estimated d w (run d w calls) key ≡ accepted (estimated d w (run d w calls) key).value) × Between d w (traffic calls) key (estimated d w (run d w calls) key).value
     answers key k =
-        rw (estimate-holds d w vd vw (run d w calls) (traffic calls) (holds calls f) key k) (
-          refl,
-          estimate-between d w vd vw (run d w calls) (traffic calls) (holds calls f) key,
-          estimate-exact d w vd vw (run d w calls) (traffic calls) (holds calls f) key,
-        )
+        rw (estimate-holds d w vd vw (run d w calls) (traffic calls) (holds calls f) key k)
+        (refl, estimate-between d w vd vw (run d w calls) (traffic calls) (holds calls f) key)
 
     -- an estimate has 64 bits
-    pub estimate-small : (key : List ℕ) → bad_key (length key) ≡ 0 → (estimated d w (run d w calls) key).answer.value < 2 ^ 64
-    unfolding cap estimate_of
+    pub estimate-small : (key : List ℕ) → bad_key (length key) ≡ 0 → (estimated d w (run d w calls) key).value < 2 ^ 64
+    unfolding cap
     estimate-small key k =
         rw (estimate-holds d w vd vw (run d w calls) (traffic calls) (holds calls f) key k) (estimate-fits d w vd vw (run d w calls) (traffic calls) (holds calls f) key)
 
     -- an estimate that was accepted had a sound key
-    sound-key : (key : List ℕ) → (estimated d w (run d w calls) key).answer.status ≡ 0 → bad_key (length key) ≡ 0
+    sound-key : (key : List ℕ) → (estimated d w (run d w calls) key).status ≡ 0 → bad_key (length key) ≡ 0
     sound-key key e =
         let m = run d w calls in
         let good = good_shape d w (length m) vd vw (holds calls f).long in
         elim (ℕ_discrete (bad_key (length key)) 0) [
           | yes z ↦ z
-          | no n ↦ absurd (n (sym (estimate_status (bad_key (length key)) none_found)
-              ∙ ap (λ (x : Estimate). x.answer.status) (estimated-bad d w m key (bad_key (length key)) none_found (call_key d w m key good) n) ∙ e))
+          | no n ↦ absurd (n (sym (status_is (bad_key (length key)) 0)
+              ∙ ap (λ (x : Answer). x.status) (estimated-bad d w m key (bad_key (length key)) (call_key d w m key good) n) ∙ e))
         ]
 
-    estimates : (key : List ℕ) → (estimated d w (run d w calls) key).answer.status ≡ 0 → Between d w (traffic calls) key (estimated d w (run d w calls) key).answer.value
+    estimates : (key : List ℕ) → (estimated d w (run d w calls) key).status ≡ 0 → Between d w (traffic calls) key (estimated d w (run d w calls) key).value
     estimates key e = (answers key (sound-key key e)).1
-
-    exact : (key : List ℕ) → (estimated d w (run d w calls) key).answer.status ≡ 0 → Exact d w (traffic calls) key (estimated d w (run d w calls) key)
-    exact key e = (answers key (sound-key key e)).2
 
     claim : Claim d w calls
     unfolding done
@@ -174,27 +158,13 @@ module _ (d w : ℕ) (vd : valid_depth d ≡ true) (vw : valid_width w ≡ true)
           records = λ before words due e.
               let q = query_is d w (run d w calls) before words due e in
               let k = key_of (payload words 0) words in
-              subst (λ (x : Estimate). Between d w (traffic calls) k x.answer.value) q.1 (estimates k q.0);
+              subst (λ (v : ℕ). Between d w (traffic calls) k v) q.1 (estimates k q.0);
           widest_level = widest-holds d w vd vw (run d w calls) (traffic calls) (holds calls f);
-        }
-
-    exact-claim : ExactClaim d w calls
-    exact-claim =
-        record {
-          estimates = exact;
-          records = λ before words due e.
-              let q = query_is d w (run d w calls) before words due e in
-              let k = key_of (payload words 0) words in
-              subst (λ (x : Estimate). Exact d w (traffic calls) k x) q.1 (exact k q.0);
         }
 
 -- Document 01's claim, of every list of calls.
 pub demand_3 : Demand3
 demand_3 = claim
-
--- What level and row say, of every list of calls.
-pub exact_figures : ExactFigures
-exact_figures = exact-claim
 
 -- The premise excludes no next call: a faithful list goes on with any call that is told d and w, and takes its source or image from such
 -- a list, whatever it answers; and with any other that is refused.

@@ -79,7 +79,7 @@ unfoldable mutual
   pub done : ℕ → ℕ → ℕ → ℕ → Call → List ℕ → Done
   done d w d' w' clear memory = cleared d' w' memory
   done d w d' w' (update key amount) memory = updated d' w' memory key amount
-  done d w d' w' (estimate key) memory = record { answer = (estimated d' w' memory key).answer; memory = memory }
+  done d w d' w' (estimate key) memory = record { answer = estimated d' w' memory key; memory = memory }
   done d w d' w' widest memory = record { answer = meter.widest d' w' memory; memory = memory }
   done d w d' w' (unite source) memory = united d' w' memory (bytes_of d w source)
   done d w d' w' (write words) memory = record { answer = (written d' w' memory words).answer; memory = memory }

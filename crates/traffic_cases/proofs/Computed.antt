@@ -19,7 +19,6 @@ use Rattle.geometry.specs.Geometry as geometry
 use Rattle.answer.specs.Order as order
 use Rattle.answer.specs.Answers as answers
 use Rattle.meter_memory.specs.Rows as rows
-use Rattle.meter_least.specs.Least as estimates
 use Rattle.meter_keys.specs.Keys as keys
 use Rattle.meter_row.specs.Row as row
 use Rattle.meter_memory.specs.Pairs as pairs
@@ -107,9 +106,9 @@ unfolding numbers all_refuse all_fit twice calls.record_pair calls.traffic calls
     groups.reading groups.read groups.settle groups.added groups.united_groups groups.widest_of groups.changed packs.four_code packs.packed
     packs.four_merges packs.unpacked geometry.valid_depth geometry.one_of_powers geometry.valid_width geometry.stride geometry.size
     order.first_of order.place_in order.earlier order.earliest answers.answer_of answers.leaves answers.finish rows.map_rows rows.of_rows rows.group_at rows.with_group
-    rows.of_groups rows.largest estimates.in_row estimates.lesser estimates.least_or estimates.least estimates.estimate_of keys.key_slot row.added_in row.update_status row.update_row row.read_row
+    rows.of_groups rows.least_or rows.least rows.largest keys.key_slot row.added_in row.update_status row.update_row row.read_row
     row.level_status row.group_level row.widest_status row.widest_row pairs.paired_at pairs.pair_status pairs.pairs_status pairs.pair_groups
-    pairs.pair_row meter.cleared meter.bad_call meter.updated meter.read_status meter.read_counter meter.estimated meter.widest meter.row_of
+    pairs.pair_row meter.cleared meter.bad_call meter.updated meter.read_status meter.read_value meter.estimated meter.widest meter.row_of
     pairs.row_status_by pairs.row_paired_by meter.united image.word words.next words.payload words.is_due words.tested words.below
     image.log_from image.log_width image.head_payload image.word_count image.parts image.level_at image.is_first image.slot_words
     image.slots_words image.group_words image.groups_words image.layout_at image.four_words image.row_words image.rows_words image.body
@@ -121,7 +120,7 @@ unfolding numbers all_refuse all_fit twice calls.record_pair calls.traffic calls
     records.key_payload records.key_word records.check_key records.check_amount records.key_byte records.key_from records.amount_of
     records.update_step records.query_step records.body_of records.update_body records.query_body carrying.outcome_of carrying.update_outcome
     carrying.queried carrying.opened_outcome carrying.record_outcome carrying.update_memory carrying.record_memory carrying.finish_record carrying.recorded
-    layout.all_zero layout.sound_lengths layout.in_use layout.sound_levels layout.sound checks.bad_lines watch.watch_status watch.watched
+    layout.all_zero layout.sound_lengths layout.sound checks.bad_lines watch.watch_status watch.watched
 computed =
     let other_is : Faithful 1 32 other = ((((tt, refl, took tt), refl, took tt), refl, took tt), refl, took (tt, refl, took tt)) in
     let mixed-is : Faithful 1 32 mixed
@@ -139,7 +138,6 @@ computed =
           & (every-is, refl, refl, refl, refl, refl)
           & (((((tt, refl, took tt), refl, no), refl, took tt), refl, no), refl, refl, refl, refl, refl)
           & (((tt, refl, took tt), refl, took tt), refl, refl, refl, refl, refl)
-          & ((tt, refl, took tt), refl, refl, refl, refl, refl)
           & tt;
       by_hand = (refl, refl, refl);
       holds = refl;

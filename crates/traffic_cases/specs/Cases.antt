@@ -6,7 +6,7 @@ use Rattle.image_format.specs.Read.{taken}
 use Rattle.watch_list.specs.Layout.{list_size}
 use Rattle.traffic.specs.Traffic.{level, lower, upper}
 use Rattle.traffic.specs.Calls.{Call, Calls, none, then, clear, update, estimate, widest, unite, write, read, feed, watch, from, raw, traffic, run, done, Faithful}
-use Rattle.traffic.specs.Exact.{estimate_to}
+use Rattle.traffic.specs.Claim.{answer_to}
 
 -- Keys of one byte that land at slots 0, 8, 10, 11 and 12.
 abbrev pub at_0 : List ℕ
@@ -68,18 +68,15 @@ abbrev pub cleared : List ℕ
 cleared = replicate list_size 0
 
 abbrev pub broken : List ℕ
-broken = 65 ∷ replicate 4736 0
+broken = 65 ∷ replicate 4672 0
 
 -- Updates through a watch list, whatever it holds. Refused, with a list that is broken or a threshold of 0, they leave no trace.
 abbrev pub watching : Calls
 watching = none ▸ update at_10 300 ▹ watch broken at_10 7 1 ▸ watch cleared at_10 5 1 ▹ watch cleared at_10 7 0
 
--- on a meter of 2 rows of 32 slots: one key; and with another that it shares a slot with in row 0 and not in row 1
-abbrev pub one_key : Calls
-one_key = then none 2 32 (update at_10 5) true
-
+-- on a meter of 2 rows of 32 slots: the keys of bytes 65 and 122 land together in row 0 and apart in row 1
 abbrev pub two_rows : Calls
-two_rows = then one_key 2 32 (update (122 ∷ []) 7) true
+two_rows = then (then none 2 32 (update at_10 5) true) 2 32 (update (122 ∷ []) 7) true
 
 -- the numbers of the refused calls of a list, the last first
 unfoldable pub numbers : ℕ → ℕ → Calls → List ℕ
@@ -97,8 +94,6 @@ pub record Case : Type 0 where
   pub widest_level : ℕ
   pub low : ℕ
   pub value : ℕ
-  pub value_level : ℕ
-  pub value_row : ℕ
   pub high : ℕ
 
 abbrev pub Meets : Case → Type 0
@@ -107,38 +102,30 @@ Meets c =
     × (numbers c.d c.w c.calls ≡ c.refused)
     × (level c.d c.w (traffic c.calls) ≡ c.widest-level)
     × (lower (traffic c.calls) c.key ≡ c.low)
-    × (estimate_to c.d c.w c.calls c.key ≡ record { answer = accepted c.value; level = c.value-level; row = c.value_row })
+    × (answer_to c.d c.w c.calls (estimate c.key) ≡ accepted c.value)
     × (upper c.d c.w (traffic c.calls) c.key ≡ c.high)
 
 abbrev pub AllMeet : List Case → Type 0
 AllMeet [] = Unit
 AllMeet (c ∷ cs) = Meets c × AllMeet cs
 
--- of the key at slot 10 of 1 row of 32 slots: the numbers of the refused calls, L, the lower figure, the estimate and its level, and the upper
--- figure
-abbrev pub small : Calls → List ℕ → ℕ → ℕ → ℕ → ℕ → ℕ → Case
-small calls refused l low value value_level high =
-    record { d = 1; w = 32; calls = calls; refused = refused; key = at_10; widest_level = l; low = low; value = value; value_level = value_level; value_row = 0; high = high }
+-- of the key at slot 10 of 1 row of 32 slots: the numbers of the refused calls, L, the lower figure, the estimate and the upper figure
+abbrev pub small : Calls → List ℕ → ℕ → ℕ → ℕ → ℕ → Case
+small calls refused l low value high =
+    record { d = 1; w = 32; calls = calls; refused = refused; key = at_10; widest_level = l; low = low; value = value; high = high }
 
--- of that key on 2 rows
-abbrev pub double : Calls → ℕ → ℕ → ℕ → ℕ → Case
-double calls low value value_row high =
-    record { d = 2; w = 32; calls = calls; refused = []; key = at_10; widest_level = 0; low = low; value = value; value_level = 0; value_row = value_row; high = high }
-
--- L is each of 0 to 3, and an estimate is the lower figure, the upper, or between them. Its level is L or less; its row is the least one's,
--- and of equal ones the lowest.
+-- L is each of 0 to 3, and an estimate is the lower figure, the upper, or between them.
 abbrev pub cases : List Case
 cases =
-    small none [] 0 0 0 0 0
-    ∷ small (none ▸ update at_8 300 ▸ update at_10 5 ▸ update at_11 7) [] 1 5 5 0 12
-    ∷ small (none ▸ update at_10 300 ▸ update at_11 7) [] 1 300 307 1 307
-    ∷ small (none ▸ update at_10 300 ▸ update at_11 7 ▸ update at_8 9 ▸ update at_0 70000) [] 2 300 307 1 316
-    ∷ small (none ▸ update at_10 4294967295 ▸ update at_12 9 ▸ update at_10 1) [] 3 4294967296 4294967305 3 4294967305
-    ∷ small clearings (3 ∷ []) 0 11 11 0 11
-    ∷ small every (8 ∷ 3 ∷ 7 ∷ 3 ∷ 8 ∷ []) 2 600 70600 2 70600
-    ∷ small watching (11 ∷ 5 ∷ []) 1 305 305 1 305
-    ∷ double two_rows 5 5 1 5
-    ∷ double one_key 5 5 0 5
+    small none [] 0 0 0 0
+    ∷ small (none ▸ update at_8 300 ▸ update at_10 5 ▸ update at_11 7) [] 1 5 5 12
+    ∷ small (none ▸ update at_10 300 ▸ update at_11 7) [] 1 300 307 307
+    ∷ small (none ▸ update at_10 300 ▸ update at_11 7 ▸ update at_8 9 ▸ update at_0 70000) [] 2 300 307 316
+    ∷ small (none ▸ update at_10 4294967295 ▸ update at_12 9 ▸ update at_10 1) [] 3 4294967296 4294967305 4294967305
+    ∷ small clearings (3 ∷ []) 0 11 11 11
+    ∷ small every (8 ∷ 3 ∷ 7 ∷ 3 ∷ 8 ∷ []) 2 600 70600 70600
+    ∷ small watching (11 ∷ 5 ∷ []) 1 305 305 305
+    ∷ record { d = 2; w = 32; calls = two_rows; refused = []; key = at_10; widest_level = 0; low = 5; value = 5; high = 5 }
     ∷ []
 
 -- An image made by hand: slots 0 and 1 are merged and hold 0. It is accepted, but no traffic leaves such a meter: its widest level is 1,

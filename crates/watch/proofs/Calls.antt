@@ -84,7 +84,7 @@ module _ (d w : ℕ) (memory list key : List ℕ) where
           ∙ later
 
       -- a list that is broken, or a threshold of 0: an estimate's status does for the update's
-      pub watched-line : (line s : ℕ) → line ≡ earlier (broken_list list) (bad_threshold threshold) → (line ≡ 0 → ⊥) → s ≡ (estimated d w memory key).answer.status
+      pub watched-line : (line s : ℕ) → line ≡ earlier (broken_list list) (bad_threshold threshold) → (line ≡ 0 → ⊥) → s ≡ (estimated d w memory key).status
           → (answer_of (earlier s line) 0 ≡ (watched d w memory list key amount threshold).answer)
           × ((memory ≡ (watched d w memory list key amount threshold).memory) × (list ≡ (watched d w memory list key amount threshold).list))
       unfolding status lines Refused

@@ -1,4 +1,4 @@
--- The calls of a watch list. Document 02, requests 1 and 5. Cited by contracts and theorems.
+-- The calls of a watch list. Document 02, request 1. Cited by contracts and theorems.
 use Rattle.std.specs.Prelude.{ℕ, List, [], ◌∷◌, length, replicate}
 use Rattle.answer.specs.declared.Answer.{Answer}
 use Rattle.answer.specs.Order.{first_of, earliest}
@@ -24,11 +24,9 @@ unfoldable pub watch_status : ℕ → ℕ → List ℕ → List ℕ → List ℕ
 watch_status d w memory list key amount threshold =
     first_of (bad_lines d w memory list key ∷ earliest ((updated d w memory key amount).answer.status ∷ broken_list list ∷ bad_threshold threshold ∷ []) ∷ [])
 
--- An update through a list is the meter's update; then the list notes the key's estimate and its level, taken from the memory that the
--- update left.
+-- An update through a list is the meter's update; then the list notes the key's estimate, taken from the memory that the update left.
 unfoldable pub noted_in : ℕ → ℕ → List ℕ → List ℕ → List ℕ → ℕ → List ℕ
-noted_in d w memory list key threshold =
-    encode (noted key (estimated d w memory key).answer.value (estimated d w memory key).level threshold (decode list))
+noted_in d w memory list key threshold = encode (noted key (estimated d w memory key).value threshold (decode list))
 
 unfoldable pub watched : ℕ → ℕ → List ℕ → List ℕ → List ℕ → ℕ → ℕ → Watched
 watched d w memory list key amount threshold =

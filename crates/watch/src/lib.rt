@@ -20,9 +20,8 @@ pub fn clear(list: &mut [u8]) -> Answer
     answer_of(0, 0)
 }
 
-// Updates a meter, and notes the estimate that the update leaves, with its level, in the list. Both are tested before either is written.
-// Where the list is broken or the threshold 0, an estimate says whether 5 of the meter's groups applies, which comes before 11; 6 comes
-// after both.
+// Updates a meter, and notes the estimate that the update leaves in the list. Both are tested before either is written. Where the list is
+// broken or the threshold 0, an estimate says whether 5 of the meter's groups applies, which comes before 11; 6 comes after both.
 pub fn update(
     d: usize,
     w: usize,
@@ -44,20 +43,13 @@ pub fn update(
     let line = bad_content(found.sound, threshold);
     if line != 0 {
         let asked = meter::estimate_checked(d, w, memory, key);
-        return answer_of(earlier(asked.answer.status, line), 0);
+        return answer_of(earlier(asked.status, line), 0);
     }
     let left = meter::update_reading(d, w, memory, key, amount);
-    if left.answer.status != 0 {
-        return answer_of(left.answer.status, 0);
+    if left.status != 0 {
+        return answer_of(left.status, 0);
     }
-    watch_places::note(
-        list,
-        found.places,
-        key,
-        left.answer.value,
-        left.level,
-        threshold,
-    );
+    watch_places::note(list, found.places, key, left.value, threshold);
     answer_of(0, 0)
 }
 

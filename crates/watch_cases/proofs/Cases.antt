@@ -1,4 +1,4 @@
--- The lists of the table leave what it says, a 65th key sets the mark, and a level of 4 breaks a list.
+-- The lists of the table leave what it says, and a 65th key sets the mark.
 use mathlib.Core.Path.{◌≡◌, refl, ap, ◌∙◌}
 use mathlib.Core.Bool.{true}
 use mathlib.Core.List.{List, [], ◌∷◌}
@@ -12,7 +12,7 @@ use Rattle.watch_claim.specs.Steps.{Step, remove, after, Told}
 use Rattle.watch_claim.specs.Claim.{contents}
 use Rattle.watch_claim.proofs.Entrywise.{entered}
 use Rattle.watch_claim.proofs.Theorem.{by_entries}
-use Rattle.watch_cases.specs.Cases.{Case, AllMeet, cases, one, many, Full, Levels}
+use Rattle.watch_cases.specs.Cases.{Case, AllMeet, cases, one, many, Full}
 use Rattle.watch_cases.proofs.Told.{all_told}
 use Rattle.watch_cases.proofs.Computed.{AllCompute, computed}
 
@@ -57,6 +57,3 @@ full_meets =
       joins = ap (λ (x : Watch). listed (64 ∷ []) x.entries) w ∙ computed.joins;
       still = ap (λ (x : Watch). x.mark) w ∙ computed.still;
     }
-
-pub levels_meet : Levels
-levels_meet = computed.levels

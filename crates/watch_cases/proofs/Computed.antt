@@ -14,19 +14,15 @@ use Rattle.geometry.specs.Geometry as geometry
 use Rattle.answer.specs.Order as order
 use Rattle.answer.specs.Answers as answers
 use Rattle.meter_memory.specs.Rows as rows
-use Rattle.meter_least.specs.Least as least
 use Rattle.meter_keys.specs.Keys as keys
 use Rattle.meter_row.specs.Row as row
 use Rattle.meter.specs.Meter as meter
 use Rattle.watch_list.specs.List as lists
-use Rattle.watch_list.specs.Layout as layout
-use Rattle.watch_checks.specs.Checks as checks
-use Rattle.watch.specs.Watch as watches
 use Rattle.watch_claim.specs.Steps.{remove}
 use Rattle.watch_claim.specs.Claim as claim
 use Rattle.watch_claim.proofs.Entrywise as entries
 use Rattle.watch_claim.proofs.Entrywise.{entered}
-use Rattle.watch_cases.specs.Cases.{Case, cases, one, many, Levels}
+use Rattle.watch_cases.specs.Cases.{Case, cases, one, many}
 use Rattle.watch_cases.proofs.Told.{these, allTold}
 
 -- a case, on entries
@@ -49,7 +45,6 @@ pub record Computed : Type 0 where
   pub stays : (entered 1 32 (remove (0 ∷ []) ∷ many 65)).watch.mark ≡ 1
   pub joins : lists.listed (64 ∷ []) (entered 1 32 (one 64 ∷ remove (0 ∷ []) ∷ many 65)).watch.entries ≡ true
   pub still : (entered 1 32 (one 64 ∷ remove (0 ∷ []) ∷ many 65)).watch.mark ≡ 1
-  pub levels : Levels
 
 infixr 20 ◌&◌
 ◌&◌ : {A B : Type 0} → A → B → A × B
@@ -63,20 +58,14 @@ unfolding many these allTold entries.passes entries.changed entries.entered clai
     groups.reading groups.read groups.settle groups.added groups.widest_of groups.changed
     geometry.valid_depth geometry.one_of_powers geometry.valid_width geometry.stride geometry.size
     order.first_of order.place_in order.earlier order.earliest answers.answer_of answers.leaves answers.finish
-    rows.map_rows rows.of_rows rows.group_at rows.with_group rows.of_groups rows.largest
-    least.in_row least.lesser least.least_or least.least least.estimate_of
+    rows.map_rows rows.of_rows rows.group_at rows.with_group rows.of_groups rows.least_or rows.least rows.largest
     keys.key_slot row.added_in row.update_status row.update_row row.read_row
-    meter.bad_call meter.updated meter.read_status meter.read_counter meter.estimated
+    meter.bad_call meter.updated meter.read_status meter.read_value meter.estimated
     lists.listed lists.joined lists.renewed lists.noted lists.without lists.taken_off
-    layout.length_field layout.key_field layout.estimate_field layout.level_field layout.column layout.laid_out layout.encode layout.in_use
-    layout.all_zero layout.sound_lengths layout.sound_levels layout.sound checks.bad_lines
-    watches.watch_status watches.watched watches.bad_removal watches.removed
 computed =
     record {
       all =
           (refl, refl, refl)
-          & (refl, refl, refl)
-          & (refl, refl, refl)
           & (refl, refl, refl)
           & (refl, refl, refl)
           & (refl, refl, refl)
@@ -97,5 +86,4 @@ computed =
       stays = refl;
       joins = refl;
       still = refl;
-      levels = record { highest = refl; highest_off = refl; above = refl; above_off = refl };
     }

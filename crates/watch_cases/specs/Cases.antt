@@ -1,8 +1,5 @@
--- Lists of updates through a watch list and takings off, with what is listed after them. Document 02, requests 1 and 5. Cited by theorems.
-use Rattle.std.specs.Prelude.{ℕ, zero, suc, ◌≡◌, true, false, List, [], ◌∷◌, length, replicate}
-use Rattle.watch_list.specs.List as lists
-use Rattle.watch_list.specs.Layout.{encode}
-use Rattle.watch.specs.Watch.{watched, removed}
+-- Lists of updates through a watch list and takings off, with what is listed after them. Document 02, request 1. Cited by theorems.
+use Rattle.std.specs.Prelude.{ℕ, zero, suc, ◌≡◌, true, false, List, [], ◌∷◌, length}
 use Rattle.watch_claim.specs.Steps.{Step, update, remove, mark_after, entries_after, listed_after, Told}
 use Rattle.watch_claim.specs.Claim.{contents}
 
@@ -17,12 +14,12 @@ b = 74 ∷ []
 abbrev pub add : List ℕ → ℕ → Step
 add key amount = update 1 32 key amount 300
 
--- a list of steps, the last first, with the keys, estimates and levels that are listed after it
+-- a list of steps, the last first, with the keys and estimates that are listed after it
 pub record Case : Type 0 where
   pub steps : List Step
-  pub listing : List (List ℕ × ℕ × ℕ)
+  pub listing : List (List ℕ × ℕ)
 
-abbrev pub after : List Step → List (List ℕ × ℕ × ℕ) → Case
+abbrev pub after : List Step → List (List ℕ × ℕ) → Case
 after steps listing = record { steps = steps; listing = listing }
 
 abbrev pub Meets : Case → Type 0
@@ -44,25 +41,19 @@ refused steps = remove [] ∷ update 1 32 a 9 0 ∷ update 1 64 a 9 300 ∷ step
 abbrev pub again : List Step
 again = add a 1 ∷ remove a ∷ refused (add a 5 ∷ joining)
 
--- a's counter widens
-abbrev pub wider : List Step
-wider = add a 65536 ∷ joining
-
 abbrev pub cases : List Case
 cases =
     after [] []
-    ∷ after (add a 300 ∷ []) ((a, 300, 1) ∷ [])
-    ∷ after (add b 299 ∷ add a 300 ∷ []) ((a, 300, 1) ∷ [])
-    ∷ after joining ((a, 300, 1) ∷ (b, 300, 1) ∷ [])
-    ∷ after (add a 5 ∷ joining) ((a, 305, 1) ∷ (b, 300, 1) ∷ [])
-    ∷ after (refused (add a 5 ∷ joining)) ((a, 305, 1) ∷ (b, 300, 1) ∷ [])
-    ∷ after (remove a ∷ refused (add a 5 ∷ joining)) ((b, 300, 1) ∷ [])
-    ∷ after again ((b, 300, 1) ∷ (a, 306, 1) ∷ [])
-    ∷ after (remove b ∷ again) ((a, 306, 1) ∷ [])
-    ∷ after (remove b ∷ remove b ∷ again) ((a, 306, 1) ∷ [])
-    ∷ after (add b 0 ∷ remove b ∷ again) ((a, 306, 1) ∷ (b, 300, 1) ∷ [])
-    ∷ after wider ((a, 65836, 2) ∷ (b, 300, 1) ∷ [])
-    ∷ after (remove a ∷ add b 4294967295 ∷ wider) ((b, 4294967595, 3) ∷ [])
+    ∷ after (add a 300 ∷ []) ((a, 300) ∷ [])
+    ∷ after (add b 299 ∷ add a 300 ∷ []) ((a, 300) ∷ [])
+    ∷ after joining ((a, 300) ∷ (b, 300) ∷ [])
+    ∷ after (add a 5 ∷ joining) ((a, 305) ∷ (b, 300) ∷ [])
+    ∷ after (refused (add a 5 ∷ joining)) ((a, 305) ∷ (b, 300) ∷ [])
+    ∷ after (remove a ∷ refused (add a 5 ∷ joining)) ((b, 300) ∷ [])
+    ∷ after again ((b, 300) ∷ (a, 306) ∷ [])
+    ∷ after (remove b ∷ again) ((a, 306) ∷ [])
+    ∷ after (remove b ∷ remove b ∷ again) ((a, 306) ∷ [])
+    ∷ after (add b 0 ∷ remove b ∷ again) ((a, 306) ∷ (b, 300) ∷ [])
     ∷ []
 
 -- updates of the keys of byte 0, 1, .. n - 1 by 1, with the threshold 1
@@ -84,20 +75,3 @@ pub record Full : Type 0 where
   pub stays : mark_after 1 32 (remove (0 ∷ []) ∷ many 65) ≡ 1
   pub joins : listed_after 1 32 (one 64 ∷ remove (0 ∷ []) ∷ many 65) (64 ∷ []) ≡ true
   pub still : mark_after 1 32 (one 64 ∷ remove (0 ∷ []) ∷ many 65) ≡ 1
-
--- A list of one key and free places, by the level of the key and of the first free place.
-abbrev pub with_levels : ℕ → ℕ → List ℕ
-with_levels used free =
-    encode
-    (record {
-      mark = 0;
-      entries = lists.joining a 300 used ∷ [];
-      free = record { key = []; unused = replicate 64 0; estimate = 0; level = free } ∷ replicate 62 lists.clear_place;
-    })
-
--- A level of 3 of a key, and of 255 of a free place, break no list; a level of 4 of a key does: 5.
-pub record Levels : Type 0 where
-  pub highest : (watched 1 32 (replicate 36 0) (with_levels 3 255) a 1 300).answer.status ≡ 0
-  pub highest_off : (removed (with_levels 3 255) a).answer.status ≡ 0
-  pub above : (watched 1 32 (replicate 36 0) (with_levels 4 0) a 1 300).answer.status ≡ 5
-  pub above_off : (removed (with_levels 4 0) a).answer.status ≡ 5

@@ -9,7 +9,7 @@ ghost use Rattle.watch_checks.specs.Checks.{bad_list, bad_threshold, bad_lines};
 use geometry::{bad_key, bad_shape};
 
 // The bytes of a list.
-const LIST_SIZE: usize = 4737;
+const LIST_SIZE: usize = 4673;
 
 // Line 3 of a list.
 pub fn bad_list(list: &[u8]) -> u8

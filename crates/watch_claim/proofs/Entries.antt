@@ -7,7 +7,7 @@ use Rattle.meter_keys.specs.Keys.{same_key}
 use Rattle.meter_keys.proofs.Same.{same_key_lem, key_same}
 use Rattle.watch_list.specs.List.{Entry, listed, renewed, without}
 use Rattle.watch_list.proofs.Lists.{keys_of, same_sym, by_test, listed_append, listed_keys, renewed-cases, renewed-keys, without-cases}
-use Rattle.watch_claim.specs.Claim.{figures_in, Once, filter}
+use Rattle.watch_claim.specs.Claim.{estimate_in, Once, filter}
 
 -- one of two tests that fails
 pub neither : (a b : Bool) → (a || b) ≡ false → (a ≡ false) × (b ≡ false)
@@ -15,12 +15,12 @@ neither true b e = absurd (true≢false e)
 neither false b e = (refl, e)
 
 -- no key twice
-pub renewed_once : (key : List ℕ) (estimate level : ℕ) (es : List Entry) → Once es → Once (renewed key estimate level es)
+pub renewed_once : (key : List ℕ) (estimate : ℕ) (es : List Entry) → Once es → Once (renewed key estimate es)
 unfolding renewed Once
-renewed_once key estimate level [] o = tt
-renewed_once key estimate level (e ∷ es) o =
-    renewed-cases key estimate level e es Once (λ p. o)
-    (λ p. (listed_keys e.key (renewed key estimate level es) es (renewed-keys key estimate level es) ∙ o.0, renewed_once key estimate level es o.1))
+renewed_once key estimate [] o = tt
+renewed_once key estimate (e ∷ es) o =
+    renewed-cases key estimate e es Once (λ p. o)
+    (λ p. (listed_keys e.key (renewed key estimate es) es (renewed-keys key estimate es) ∙ o.0, renewed_once key estimate es o.1))
 
 pub joined_once : (es : List Entry) (last : Entry) → Once es → listed last.key es ≡ false → Once (es ++ (last ∷ []))
 unfolding Once listed
@@ -50,39 +50,39 @@ without_same key [] o = refl
 without_same key (e ∷ es) o =
     without-cases key e es (λ now. listed key now ≡ false) (λ p. rw (← same_key_lem e.key key p) o.0) (λ p. rw (p, without_same key es o.1))
 
--- estimates and levels
-pub renewed_same : (key : List ℕ) (estimate level : ℕ) (es : List Entry) → listed key es ≡ true → figures_in key (renewed key estimate level es) ≡ (estimate, level)
-unfolding renewed listed figures_in
-renewed_same key estimate level [] l = absurd (true≢false (sym l))
-renewed_same key estimate level (e ∷ es) l =
-    renewed-cases key estimate level e es (λ now. figures_in key now ≡ (estimate, level)) (λ p. rw p) (λ p. rw p (renewed_same key estimate level es (rw p at l)))
+-- estimates
+pub renewed_same : (key : List ℕ) (estimate : ℕ) (es : List Entry) → listed key es ≡ true → estimate_in key (renewed key estimate es) ≡ estimate
+unfolding renewed listed estimate_in
+renewed_same key estimate [] l = absurd (true≢false (sym l))
+renewed_same key estimate (e ∷ es) l =
+    renewed-cases key estimate e es (λ now. estimate_in key now ≡ estimate) (λ p. rw p) (λ p. rw p (renewed_same key estimate es (rw p at l)))
 
-pub renewed_other : (key : List ℕ) (estimate level : ℕ) (other : List ℕ) → same_key key other ≡ false
-    → (es : List Entry) → figures_in other (renewed key estimate level es) ≡ figures_in other es
-unfolding renewed figures_in
-renewed_other key estimate level other n [] = refl
-renewed_other key estimate level other n (e ∷ es) =
-    renewed-cases key estimate level e es (λ now. figures_in other now ≡ cond (same_key e.key other) (e.estimate, e.level) (figures_in other es))
-    (λ p. rw (same_key_lem e.key key p, n)) (λ p. rw (renewed_other key estimate level other n es))
+pub renewed_other : (key : List ℕ) (estimate : ℕ) (other : List ℕ) → same_key key other ≡ false
+    → (es : List Entry) → estimate_in other (renewed key estimate es) ≡ estimate_in other es
+unfolding renewed estimate_in
+renewed_other key estimate other n [] = refl
+renewed_other key estimate other n (e ∷ es) =
+    renewed-cases key estimate e es (λ now. estimate_in other now ≡ cond (same_key e.key other) e.estimate (estimate_in other es))
+    (λ p. rw (same_key_lem e.key key p, n)) (λ p. rw (renewed_other key estimate other n es))
 
-pub joined_same : (es : List Entry) (last : Entry) → listed last.key es ≡ false → figures_in last.key (es ++ (last ∷ [])) ≡ (last.estimate, last.level)
-unfolding listed figures_in
+pub joined_same : (es : List Entry) (last : Entry) → listed last.key es ≡ false → estimate_in last.key (es ++ (last ∷ [])) ≡ last.estimate
+unfolding listed estimate_in
 joined_same [] last n = rw (key_same last.key)
 joined_same (e ∷ es) last n =
     let p = neither (same_key e.key last.key) (listed last.key es) n in
     rw p.0 (joined_same es last p.1)
 
-pub joined_other : (other : List ℕ) (es : List Entry) (last : Entry) → same_key last.key other ≡ false → figures_in other (es ++ (last ∷ [])) ≡ figures_in other es
-unfolding figures_in
+pub joined_other : (other : List ℕ) (es : List Entry) (last : Entry) → same_key last.key other ≡ false → estimate_in other (es ++ (last ∷ [])) ≡ estimate_in other es
+unfolding estimate_in
 joined_other other [] last n = rw n
 joined_other other (e ∷ es) last n = rw (joined_other other es last n)
 
-pub without_figures : (key other : List ℕ) → same_key key other ≡ false → (es : List Entry) → figures_in other (without key es) ≡ figures_in other es
-unfolding without figures_in
-without_figures key other n [] = refl
-without_figures key other n (e ∷ es) =
-    without-cases key e es (λ now. figures_in other now ≡ cond (same_key e.key other) (e.estimate, e.level) (figures_in other es))
-    (λ p. rw (same_key_lem e.key key p, n)) (λ p. rw (without_figures key other n es))
+pub without_estimate : (key other : List ℕ) → same_key key other ≡ false → (es : List Entry) → estimate_in other (without key es) ≡ estimate_in other es
+unfolding without estimate_in
+without_estimate key other n [] = refl
+without_estimate key other n (e ∷ es) =
+    without-cases key e es (λ now. estimate_in other now ≡ cond (same_key e.key other) e.estimate (estimate_in other es))
+    (λ p. rw (same_key_lem e.key key p, n)) (λ p. rw (without_estimate key other n es))
 
 -- the order of keys: every key passes, and those that are left after one was taken off
 pub all_pass : (test : List ℕ → Bool) (es : List Entry) → ((key : List ℕ) → listed key es ≡ true → test key ≡ true) → filter test (keys_of es) ≡ keys_of es

@@ -9,7 +9,6 @@ use lib.Dec.{eqb, leb}
 use lib.ListN.{length, replicate}
 use Rattle.geometry.specs.Geometry.{size}
 use Rattle.geometry.specs.Checks.{bad_key}
-use Rattle.meter_least.specs.declared.Estimate.{Estimate}
 use Rattle.meter.specs.Meter.{updated, estimated}
 use Rattle.watch_list.specs.List.{Watch, noted, taken_off}
 use Rattle.watch_list.specs.Layout.{list_size, sound}
@@ -23,10 +22,6 @@ pub record Entered : Type 0 where
   pub memory : List ℕ
   pub watch : Watch
 
--- an estimate noted with its level
-abbrev pub noting : List ℕ → Estimate → ℕ → Watch → Watch
-noting key estimate threshold watch = noted key estimate.answer.value estimate.level threshold watch
-
 -- whether a step is accepted, and what it then leaves
 unfoldable pub passes : Step → Entered → Bool
 passes (update d w key amount threshold) x = leb 1 threshold && eqb (updated d w x.memory key amount).answer.status 0
@@ -36,7 +31,7 @@ unfoldable pub changed : Step → Entered → Entered
 changed (update d w key amount threshold) x =
     record {
       memory = (updated d w x.memory key amount).memory;
-      watch = noting key (estimated d w (updated d w x.memory key amount).memory key) threshold x.watch;
+      watch = noted key (estimated d w (updated d w x.memory key amount).memory key).value threshold x.watch;
     }
 changed (remove key) x = record { memory = x.memory; watch = taken_off key x.watch }
 

@@ -11,8 +11,8 @@ use Rattle.meter_keys.specs.Keys.{same_key}
 use Rattle.meter_keys.proofs.Same.{same_key_lem, key_same}
 use Rattle.watch_list.specs.List.{Entry, Watch, listed, joining, joined, renewed, noted, without, clear_place, taken_off}
 use Rattle.watch_list.proofs.Lists.{Each, each_append, each_is, Fits, WellFormed, keys_of, by_test, listed_append, listed_keys, renewed-keys, renewed-each, without-each, without-length, without_other}
-use Rattle.watch_claim.specs.Claim.{figures_in, Once, filter, contents, canonical}
-use Rattle.watch_claim.proofs.Entries.{neither, renewed_once, joined_once, without_once, without_same, renewed_same, renewed_other, joined_same, joined_other, without_figures, all_pass, without_passes}
+use Rattle.watch_claim.specs.Claim.{estimate_in, Once, filter, contents, canonical}
+use Rattle.watch_claim.proofs.Entries.{neither, renewed_once, joined_once, without_once, without_same, renewed_same, renewed_other, joined_same, joined_other, without_estimate, all_pass, without_passes}
 
 -- an entry whose unused bytes are 0
 pub record Used (e : Entry) : Type 0 where
@@ -20,7 +20,6 @@ pub record Used (e : Entry) : Type 0 where
   pub most : length e.key ≤ 64
   pub zeros : e.unused ≡ replicate (64 - length e.key) 0
   pub small : e.estimate < 2 ^ 64
-  pub level : e.level ≤ 3
 
 -- a list that clearing and steps leave
 pub record Good (watch : Watch) : Type 0 where
@@ -44,15 +43,15 @@ good_formed watch good =
       unused = each_is (λ e. e ≡ clear_place) (λ e. length e.key ≡ 0) (λ e p. ap (λ (x : Entry). length x.key) p) watch.free good.clear;
     }
 
--- it is made of its mark, its keys, their estimates and levels
-used_are : (es : List Entry) → Each Used es → map (λ k. joining k.0 k.1 k.2) (contents es) ≡ es
+-- it is made of its mark, its keys and its estimates
+used_are : (es : List Entry) → Each Used es → map (λ p. joining p.0 p.1) (contents es) ≡ es
 unfolding Each contents
 used_are [] h = refl
 used_are (e ∷ es) h = rw (used_are es h.1, ← h.0.zeros)
 
 contents_length : (es : List Entry) → length (contents es) ≡ length es
 unfolding contents
-contents_length es = length-map es (λ (e : Entry). (e.key, e.estimate, e.level))
+contents_length es = length-map es (λ (e : Entry). (e.key, e.estimate))
 
 clear_are : (fs : List Entry) → Each (λ e. e ≡ clear_place) fs → replicate (length fs) clear_place ≡ fs
 unfolding Each
@@ -66,19 +65,19 @@ good_canonical watch good =
     rw (used_are watch.entries good.used, n, clear_are watch.free good.clear)
 
 -- what `noted` can leave
-pub noted_cases : (key : List ℕ) (v level t : ℕ) (watch : Watch) (P : Watch → Type 0)
-    → (listed key watch.entries ≡ true → P (record { mark = watch.mark; entries = renewed key v level watch.entries; free = watch.free }))
+pub noted_cases : (key : List ℕ) (v t : ℕ) (watch : Watch) (P : Watch → Type 0)
+    → (listed key watch.entries ≡ true → P (record { mark = watch.mark; entries = renewed key v watch.entries; free = watch.free }))
     → (listed key watch.entries ≡ false → leb t v ≡ true → (place : Entry) (places : List Entry) → watch.free ≡ place ∷ places
-    → P (record { mark = watch.mark; entries = watch.entries ++ (joining key v level ∷ []); free = places }))
+    → P (record { mark = watch.mark; entries = watch.entries ++ (joining key v ∷ []); free = places }))
     → (listed key watch.entries ≡ false → leb t v ≡ true → watch.free ≡ [] → P (record { mark = 1; entries = watch.entries; free = [] }))
     → (listed key watch.entries ≡ false → leb t v ≡ false → P watch)
-    → P (noted key v level t watch)
+    → P (noted key v t watch)
 unfolding noted joined
-noted_cases key v level t watch P renews joins full stays = go (listed key watch.entries) refl (leb t v) refl watch.free refl
+noted_cases key v t watch P renews joins full stays = go (listed key watch.entries) refl (leb t v) refl watch.free refl
   where
     go : (b : Bool) → listed key watch.entries ≡ b → (c : Bool) → leb t v ≡ c → (fs : List Entry) → watch.free ≡ fs
-        → P (cond b (record { mark = watch.mark; entries = renewed key v level watch.entries; free = watch.free })
-        (cond c (joined key v level watch.mark watch.entries fs) watch))
+        → P (cond b (record { mark = watch.mark; entries = renewed key v watch.entries; free = watch.free })
+        (cond c (joined key v watch.mark watch.entries fs) watch))
     go true p c q fs r = renews p
     go false p true q [] r = full p q r
     go false p true q (place ∷ places) r = joins p q place places r
@@ -90,10 +89,10 @@ same_or_not {A = A} key other f g = by_test (same_key key other) (λ b. A) (λ p
 
 -- What holds of a list by a threshold, the keys' totals, what is right of a key's estimate, which keys were taken off since, the order of
 -- joining and whether the list was found full.
-pub record Holding (t : ℕ) (watch : Watch) (total : List ℕ → ℕ) (Right : List ℕ → ℕ × ℕ → Type 0) (since : List ℕ → Bool) (order : List (List ℕ)) (full : ℕ) : Type 0 where
+pub record Holding (t : ℕ) (watch : Watch) (total : List ℕ → ℕ) (Right : List ℕ → ℕ → Type 0) (since : List ℕ → Bool) (order : List (List ℕ)) (full : ℕ) : Type 0 where
   pub good : Good watch
   pub heavy : watch.mark ≡ 0 → (key : List ℕ) → t ≤ total key → since key ≡ false → listed key watch.entries ≡ true
-  pub estimates : (key : List ℕ) → listed key watch.entries ≡ true → Right key (figures_in key watch.entries)
+  pub estimates : (key : List ℕ) → listed key watch.entries ≡ true → Right key (estimate_in key watch.entries)
   pub order_is : keys_of watch.entries ≡ order
   pub mark_is : watch.mark ≡ full
 
@@ -113,25 +112,25 @@ same_order key before now order e o =
     never true = refl
     never false = refl
 
-module _ (t : ℕ) (watch : Watch) (total : List ℕ → ℕ) (Right : List ℕ → ℕ × ℕ → Type 0) (since : List ℕ → Bool) (order : List (List ℕ)) (full : ℕ)
+module _ (t : ℕ) (watch : Watch) (total : List ℕ → ℕ) (Right : List ℕ → ℕ → Type 0) (since : List ℕ → Bool) (order : List (List ℕ)) (full : ℕ)
     (h : Holding t watch total Right since order full) where
   -- a refused step: totals are as they were
-  pub refused-holding : (key : List ℕ) (total' : List ℕ → ℕ) (Right' : List ℕ → ℕ × ℕ → Type 0) (since' : List ℕ → Bool)
-      → ((k : List ℕ) → total' k ≡ total k) → ((k : List ℕ) (x : ℕ × ℕ) → Right k x → Right' k x) → ((k : List ℕ) → since' k ≡ since k)
+  pub refused-holding : (key : List ℕ) (total' : List ℕ → ℕ) (Right' : List ℕ → ℕ → Type 0) (since' : List ℕ → Bool)
+      → ((k : List ℕ) → total' k ≡ total k) → ((k : List ℕ) (x : ℕ) → Right k x → Right' k x) → ((k : List ℕ) → since' k ≡ since k)
       → Holding t watch total' Right' since' (order_now key watch.entries watch.entries order) full
   refused-holding key total' Right' since' p r q =
       record {
         good = h.good;
         heavy = λ m k l s. h.heavy m k (rw (← p k) l) (sym (q k) ∙ s);
-        estimates = λ k l. r k (figures_in k watch.entries) (h.estimates k l);
+        estimates = λ k l. r k (estimate_in k watch.entries) (h.estimates k l);
         order_is = same_order key watch.entries watch.entries order refl h.order_is;
         mark_is = h.mark-is;
       }
 
   -- an accepted update of a key, by its estimate after it
-  module _ (key : List ℕ) (v level : ℕ) (some : 1 ≤ length key) (most : length key ≤ 64) (small : v < 2 ^ 64) (low : level ≤ 3)
+  module _ (key : List ℕ) (v : ℕ) (some : 1 ≤ length key) (most : length key ≤ 64) (small : v < 2 ^ 64)
       (total' : List ℕ → ℕ) (above : total' key ≤ v) (others : (k : List ℕ) → same_key key k ≡ false → total' k ≡ total k)
-      (Right' : List ℕ → ℕ × ℕ → Type 0) (right : Right' key (v, level)) (rights : (k : List ℕ) (x : ℕ × ℕ) → same_key key k ≡ false → Right k x → Right' k x)
+      (Right' : List ℕ → ℕ → Type 0) (right : Right' key v) (rights : (k : List ℕ) (x : ℕ) → same_key key k ≡ false → Right k x → Right' k x)
       (since' : List ℕ → Bool) (kept : (k : List ℕ) → same_key key k ≡ false → since' k ≡ since k) where
     abbrev Now : Watch → Type 0
     Now now =
@@ -142,58 +141,58 @@ module _ (t : ℕ) (watch : Watch) (total : List ℕ → ℕ) (Right : List ℕ 
     heavy-other : watch.mark ≡ 0 → (k : List ℕ) → same_key key k ≡ false → t ≤ total' k → since' k ≡ false → listed k watch.entries ≡ true
     heavy-other m k n l s = h.heavy m k (rw (← others k n) l) (sym (kept k n) ∙ s)
 
-    estimate-other : (k : List ℕ) → same_key key k ≡ false → listed k watch.entries ≡ true → Right' k (figures_in k watch.entries)
-    estimate-other k n l = rights k (figures_in k watch.entries) n (h.estimates k l)
+    estimate-other : (k : List ℕ) → same_key key k ≡ false → listed k watch.entries ≡ true → Right' k (estimate_in k watch.entries)
+    estimate-other k n l = rights k (estimate_in k watch.entries) n (h.estimates k l)
 
-    renews : listed key watch.entries ≡ true → Now (record { mark = watch.mark; entries = renewed key v level watch.entries; free = watch.free })
+    renews : listed key watch.entries ≡ true → Now (record { mark = watch.mark; entries = renewed key v watch.entries; free = watch.free })
     renews l =
         let es = watch.entries in
-        let ks = renewed-keys key v level es in
-        let same : (k : List ℕ) → listed k (renewed key v level es) ≡ listed k es = λ k. listed_keys k (renewed key v level es) es ks in
-        let n : length (renewed key v level es) ≡ length es = sym (length-map (renewed key v level es) (λ (e : Entry). e.key)) ∙ ap length ks ∙ length-map es (λ (e : Entry). e.key) in
+        let ks = renewed-keys key v es in
+        let same : (k : List ℕ) → listed k (renewed key v es) ≡ listed k es = λ k. listed_keys k (renewed key v es) es ks in
+        let n : length (renewed key v es) ≡ length es = sym (length-map (renewed key v es) (λ (e : Entry). e.key)) ∙ ap length ks ∙ length-map es (λ (e : Entry). e.key) in
         record {
           good =
               record {
                 mark_le = h.good.mark-le;
                 places = rw n h.good.places;
-                used = renewed-each key v level Used (λ e u. record { some = u.some; most = u.most; zeros = u.zeros; small = small; level = low }) es h.good.used;
+                used = renewed-each key v Used (λ e u. record { some = u.some; most = u.most; zeros = u.zeros; small = small }) es h.good.used;
                 clear = h.good.clear;
-                once = renewed_once key v level es h.good.once;
+                once = renewed_once key v es h.good.once;
               };
           heavy = λ m k r s. same k ∙ same_or_not key k (λ p. rw (← p) l) (λ p. heavy-other m k p r s);
           estimates = λ k r.
-              same_or_not key k (λ p. rw (← p, renewed_same key v level es l) right)
-              (λ p. rw (renewed_other key v level k p es) (estimate-other k p (sym (same k) ∙ r)));
-          order_is = same_order key es (renewed key v level es) order ks h.order_is;
+              same_or_not key k (λ p. rw (← p, renewed_same key v es l) right)
+              (λ p. rw (renewed_other key v k p es) (estimate-other k p (sym (same k) ∙ r)));
+          order_is = same_order key es (renewed key v es) order ks h.order_is;
           mark_is = rw l h.mark-is;
         }
 
     enters : listed key watch.entries ≡ false → leb t v ≡ true → (place : Entry) (places : List Entry) → watch.free ≡ place ∷ places
-        → Now (record { mark = watch.mark; entries = watch.entries ++ (joining key v level ∷ []); free = places })
+        → Now (record { mark = watch.mark; entries = watch.entries ++ (joining key v ∷ []); free = places })
     unfolding Each listed
     enters l q place places f =
         let es = watch.entries in
-        let now = es ++ (joining key v level ∷ []) in
-        let long : length now ≡ length es + 1 = length-append es (joining key v level ∷ []) in
+        let now = es ++ (joining key v ∷ []) in
+        let long : length now ≡ length es + 1 = length-append es (joining key v ∷ []) in
         let room : length es + suc (length places) ≡ 64 = rw f at h.good.places in
         let clear : Each (λ e. e ≡ clear_place) (place ∷ places) = rw f at h.good.clear in
-        let more : (k : List ℕ) → listed k es ≡ true → listed k now ≡ true = λ k r. rw (listed_append k es (joining key v level ∷ []), r) in
-        let here : listed key now ≡ true = rw (listed_append key es (joining key v level ∷ []), key_same key) (or-true (listed key es)) in
+        let more : (k : List ℕ) → listed k es ≡ true → listed k now ≡ true = λ k r. rw (listed_append k es (joining key v ∷ []), r) in
+        let here : listed key now ≡ true = rw (listed_append key es (joining key v ∷ []), key_same key) (or-true (listed key es)) in
         record {
           good =
               record {
                 mark_le = h.good.mark-le;
                 places = omega (arith, long, room);
-                used = each_append Used es (joining key v level ∷ []) h.good.used (record { some = some; most = most; zeros = refl; small = small; level = low }, tt);
+                used = each_append Used es (joining key v ∷ []) h.good.used (record { some = some; most = most; zeros = refl; small = small }, tt);
                 clear = clear.1;
-                once = joined_once es (joining key v level) h.good.once l;
+                once = joined_once es (joining key v) h.good.once l;
               };
           heavy = λ m k r s. same_or_not key k (λ p. rw (← p) here) (λ p. more k (heavy-other m k p r s));
           estimates = λ k r.
-              same_or_not key k (λ p. rw (← p, joined_same es (joining key v level) l) right)
-              (λ p. rw (joined_other k es (joining key v level) p) (estimate-other k p (sym (or_false (listed k es)) ∙ rw (listed_append k es (joining key v level ∷ []), p) at r)));
+              same_or_not key k (λ p. rw (← p, joined_same es (joining key v) l) right)
+              (λ p. rw (joined_other k es (joining key v) p) (estimate-other k p (sym (or_false (listed k es)) ∙ rw (listed_append k es (joining key v ∷ []), p) at r)));
           order_is =
-              map_append (λ (e : Entry). e.key) es (joining key v level ∷ [])
+              map_append (λ (e : Entry). e.key) es (joining key v ∷ [])
               ∙ rw (← h.order_is, all_pass (λ k. listed k now) es more, here, l);
           mark_is = rw (l, q, ne_eqb (length es) 64 (λ z. omega (arith, room))) h.mark-is;
         }
@@ -223,8 +222,8 @@ module _ (t : ℕ) (watch : Watch) (total : List ℕ → ℕ) (Right : List ℕ 
           mark_is = rw (l, q) h.mark-is;
         }
 
-    pub noted-holding : Now (noted key v level t watch)
-    noted-holding = noted_cases key v level t watch Now renews enters fills stays
+    pub noted-holding : Now (noted key v t watch)
+    noted-holding = noted_cases key v t watch Now renews enters fills stays
 
   -- an accepted taking off
   module _ (key : List ℕ) where
@@ -252,7 +251,7 @@ module _ (t : ℕ) (watch : Watch) (total : List ℕ → ℕ) (Right : List ℕ 
               same_or_not key k (λ p. absurd (true≢false (sym on ∙ sym (rw (← p, key_same key)) ∙ n.0))) (λ p. without_other key k p es ∙ on);
           estimates = λ k r.
               same_or_not key k (λ p. absurd (true≢false (sym r ∙ rw (← p) gone)))
-              (λ p. rw (without_figures key k p es) (h.estimates k (sym (without_other key k p es) ∙ r)));
+              (λ p. rw (without_estimate key k p es) (h.estimates k (sym (without_other key k p es) ∙ r)));
           order_is = rw (← h.order_is, without_passes key es h.good.once, gone) (sym (append-nil (keys_of (without key es))));
           mark_is = h.mark-is;
         }

@@ -8,14 +8,12 @@ use borrow.Author.Tests.{eqb-true}
 use lib.Dec.{eqb, leb}
 use lib.ListN.{length, replicate}
 use Rattle.geometry.specs.Geometry.{valid_depth, valid_width}
-use Rattle.meter_least.specs.declared.Estimate.{Estimate}
 use Rattle.meter.specs.Meter.{updated, estimated}
-use Rattle.meter.proofs.Reading.{estimate_level}
 use Rattle.meter_keys.specs.Keys.{same_key}
 use Rattle.meter_keys.proofs.Same.{key_same}
-use Rattle.watch_list.specs.List.{Watch, listed, clear_place, taken_off}
+use Rattle.watch_list.specs.List.{Watch, listed, noted, clear_place, taken_off}
 use Rattle.watch_list.specs.Layout.{list_size, sound, encode, decode}
-use Rattle.watch_list.proofs.Lists.{Each, each_is, same_sym, by_test, decode_encode, encode-long, encode-sound, cleared, cleared_bytes}
+use Rattle.watch_list.proofs.Lists.{Each, same_sym, by_test, decode_encode, encode-long, encode-sound, cleared, cleared_bytes}
 use Rattle.watch.specs.Watch.{noted_in, watched}
 use Rattle.watch_checks.proofs.Lines.{key_long}
 use Rattle.watch.proofs.Laws.{Accepted, watched-accepted, watched-kept, removed-accepted, removed-kept}
@@ -23,9 +21,9 @@ use Rattle.traffic.specs.Traffic.{amount_sum, key_total, lower}
 use Rattle.traffic.specs.Calls.{watch, traffic, after as after_call, run, done, Faithful, Listed}
 use Rattle.traffic.proofs.Theorem.{answers, estimate-small}
 use Rattle.watch_claim.specs.Steps.{Step, update, remove, key_of, State, status, stepped, after, entries_after, listed_after, accepted, ToldThese, Told, calls, total}
-use Rattle.watch_claim.specs.Claim.{taken_off_since, figures, last_figures, Once, joins, join_order, finds_full, found_full, Claim, WatchClaim, EqualBytes}
-use Rattle.watch_claim.proofs.Entrywise.{Entered, noting, passes, changed, entered, passes_is}
-use Rattle.watch_claim.proofs.Holding.{Used, Good, good_formed, good_canonical, Holding, order_now, refused-holding, noted-holding, off-holding}
+use Rattle.watch_claim.specs.Claim.{taken_off_since, last_estimate, Once, joins, join_order, finds_full, found_full, Claim, WatchClaim, EqualBytes}
+use Rattle.watch_claim.proofs.Entrywise.{Entered, passes, changed, entered, passes_is}
+use Rattle.watch_claim.proofs.Holding.{Good, good_formed, good_canonical, Holding, order_now, refused-holding, noted-holding, off-holding}
 
 -- a refused step leaves memory and list
 kept_state : (step : Step) (s : State) → eqb (status step s) 0 ≡ false → stepped step s ≡ s
@@ -57,9 +55,9 @@ module _ (d w t : ℕ) (vd : valid_depth d ≡ true) (vw : valid_width w ≡ tru
       )
   faithful (remove key ∷ steps) told = faithful steps told.0
 
-  -- what is right of a key's estimate and its level
-  abbrev Right : List Step → List ℕ → ℕ × ℕ → Type 0
-  Right steps key x = (total d w steps key ≤ x.0) × (x.1 ≤ 3) × (x ≡ last_figures d w key steps)
+  -- what is right of a key's estimate
+  abbrev Right : List Step → List ℕ → ℕ → Type 0
+  Right steps key x = (total d w steps key ≤ x) × (x ≡ last_estimate d w key steps)
 
   -- the invariant
   record Inv (steps : List Step) : Type 0 where
@@ -73,7 +71,7 @@ module _ (d w t : ℕ) (vd : valid_depth d ≡ true) (vw : valid_width w ≡ tru
   inv-unbroken steps i =
       let watch = decode (after d w steps).list in
       let good = good_formed watch i.holding.good in
-      rw i.list-is (encode-long watch good, encode-sound watch good i.holding.good.mark-le (each_is Used (λ e. e.level ≤ 3) (λ e u. u.level) watch.entries i.holding.good.used))
+      rw i.list-is (encode-long watch good, encode-sound watch good i.holding.good.mark-le)
 
   inv-passes : (steps : List Step) → Inv steps → (step : Step) → passes step (entered d w steps) ≡ accepted d w steps step
   unfolding accepted
@@ -137,8 +135,8 @@ module _ (d w t : ℕ) (vd : valid_depth d ≡ true) (vw : valid_width w ≡ tru
     refused-since (update d' w' key amount t') e k = rw e
     refused-since (remove key) e k = rw e
 
-    refused-last : (step : Step) → accepted d w steps step ≡ false → (k : List ℕ) → last_figures d w k (step ∷ steps) ≡ last_figures d w k steps
-    unfolding last_figures
+    refused-last : (step : Step) → accepted d w steps step ≡ false → (k : List ℕ) → last_estimate d w k (step ∷ steps) ≡ last_estimate d w k steps
+    unfolding last_estimate
     refused-last (update d' w' key amount t') e k = rw e
     refused-last (remove key) e k = refl
 
@@ -163,11 +161,8 @@ module _ (d w t : ℕ) (vd : valid_depth d ≡ true) (vw : valid_width w ≡ tru
       step = update d w key amount t
 
       -- the estimate that it leaves
-      abbrev left : Estimate
-      left = estimated d w (after d w (step ∷ steps)).memory key
-
       abbrev value : ℕ
-      value = left.answer.value
+      value = (estimated d w (after d w (step ∷ steps)).memory key).value
 
       abbrev before : Watch
       before = decode (after d w steps).list
@@ -180,14 +175,14 @@ module _ (d w t : ℕ) (vd : valid_depth d ≡ true) (vw : valid_width w ≡ tru
       unfolding after stepped
       memory-now = passed.memory-is
 
-      list-now : (after d w (step ∷ steps)).list ≡ encode (noting key left t before)
+      list-now : (after d w (step ∷ steps)).list ≡ encode (noted key value t before)
       unfolding after stepped noted_in
-      list-now = passed.list-is ∙ ap (λ (m : List ℕ). encode (noting key (estimated d w m key) t before)) (sym memory-now)
+      list-now = passed.list-is ∙ ap (λ (m : List ℕ). encode (noted key (estimated d w m key).value t before)) (sym memory-now)
 
-      entered-now : record { memory = (after d w (step ∷ steps)).memory; watch = noting key left t before } ≡ entered d w (step ∷ steps)
+      entered-now : record { memory = (after d w (step ∷ steps)).memory; watch = noted key value t before } ≡ entered d w (step ∷ steps)
       unfolding changed
       entered-now =
-          ap {B = Entered} (λ (m : List ℕ). record { memory = m; watch = noting key (estimated d w m key) t before }) memory-now ∙ entered-accepted i step e
+          ap {B = Entered} (λ (m : List ℕ). record { memory = m; watch = noted key (estimated d w m key).value t before }) memory-now ∙ entered-accepted i step e
 
       now-faithful : Faithful d w (calls d w (step ∷ steps)) × (run d w (calls d w (step ∷ steps)) ≡ (after d w (step ∷ steps)).memory)
       now-faithful = faithful (step ∷ steps) told
@@ -195,16 +190,13 @@ module _ (d w t : ℕ) (vd : valid_depth d ≡ true) (vw : valid_width w ≡ tru
       above : total d w (step ∷ steps) key ≤ value
       unfolding total lower
       above =
-          subst (λ (m : List ℕ). key_total key (traffic (calls d w (step ∷ steps))) ≤ (estimated d w m key).answer.value) now-faithful.1
+          subst (λ (m : List ℕ). key_total key (traffic (calls d w (step ∷ steps))) ≤ (estimated d w m key).value) now-faithful.1
           (answers d w vd vw (calls d w (step ∷ steps)) now-faithful.0 key passed.key-good).1.0
 
       small : value < 2 ^ 64
       small =
-          subst (λ (m : List ℕ). (estimated d w m key).answer.value < 2 ^ 64) now-faithful.1
+          subst (λ (m : List ℕ). (estimated d w m key).value < 2 ^ 64) now-faithful.1
           (estimate-small d w vd vw (calls d w (step ∷ steps)) now-faithful.0 key passed.key-good)
-
-      low : left.level ≤ 3
-      low = estimate_level d w (after d w (step ∷ steps)).memory key
 
       others : (k : List ℕ) → same_key key k ≡ false → total d w (step ∷ steps) k ≡ total d w steps k
       unfolding total calls traffic after_call key_total amount_sum
@@ -214,34 +206,34 @@ module _ (d w t : ℕ) (vd : valid_depth d ≡ true) (vw : valid_width w ≡ tru
       unfolding taken_off_since
       kept k n = rw (e, n)
 
-      last-same : last_figures d w key (step ∷ steps) ≡ figures left
-      unfolding last_figures
+      last-same : last_estimate d w key (step ∷ steps) ≡ value
+      unfolding last_estimate
       last-same = rw (e, key_same key)
 
-      last-other : (k : List ℕ) → same_key key k ≡ false → last_figures d w k (step ∷ steps) ≡ last_figures d w k steps
-      unfolding last_figures
+      last-other : (k : List ℕ) → same_key key k ≡ false → last_estimate d w k (step ∷ steps) ≡ last_estimate d w k steps
+      unfolding last_estimate
       last-other k n = rw (e, n)
 
       full_is : finds_full d w t steps step ≡ (not (listed key before.entries) && (leb t value && eqb (length before.entries) 64))
       unfolding finds_full
       full_is = rw e
 
-      noted-now : Holding t (noting key left t before) (total d w (step ∷ steps)) (Right (step ∷ steps)) (λ k. taken_off_since d w k (step ∷ steps))
-          (order_now key before.entries (noting key left t before).entries (join_order d w steps)) (cond (finds_full d w t steps step) 1 (found_full d w t steps))
+      noted-now : Holding t (noted key value t before) (total d w (step ∷ steps)) (Right (step ∷ steps)) (λ k. taken_off_since d w k (step ∷ steps))
+          (order_now key before.entries (noted key value t before).entries (join_order d w steps)) (cond (finds_full d w t steps step) 1 (found_full d w t steps))
       noted-now =
           let n = key_long key passed.key-good in
           rw full_is
-          (noted-holding t before (total d w steps) (Right steps) (λ k. taken_off_since d w k steps) (join_order d w steps) (found_full d w t steps) i.holding key value left.level n.0 n.1 small low
-          (total d w (step ∷ steps)) above others (Right (step ∷ steps)) (above, low, sym last-same) (λ k x n r. rw (others k n, last-other k n) r) (λ k. taken_off_since d w k (step ∷ steps)) kept)
+          (noted-holding t before (total d w steps) (Right steps) (λ k. taken_off_since d w k steps) (join_order d w steps) (found_full d w t steps) i.holding key value n.0 n.1 small
+          (total d w (step ∷ steps)) above others (Right (step ∷ steps)) (above, sym last-same) (λ k x n r. rw (others k n, last-other k n) r) (λ k. taken_off_since d w k (step ∷ steps)) kept)
 
       updates : Inv (step ∷ steps)
       unfolding key_of
       updates =
-          after-step step (noting key left t before) list-now noted-now entered-now
+          after-step step (noted key value t before) list-now noted-now entered-now
 
     -- an accepted taking off
     removes : (key : List ℕ) → Inv steps → accepted d w steps (remove key) ≡ true → Inv (remove key ∷ steps)
-    unfolding accepted status after stepped key_of finds_full total calls last_figures taken_off_since changed
+    unfolding accepted status after stepped key_of finds_full total calls last_estimate taken_off_since changed
     removes key i e =
         let before = decode (after d w steps).list in
         let r = removed-accepted (after d w steps).list key (eqb-true _ 0 e) in
@@ -282,8 +274,7 @@ module _ (d w t : ℕ) (vd : valid_depth d ≡ true) (vw : valid_width w ≡ tru
       record {
         heavy = h.heavy;
         estimates = λ key l. (h.estimates key l).0;
-        levels = λ key l. (h.estimates key l).1;
-        latest = λ key l. (h.estimates key l).2;
+        latest = λ key l. (h.estimates key l).1;
         once = h.good.once;
         order = h.order_is;
         bytes = i.list-is ∙ ap encode (good_canonical (decode (after d w steps).list) h.good);

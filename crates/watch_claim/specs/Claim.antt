@@ -1,7 +1,6 @@
--- What is claimed of every list of updates through a watch list and takings off. Document 02, requests 1 and 5. Cited by theorems.
+-- What is claimed of every list of updates through a watch list and takings off. Document 02, request 1. Cited by theorems.
 use Rattle.std.specs.Prelude.{ℕ, ◌-◌, ◌≤◌, ◌≡◌, Bool, true, false, cond, not, ◌&&◌, ◌||◌, List, [], ◌∷◌, ◌++◌, map, leb, eqb, length, replicate}
 use Rattle.geometry.specs.Geometry.{valid_depth, valid_width}
-use Rattle.meter_least.specs.declared.Estimate.{Estimate}
 use Rattle.meter.specs.Meter.{estimated}
 use Rattle.meter_keys.specs.Keys.{same_key}
 use Rattle.watch_list.specs.List.{Entry, Watch, listed, joining, clear_place}
@@ -16,21 +15,18 @@ taken_off_since d w key (update d' w' k amount threshold ∷ steps) =
     cond (accepted d w steps (update d' w' k amount threshold) && same_key k key) false (taken_off_since d w key steps)
 taken_off_since d w key (remove k ∷ steps) = accepted d w steps (remove k) && (same_key k key && listed_after d w steps key) || taken_off_since d w key steps
 
--- the estimate of a listed key, and its level
-unfoldable pub figures_in : List ℕ → List Entry → ℕ × ℕ
-figures_in key [] = (0, 0)
-figures_in key (e ∷ es) = cond (same_key e.key key) (e.estimate, e.level) (figures_in key es)
+-- the estimate of a listed key
+unfoldable pub estimate_in : List ℕ → List Entry → ℕ
+estimate_in key [] = 0
+estimate_in key (e ∷ es) = cond (same_key e.key key) e.estimate (estimate_in key es)
 
--- the meter's estimate of a key just after its last accepted update, and its level
-abbrev pub figures : Estimate → ℕ × ℕ
-figures e = (e.answer.value, e.level)
-
-unfoldable pub last_figures : ℕ → ℕ → List ℕ → List Step → ℕ × ℕ
-last_figures d w key [] = (0, 0)
-last_figures d w key (update d' w' k amount threshold ∷ steps) =
+-- the meter's estimate of a key just after its last accepted update
+unfoldable pub last_estimate : ℕ → ℕ → List ℕ → List Step → ℕ
+last_estimate d w key [] = 0
+last_estimate d w key (update d' w' k amount threshold ∷ steps) =
     cond (accepted d w steps (update d' w' k amount threshold) && same_key k key)
-    (figures (estimated d w (after d w (update d' w' k amount threshold ∷ steps)).memory key)) (last_figures d w key steps)
-last_figures d w key (remove k ∷ steps) = last_figures d w key steps
+    (estimated d w (after d w (update d' w' k amount threshold ∷ steps)).memory key).value (last_estimate d w key steps)
+last_estimate d w key (remove k ∷ steps) = last_estimate d w key steps
 
 -- no key is there twice
 unfoldable pub Once : List Entry → Type 0
@@ -56,7 +52,7 @@ unfoldable pub finds_full : ℕ → ℕ → ℕ → List Step → Step → Bool
 finds_full d w threshold steps (update d' w' key amount threshold') =
     accepted d w steps (update d' w' key amount threshold')
     && (not (listed_after d w steps key)
-    && (leb threshold (estimated d w (after d w (update d' w' key amount threshold' ∷ steps)).memory key).answer.value
+    && (leb threshold (estimated d w (after d w (update d' w' key amount threshold' ∷ steps)).memory key).value
     && eqb (length (entries_after d w steps)) 64))
 finds_full d w threshold steps (remove key) = false
 
@@ -65,23 +61,21 @@ unfoldable pub found_full : ℕ → ℕ → ℕ → List Step → ℕ
 found_full d w threshold [] = 0
 found_full d w threshold (step ∷ steps) = cond (finds_full d w threshold steps step) 1 (found_full d w threshold steps)
 
--- the keys of entries with estimates and levels, and the list of a mark and such keys whose unused bytes are all 0
-unfoldable pub contents : List Entry → List (List ℕ × ℕ × ℕ)
-contents entries = map (λ e. (e.key, e.estimate, e.level)) entries
+-- the keys and estimates of entries, and the list of a mark, keys and estimates whose unused bytes are all 0
+unfoldable pub contents : List Entry → List (List ℕ × ℕ)
+contents entries = map (λ e. (e.key, e.estimate)) entries
 
-unfoldable pub canonical : ℕ → List (List ℕ × ℕ × ℕ) → Watch
-canonical mark keys = record { mark = mark; entries = map (λ k. joining k.0 k.1 k.2) keys; free = replicate (64 - length keys) clear_place }
+unfoldable pub canonical : ℕ → List (List ℕ × ℕ) → Watch
+canonical mark pairs = record { mark = mark; entries = map (λ p. joining p.0 p.1) pairs; free = replicate (64 - length pairs) clear_place }
 
 -- what holds after a list of steps
 pub record Claim (d w threshold : ℕ) (steps : List Step) : Type 0 where
   -- while the mark is off, a key whose accepted total reached the threshold is listed, unless taken off since its last accepted update
   pub heavy : mark_after d w steps ≡ 0 → (key : List ℕ) → threshold ≤ total d w steps key → taken_off_since d w key steps ≡ false
       → listed_after d w steps key ≡ true
-  -- a listed key's estimate is at least its accepted total, its level is at most 3, and both are the meter's just after the key's last
-  -- accepted update
-  pub estimates : (key : List ℕ) → listed_after d w steps key ≡ true → total d w steps key ≤ (figures_in key (entries_after d w steps)).0
-  pub levels : (key : List ℕ) → listed_after d w steps key ≡ true → (figures_in key (entries_after d w steps)).1 ≤ 3
-  pub latest : (key : List ℕ) → listed_after d w steps key ≡ true → figures_in key (entries_after d w steps) ≡ last_figures d w key steps
+  -- a listed key's estimate is at least its accepted total, and is the meter's just after the key's last accepted update
+  pub estimates : (key : List ℕ) → listed_after d w steps key ≡ true → total d w steps key ≤ estimate_in key (entries_after d w steps)
+  pub latest : (key : List ℕ) → listed_after d w steps key ≡ true → estimate_in key (entries_after d w steps) ≡ last_estimate d w key steps
   pub once : Once (entries_after d w steps)
   -- entries are in the order they joined
   pub order : map (λ (e : Entry). e.key) (entries_after d w steps) ≡ join_order d w steps
@@ -98,7 +92,7 @@ WatchClaim =
     → (steps : List Step) → Told d w threshold steps
     → Claim d w threshold steps
 
--- What follows: lists with the same mark, keys, estimates and levels are the same bytes, whatever steps left them.
+-- What follows: lists with the same mark, keys and estimates are the same bytes, whatever steps left them.
 abbrev pub EqualBytes : Type 0
 EqualBytes =
     (d w threshold d' w' threshold' : ℕ) (steps others : List Step) → Claim d w threshold steps → Claim d' w' threshold' others

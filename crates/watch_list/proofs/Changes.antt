@@ -1,16 +1,19 @@
 -- What a list's bytes become, by the place where a key is found.
 use mathlib.Core.Path.{◌≡◌, refl, sym, ap, ◌∙◌}
-use mathlib.Core.Bool.{Bool, true, false, cond}
+use mathlib.Core.Bool.{Bool, true, false, cond, true≢false, and-eq-true_iff}
 use mathlib.Core.List.{List, [], ◌∷◌, ◌++◌, append_assoc, append-nil}
-use Prim.Native.Nat.{ℕ, suc, ◌+◌, ◌-◌, ◌≤◌, ◌<◌}
+use Prim.Native.Nat.{ℕ, zero, suc, ◌+◌, ◌-◌, ◌*◌, ◌≤◌, ◌<◌}
 use native.Mathlib.Omega.{arith}
 use borrow.Author.Tests.{le-leb, lt-leb}
-use lib.ListN.{length, get_or, set, replicate, length-append, length-replicate}
+use lib.Dec.{leb}
+use lib.ListN.{length, get_or, take, drop, set, replicate, length-append, length-replicate}
+use lib.Seq.{set_at}
 use Rattle.laws.proofs.Lists.{Bytes}
+use Rattle.little_endian.specs.Bytes.{bytes}
 use Rattle.meter_keys.specs.Keys.{same_key}
-use Rattle.watch_list.specs.List.{Entry, Watch, listed, joining, joined, renewing, renewed, noted, without, taken_off}
-use Rattle.watch_list.specs.Layout.{length_field, key_field, laid_out, encode, place_at, places_from, decode}
-use Rattle.watch_list.specs.Parts.{Holds, KeyLong, index_of, put_figures, put_place, closed_place}
+use Rattle.watch_list.specs.List.{Entry, Watch, listed, joining, joined, renewed, noted, without, clear_place, taken_off}
+use Rattle.watch_list.specs.Layout.{keys_at, estimates_at, list_size, length_field, key_field, estimate_field, laid_out, encode, place_at, places_from, in_use, decode, sound}
+use Rattle.watch_list.specs.Parts.{Holds, KeyLong, index_of, put, put_place, closed_place}
 use Rattle.watch_list.proofs.Lists.{each_append}
 use Rattle.watch_list.proofs.Columns.{Whole, AllWhole, laid_mark, laid-put, laid-renewed, laid-closed}
 use Rattle.watch_list.proofs.Places.{places_length, places_split, place-whole, places-whole, in-use-most, laid-places, encode_decode}
@@ -51,13 +54,13 @@ module _ (key : List ℕ) where
         let p = picked (same_key e.key key) (index_of key (es ++ (here ∷ fs))) (length es) h in
         rw p.0 (found-listed es p.1)
 
-    found-renewed : (estimate level : ℕ) (es : List Entry) → index_of key (es ++ (here ∷ fs)) ≡ length es
-        → renewed key estimate level (es ++ (here ∷ fs)) ≡ es ++ (renewing here estimate level ∷ fs)
+    found-renewed : (estimate : ℕ) (es : List Entry) → index_of key (es ++ (here ∷ fs)) ≡ length es
+        → renewed key estimate (es ++ (here ∷ fs)) ≡ es ++ (record { key = here.key; unused = here.unused; estimate = estimate } ∷ fs)
     unfolding index_of renewed
-    found-renewed estimate level [] h = rw (found (same_key here.key key) (index_of key fs) h)
-    found-renewed estimate level (e ∷ es) h =
+    found-renewed estimate [] h = rw (found (same_key here.key key) (index_of key fs) h)
+    found-renewed estimate (e ∷ es) h =
         let p = picked (same_key e.key key) (index_of key (es ++ (here ∷ fs))) (length es) h in
-        rw p.0 (ap (λ (l : List Entry). e ∷ l) (found-renewed estimate level es p.1))
+        rw p.0 (ap (λ (l : List Entry). e ∷ l) (found-renewed estimate es p.1))
 
     found-without : (es : List Entry) → index_of key (es ++ (here ∷ fs)) ≡ length es → without key (es ++ (here ∷ fs)) ≡ es ++ fs
     unfolding index_of without
@@ -95,6 +98,9 @@ module _ (xs : List ℕ) (n : ℕ) (holds : Holds xs n) (small : Bytes xs) (key 
     abbrev free : List Entry
     free = places_from xs (64 - n) n
 
+    abbrev new : ℕ → Entry
+    new estimate = record { key = (place_at xs i).key; unused = (place_at xs i).unused; estimate = estimate }
+
     -- the key is found at place i
     module _ (h : i < n) where
       here : index_of key (es ++ (place_at xs i ∷ fs)) ≡ length es
@@ -125,17 +131,15 @@ module _ (xs : List ℕ) (n : ℕ) (holds : Holds xs n) (small : Bytes xs) (key 
       here-whole : Whole (place_at xs i)
       here-whole = place-whole xs holds.long i (omega (arith, most))
 
-      pub renewed-is : (estimate level threshold : ℕ)
-          → encode (noted key estimate level threshold (decode xs)) ≡ put_figures xs i estimate level
-      unfolding noted encode length_field key_field
-      renewed-is estimate level threshold =
-          let new = renewing (place_at xs i) estimate level in
-          let renews : renewed key estimate level (places_from xs n 0) ≡ es ++ (new ∷ fs) =
-          ap (renewed key estimate level) (around xs n i h) ∙ found-renewed key fs (place_at xs i) estimate level es here in
+      pub renewed-is : (estimate threshold : ℕ) → encode (noted key estimate threshold (decode xs)) ≡ put xs (estimates_at + i * 8) (bytes 8 estimate)
+      unfolding noted encode estimate_field length_field key_field
+      renewed-is estimate threshold =
+          let renews : renewed key estimate (places_from xs n 0) ≡ es ++ (new estimate ∷ fs) =
+          ap (renewed key estimate) (around xs n i h) ∙ found-renewed key fs (place_at xs i) estimate es here in
           let rest : i + suc (length (fs ++ free)) ≡ 64 = omega (arith, most, ap length after, places_length xs (64 - suc i) (suc i)) in
-          rw (is-list, is-listed, renews, append_assoc es (new ∷ fs) free)
-          (laid-renewed mark es (fs ++ free) (place_at xs i) new i es-whole (each_append Whole fs free fs-whole free-whole) here-whole here-whole (places_length xs i 0) rest refl refl
-          ∙ ap (λ (l : List ℕ). put_figures l i estimate level) whole-list)
+          rw (is-list, is-listed, renews, append_assoc es (new estimate ∷ fs) free)
+          (laid-renewed mark es (fs ++ free) (place_at xs i) (new estimate) i es-whole (each_append Whole fs free fs-whole free-whole) here-whole here-whole (places_length xs i 0) rest refl refl
+          ∙ ap (λ (l : List ℕ). put l (estimates_at + i * 8) (bytes 8 estimate)) whole-list)
 
       pub off-is : encode (taken_off key (decode xs)) ≡ closed_place xs i n
       unfolding taken_off encode
@@ -151,28 +155,28 @@ module _ (xs : List ℕ) (n : ℕ) (holds : Holds xs n) (small : Bytes xs) (key 
       not_listed : listed key (decode xs).entries ≡ false
       not_listed = ap (λ (w : Watch). listed key w.entries) is-list ∙ none-listed key (places_from xs n 0) (sym at ∙ h ∙ sym (places_length xs n 0))
 
-      pub below_is : (estimate level threshold : ℕ) → estimate < threshold → encode (noted key estimate level threshold (decode xs)) ≡ xs
+      pub below_is : (estimate threshold : ℕ) → estimate < threshold → encode (noted key estimate threshold (decode xs)) ≡ xs
       unfolding noted
-      below_is estimate level threshold l = rw (not_listed, lt-leb threshold estimate l) (encode_decode xs holds.long small holds.is-sound)
+      below_is estimate threshold l = rw (not_listed, lt-leb threshold estimate l) (encode_decode xs holds.long small holds.is-sound)
 
       pub off-none-is : encode (taken_off key (decode xs)) ≡ xs
       unfolding taken_off
       off-none-is = rw not_listed (encode_decode xs holds.long small holds.is-sound)
 
-      pub full_is : (estimate level threshold : ℕ) → threshold ≤ estimate → n ≡ 64 → encode (noted key estimate level threshold (decode xs)) ≡ set xs 64 1
+      pub full_is : (estimate threshold : ℕ) → threshold ≤ estimate → n ≡ 64 → encode (noted key estimate threshold (decode xs)) ≡ set xs 64 1
       unfolding noted encode joined places_from
-      full_is estimate level threshold l f =
+      full_is estimate threshold l f =
           rw (not_listed, le-leb threshold estimate l, is-list, f, append-nil (places_from xs 64 0))
           (laid_mark mark 1 (places_from xs 64 0) (places-whole xs holds.long 64 0 (omega arith)) (places_length xs 64 0)
           ∙ ap (λ (l : List ℕ). set l 64 1) (laid-places xs holds.long small holds.is-sound))
 
-      pub joined_is : (estimate level threshold : ℕ) → threshold ≤ estimate → n < 64 → KeyLong key → encode (noted key estimate level threshold (decode xs)) ≡ put_place xs n (joining key estimate level)
+      pub joined_is : (estimate threshold : ℕ) → threshold ≤ estimate → n < 64 → KeyLong key → encode (noted key estimate threshold (decode xs)) ≡ put_place xs n (joining key estimate)
       unfolding noted encode joined places_from
-      joined_is estimate level threshold l f k =
+      joined_is estimate threshold l f k =
           let rest = places_from xs (64 - suc n) (suc n) in
           let e : 64 - n ≡ suc (64 - suc n) = omega arith in
-          let new-whole : Whole (joining key estimate level) = omega (arith, length-append key (replicate (64 - length key) 0), length-replicate {A = ℕ} (64 - length key) 0, k) in
-          rw (not_listed, le-leb threshold estimate l, is-list, e, append_assoc (places_from xs n 0) (joining key estimate level ∷ []) rest)
-          (laid-put mark (places_from xs n 0) rest (place_at xs n) (joining key estimate level) n (places-whole xs holds.long n 0 (omega arith)) (places-whole xs holds.long (64 - suc n) (suc n) (omega arith))
+          let new-whole : Whole (joining key estimate) = omega (arith, length-append key (replicate (64 - length key) 0), length-replicate {A = ℕ} (64 - length key) 0, k) in
+          rw (not_listed, le-leb threshold estimate l, is-list, e, append_assoc (places_from xs n 0) (joining key estimate ∷ []) rest)
+          (laid-put mark (places_from xs n 0) rest (place_at xs n) (joining key estimate) n (places-whole xs holds.long n 0 (omega arith)) (places-whole xs holds.long (64 - suc n) (suc n) (omega arith))
           (place-whole xs holds.long n f) new-whole (places_length xs n 0) (omega (arith, places_length xs (64 - suc n) (suc n)))
-          ∙ ap (λ (l : List ℕ). put_place l n (joining key estimate level)) (ap (laid_out mark) (sym (around xs 64 n f)) ∙ laid-places xs holds.long small holds.is-sound))
+          ∙ ap (λ (l : List ℕ). put_place l n (joining key estimate)) (ap (laid_out mark) (sym (around xs 64 n f)) ∙ laid-places xs holds.long small holds.is-sound))

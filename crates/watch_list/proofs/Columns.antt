@@ -1,27 +1,55 @@
 -- Columns of a list's bytes: what a change of one entry, or an entry taken out, does to them.
 use mathlib.Core.Path.{◌≡◌, refl, sym, ap, ap₂, ◌∙◌}
-use mathlib.Core.List.{List, [], ◌∷◌, ◌++◌, append_assoc, append-nil}
-use Prim.Native.Nat.{ℕ, suc, ◌+◌, ◌*◌}
+use mathlib.Core.List.{List, [], ◌∷◌, ◌++◌, append_assoc}
+use Prim.Native.Nat.{ℕ, zero, suc, ◌+◌, ◌-◌, ◌*◌, ◌≤◌, ◌<◌}
 use native.Mathlib.Nat.{suc-mul, add-mul}
 use native.Mathlib.Omega.{arith}
-use lib.ListN.{length, set, replicate, length-append}
-use lib.Seq.{set_at, take_at, drop_at, take-append-le}
+use lib.ListN.{length, take, drop, set, replicate, length-append, length-take, length-drop}
+use lib.Seq.{set_at, take_at, drop_at, take-append-le, drop-append-le, take-append-add, drop-append-add}
 use Rattle.little_endian.specs.Bytes.{bytes}
 use Rattle.little_endian.proofs.Bytes.{bytes_length}
 use Rattle.watch_list.specs.List.{Entry, clear_place}
-use Rattle.watch_list.specs.Layout.{keys_at, estimates_at, levels_at, length_field, key_field, estimate_field, level_field, column, laid_out}
-use Rattle.watch_list.specs.Parts.{put, closed, put_figures, put_place, closed_place}
+use Rattle.watch_list.specs.Layout.{keys_at, estimates_at, length_field, key_field, estimate_field, column, laid_out}
+use Rattle.watch_list.specs.Parts.{put, closed, put_place, closed_place}
 use Rattle.watch_list.proofs.Lists.{Each, each_append, each_is, Wide, column-length}
 
--- the second of three parts put in place of one as long
-put_part : (xs old new ys : List ℕ) (at : ℕ) → length xs ≡ at → length old ≡ length new → put (xs ++ old ++ ys) at new ≡ xs ++ new ++ ys
-unfolding put
-put_part xs old new ys at a e =
-    let past : length (xs ++ old) ≡ at + length new = omega (arith, length-append xs old) in
-    rw (drop_at (xs ++ old) ys (at + length new) past, append_assoc xs old ys, take_at xs (old ++ ys) at a)
+-- bytes put in place of those from `at` to `end`
+unfoldable instead : List ℕ → ℕ → ℕ → List ℕ → List ℕ
+instead zs at end xs = take at xs ++ zs ++ drop end xs
+
+-- Changes between two places of a list: they change the list in which the places lie, and none beside it.
+abbrev Left : (ℕ → ℕ → List ℕ → List ℕ) → Type 0
+Left change = (xs ys : List ℕ) (at end : ℕ) → at ≤ end → end ≤ length xs → change at end (xs ++ ys) ≡ change at end xs ++ ys
+
+abbrev Right : (ℕ → ℕ → List ℕ → List ℕ) → Type 0
+Right change = (xs ys : List ℕ) (n at end : ℕ) → length xs ≡ n → change (n + at) (n + end) (xs ++ ys) ≡ xs ++ change at end ys
+
+instead_left : (zs : List ℕ) → Left (instead zs)
+unfolding instead
+instead_left zs xs ys at end h k =
+    rw (take-append-le at xs ys (omega arith), drop-append-le end xs ys k) (sym (append_assoc (take at xs ++ zs) (drop end xs) ys))
+
+instead_right : (zs : List ℕ) → Right (instead zs)
+unfolding instead
+instead_right zs xs ys n at end e = rw (← e, take-append-add xs ys at, drop-append-add xs ys end) (simp append_assoc)
+
+abbrev closing : ℕ → ℕ → ℕ → List ℕ → List ℕ
+closing width at end xs = closed xs at end width
+
+closed_left : (width : ℕ) → Left (closing width)
+unfolding closed
+closed_left width xs ys at end h k =
+    rw (take-append-le at xs ys (omega arith), take-append-le end xs ys k, drop-append-le end xs ys k)
+    (sym (append_assoc (take at xs ++ drop (at + width) (take end xs) ++ replicate width 0) (drop end xs) ys))
+
+closed_right : (width : ℕ) → Right (closing width)
+unfolding closed
+closed_right width xs ys n at end e =
+    let s : n + at + width ≡ length xs + (at + width) = omega arith in
+    rw (s, ← e, take-append-add xs ys at, take-append-add xs ys end, drop-append-add xs ys end, drop-append-add xs (take end ys) (at + width)) (simp append_assoc)
 
 -- the second of four parts taken out
-closed_part : (xs part ys zs : List ℕ) (at end width : ℕ) → length xs ≡ at → length part ≡ width → length xs + (length part + length ys) ≡ end
+pub closed_part : (xs part ys zs : List ℕ) (at end width : ℕ) → length xs ≡ at → length part ≡ width → length xs + (length part + length ys) ≡ end
     → closed (xs ++ (part ++ ys) ++ zs) at end width ≡ xs ++ ys ++ replicate width 0 ++ zs
 unfolding closed
 closed_part xs part ys zs at end width a w e =
@@ -46,7 +74,7 @@ AllWhole es = Each Whole es
 
 -- a column of fields of `width` bytes
 module _ (field : Entry → List ℕ) (width : ℕ) (wide : (e : Entry) → Whole e → length (field e) ≡ width) where
-  column-append : (es fs : List Entry) → column field (es ++ fs) ≡ column field es ++ column field fs
+  pub column-append : (es fs : List Entry) → column field (es ++ fs) ≡ column field es ++ column field fs
   unfolding column
   column-append [] fs = refl
   column-append (e ∷ es) fs = rw (column-append es fs) (sym (append_assoc (field e) (column field es) (column field fs)))
@@ -59,35 +87,28 @@ module _ (field : Entry → List ℕ) (width : ℕ) (wide : (e : Entry) → Whol
   unfolding column
   column-same es fs old new e = rw (column-append es (new ∷ fs), column-append es (old ∷ fs), e)
 
-  -- amid other bytes, which are the same whatever the column holds
-  module _ (list : List ℕ → List ℕ) (front back : List ℕ) (start : ℕ) (amid : (bytes : List ℕ) → list bytes ≡ front ++ bytes ++ back) (starts : length front ≡ start) where
-    before-place : (es : List Entry) (i : ℕ) → AllWhole es → length es ≡ i → length (front ++ column field es) ≡ start + i * width
-    before-place es i w e = length-append front (column field es) ∙ omega (arith, starts, whole_length es w, ap (λ (k : ℕ). k * width) e)
+  -- another entry at place i
+  column-put : (es fs : List Entry) (old new : Entry) (i : ℕ) → AllWhole es → Whole old → Whole new → length es ≡ i
+      → column field (es ++ (new ∷ fs)) ≡ put (column field (es ++ (old ∷ fs))) (i * width) (field new)
+  unfolding column put
+  column-put es fs old new i w o n e =
+      let front : length (column field es) ≡ i * width = whole_length es w ∙ ap (λ (k : ℕ). k * width) e in
+      let past : i * width + length (field new) ≡ length (column field es ++ field old) = omega (arith, length-append (column field es) (field old), wide old o, wide new n, front) in
+      rw (column-append es (new ∷ fs), column-append es (old ∷ fs), past, take_at (column field es) (field old ++ column field fs) (i * width) front, ← append_assoc (column field es) (field old) (column field fs), drop_at (column field es ++ field old) (column field fs) (length (column field es ++ field old)) refl)
+      (sym (append_assoc (column field es) (field new) (column field fs)))
 
-    -- another entry at place i
-    column-put : (es fs : List Entry) (old new : Entry) (i : ℕ) → AllWhole es → Whole old → Whole new → length es ≡ i
-        → put (list (column field (es ++ (old ∷ fs)))) (start + i * width) (field new) ≡ list (column field (es ++ (new ∷ fs)))
-    unfolding column
-    column-put es fs old new i w o n e =
-        let parts : (x : Entry) → list (column field (es ++ (x ∷ fs))) ≡ front ++ column field es ++ field x ++ (column field fs ++ back)
-        = λ x. rw (amid (column field (es ++ (x ∷ fs))), column-append es (x ∷ fs)) (simp append_assoc) in
-        rw (parts old, parts new)
-        (put_part (front ++ column field es) (field old) (field new) (column field fs ++ back) (start + i * width) (before-place es i w e) (wide old o ∙ sym (wide new n)))
-
-    -- place i of n taken out, with zeros in the last
-    column-closed : (es fs gs : List Entry) (old zeros : Entry) (i n : ℕ) → AllWhole es → AllWhole fs → Whole old → length es ≡ i → length es + suc (length fs) ≡ n
-        → field zeros ≡ replicate width 0
-        → closed (list (column field (es ++ (old ∷ fs) ++ gs))) (start + i * width) (start + n * width) width ≡ list (column field (es ++ fs ++ (zeros ∷ gs)))
-    unfolding column
-    column-closed es fs gs old zeros i n w v o e k z =
-        let parts : list (column field (es ++ (old ∷ fs) ++ gs)) ≡ front ++ column field es ++ (field old ++ column field fs) ++ (column field gs ++ back)
-        = rw (amid (column field (es ++ (old ∷ fs) ++ gs)), column-append (es ++ (old ∷ fs)) gs, column-append es (old ∷ fs)) (simp append_assoc) in
-        let parts_out : list (column field (es ++ fs ++ (zeros ∷ gs))) ≡ front ++ column field es ++ column field fs ++ replicate width 0 ++ (column field gs ++ back)
-        = rw (amid (column field (es ++ fs ++ (zeros ∷ gs))), column-append (es ++ fs) (zeros ∷ gs), column-append es fs, z) (simp append_assoc) in
-        let all : length (front ++ column field es) + (length (field old) + length (column field fs)) ≡ start + n * width
-        = omega (arith, before-place es i w e, wide old o, whole_length fs v, add-mul (length es) (suc (length fs)) width, suc-mul (length fs) width, ap (λ (k : ℕ). k * width) k, ap (λ (k : ℕ). k * width) e) in
-        rw (parts, parts_out)
-        (closed_part (front ++ column field es) (field old) (column field fs) (column field gs ++ back) (start + i * width) (start + n * width) width (before-place es i w e) (wide old o) all)
+  -- place i of n taken out, with zeros in the last
+  pub column-closed : (es fs gs : List Entry) (old zeros : Entry) (i n : ℕ) → AllWhole es → AllWhole fs → Whole old → length es ≡ i → length es + suc (length fs) ≡ n
+      → field zeros ≡ replicate width 0
+      → column field (es ++ fs ++ (zeros ∷ gs)) ≡ closed (column field (es ++ (old ∷ fs) ++ gs)) (i * width) (n * width) width
+  unfolding column closed
+  column-closed es fs gs old zeros i n w v o e k z =
+      let front : length (column field es) ≡ i * width = whole_length es w ∙ ap (λ (k : ℕ). k * width) e in
+      let all : length (column field es) + (length (field old) + length (column field fs)) ≡ n * width =
+      omega (arith, wide old o, whole_length es w, whole_length fs v, add-mul (length es) (suc (length fs)) width, suc-mul (length fs) width, ap (λ (k : ℕ). k * width) k) in
+      rw (column-append (es ++ fs) (zeros ∷ gs), column-append es fs, column-append (es ++ (old ∷ fs)) gs, column-append es (old ∷ fs), z)
+      (sym (append_assoc (column field es ++ column field fs) (replicate width 0) (column field gs))
+      ∙ sym (closed_part (column field es) (field old) (column field fs) (column field gs) (i * width) (n * width) width front (wide old o) all))
 
 length_wide : (e : Entry) → Whole e → length (length_field e) ≡ 1
 unfolding length_field
@@ -101,15 +122,49 @@ estimate_wide : (e : Entry) → Whole e → length (estimate_field e) ≡ 8
 unfolding estimate_field
 estimate_wide e h = bytes_length 8 e.estimate
 
-level_wide : (e : Entry) → Whole e → length (level_field e) ≡ 1
-unfolding level_field
-level_wide e h = refl
+-- three columns behind one another, with the mark after the first
+abbrev columns : List ℕ → ℕ → List ℕ → List ℕ → List ℕ
+columns lengths mark keys estimates = lengths ++ (mark ∷ []) ++ keys ++ estimates
 
--- four columns behind one another, with the mark after the first
-abbrev columns : ℕ → List ℕ → List ℕ → List ℕ → List ℕ → List ℕ
-columns mark lengths keys estimates levels = lengths ++ (mark ∷ []) ++ keys ++ estimates ++ levels
+module _ (lengths : List ℕ) (mark : ℕ) (keys estimates : List ℕ) (a : length lengths ≡ 64) (b : length keys ≡ 4096) where
+  head-long : length (lengths ++ (mark ∷ [])) ≡ 65
+  head-long = omega (arith, length-append lengths (mark ∷ []))
 
--- the columns of places
+  front_long : length (lengths ++ (mark ∷ []) ++ keys) ≡ 4161
+  front_long = omega (arith, head-long, length-append (lengths ++ (mark ∷ [])) keys)
+
+  -- a change in one of them
+  module _ (change : ℕ → ℕ → List ℕ → List ℕ) (left : Left change) (right : Right change) where
+    in-lengths : (at end : ℕ) → at ≤ end → end ≤ 64 → change at end (columns lengths mark keys estimates) ≡ columns (change at end lengths) mark keys estimates
+    in-lengths at end h k =
+        left (lengths ++ (mark ∷ []) ++ keys) estimates at end h (omega (arith, front_long))
+        ∙ ap (λ (l : List ℕ). l ++ estimates) (left (lengths ++ (mark ∷ [])) keys at end h (omega (arith, head-long)) ∙ ap (λ (l : List ℕ). l ++ keys) (left lengths (mark ∷ []) at end h (omega arith)))
+
+    in-keys : (at end : ℕ) → at ≤ end → end ≤ 4096 → change (keys_at + at) (keys_at + end) (columns lengths mark keys estimates) ≡ columns lengths mark (change at end keys) estimates
+    in-keys at end h k =
+        left (lengths ++ (mark ∷ []) ++ keys) estimates (keys_at + at) (keys_at + end) (omega arith) (omega (arith, front_long))
+        ∙ ap (λ (l : List ℕ). l ++ estimates) (right (lengths ++ (mark ∷ [])) keys 65 at end head-long)
+
+    in-estimates : (at end : ℕ) → change (estimates_at + at) (estimates_at + end) (columns lengths mark keys estimates) ≡ columns lengths mark keys (change at end estimates)
+    in-estimates at end = right (lengths ++ (mark ∷ []) ++ keys) estimates 4161 at end front_long
+
+  put-lengths : (at : ℕ) (zs : List ℕ) → at + length zs ≤ 64 → put (columns lengths mark keys estimates) at zs ≡ columns (put lengths at zs) mark keys estimates
+  unfolding put instead
+  put-lengths at zs h = in-lengths (instead zs) (instead_left zs) (instead_right zs) at (at + length zs) (omega arith) h
+
+  put-keys : (at : ℕ) (zs : List ℕ) → at + length zs ≤ 4096 → put (columns lengths mark keys estimates) (keys_at + at) zs ≡ columns lengths mark (put keys at zs) estimates
+  unfolding put instead
+  put-keys at zs h =
+      let e : keys_at + at + length zs ≡ keys_at + (at + length zs) = omega arith in
+      rw e (in-keys (instead zs) (instead_left zs) (instead_right zs) at (at + length zs) (omega arith) h)
+
+  put-estimates : (at : ℕ) (zs : List ℕ) → put (columns lengths mark keys estimates) (estimates_at + at) zs ≡ columns lengths mark keys (put estimates at zs)
+  unfolding put instead
+  put-estimates at zs =
+      let e : estimates_at + at + length zs ≡ estimates_at + (at + length zs) = omega arith in
+      rw e (in-estimates (instead zs) (instead_left zs) (instead_right zs) at (at + length zs))
+
+-- the columns of a list of 64 places
 abbrev lengths_of : List Entry → List ℕ
 lengths_of places = column length_field places
 
@@ -119,114 +174,130 @@ keys_of places = column key_field places
 abbrev estimates_of : List Entry → List ℕ
 estimates_of places = column estimate_field places
 
-abbrev levels_of : List Entry → List ℕ
-levels_of places = column level_field places
+lengths_long : (places : List Entry) → AllWhole places → length places ≡ 64 → length (lengths_of places) ≡ 64
+lengths_long places w e = whole_length length_field 1 length_wide places w ∙ ap (λ (k : ℕ). k * 1) e
+
+keys_long : (places : List Entry) → AllWhole places → length places ≡ 64 → length (keys_of places) ≡ 4096
+keys_long places w e = whole_length key_field 64 key_wide places w ∙ ap (λ (k : ℕ). k * 64) e
 
 -- laid out, another mark
 pub laid_mark : (old new : ℕ) (places : List Entry) → AllWhole places → length places ≡ 64 → laid_out new places ≡ set (laid_out old places) 64 new
 unfolding laid_out
 laid_mark old new places w e =
-    let rest = keys_of places ++ estimates_of places ++ levels_of places in
-    let shape : (m : ℕ) → columns m (lengths_of places) (keys_of places) (estimates_of places) (levels_of places) ≡ lengths_of places ++ (m ∷ rest) = λ m. simp append_assoc in
-    rw (shape new, shape old) (sym (set_at (lengths_of places) old rest new 64 (whole_length length_field 1 length_wide places w ∙ ap (λ (k : ℕ). k * 1) e)))
-
--- A change that takes a column of some places to that of others, wherever the column starts.
-abbrev Change : Type 0
-Change = (Entry → List ℕ) → ℕ → ℕ → List ℕ → List ℕ
-
-abbrev Takes : Change → List Entry → List Entry → (Entry → List ℕ) → ℕ → Type 0
-Takes change was now field width =
-    (list : List ℕ → List ℕ) (front back : List ℕ) (start : ℕ) → ((bytes : List ℕ) → list bytes ≡ front ++ bytes ++ back) → length front ≡ start
-    → change field width start (list (column field was)) ≡ list (column field now)
-
--- made in the four columns of 64 places, one after another
-module _ (mark : ℕ) (was now : List Entry) (whole : AllWhole now) (count : length now ≡ 64) (change : Change)
-    (lengths : Takes change was now length_field 1) (keys : Takes change was now key_field 64) (estimates : Takes change was now estimate_field 8) (levels : Takes change was now level_field 1) where
-  before-keys : length (lengths_of now ++ (mark ∷ [])) ≡ keys_at
-  before-keys = length-append (lengths_of now) (mark ∷ []) ∙ omega (arith, whole_length length_field 1 length_wide now whole, count)
-
-  before-estimates : length (lengths_of now ++ (mark ∷ []) ++ keys_of now) ≡ estimates_at
-  before-estimates = length-append (lengths_of now ++ (mark ∷ [])) (keys_of now) ∙ omega (arith, before-keys, whole_length key_field 64 key_wide now whole, count)
-
-  before-levels : length (lengths_of now ++ (mark ∷ []) ++ keys_of now ++ estimates_of now) ≡ levels_at
-  before-levels =
-      length-append (lengths_of now ++ (mark ∷ []) ++ keys_of now) (estimates_of now) ∙ omega (arith, before-estimates, whole_length estimate_field 8 estimate_wide now whole, count)
-
-  in-lengths : change length_field 1 0 (laid_out mark was) ≡ columns mark (lengths_of now) (keys_of was) (estimates_of was) (levels_of was)
-  unfolding laid_out
-  in-lengths =
-      lengths (λ bytes. columns mark bytes (keys_of was) (estimates_of was) (levels_of was)) [] ((mark ∷ []) ++ keys_of was ++ estimates_of was ++ levels_of was) 0 (λ bytes. simp append_assoc) refl
-
-  in-keys : change key_field 64 keys_at (columns mark (lengths_of now) (keys_of was) (estimates_of was) (levels_of was)) ≡ columns mark (lengths_of now) (keys_of now) (estimates_of was) (levels_of was)
-  in-keys =
-      keys (λ bytes. columns mark (lengths_of now) bytes (estimates_of was) (levels_of was)) (lengths_of now ++ (mark ∷ [])) (estimates_of was ++ levels_of was) keys_at (λ bytes. simp append_assoc) before-keys
-
-  -- in the last two alone, where the others are the same
-  figures : change level_field 1 levels_at (change estimate_field 8 estimates_at (columns mark (lengths_of now) (keys_of now) (estimates_of was) (levels_of was))) ≡ laid_out mark now
-  unfolding laid_out
-  figures =
-      ap (change level_field 1 levels_at) (estimates (λ bytes. columns mark (lengths_of now) (keys_of now) bytes (levels_of was)) (lengths_of now ++ (mark ∷ []) ++ keys_of now) (levels_of was) estimates_at (λ bytes. refl) before-estimates)
-      ∙ levels (columns mark (lengths_of now) (keys_of now) (estimates_of now)) (lengths_of now ++ (mark ∷ []) ++ keys_of now ++ estimates_of now) [] levels_at (λ bytes. sym (append-nil _)) before-levels
-
-  all-four : change level_field 1 levels_at (change estimate_field 8 estimates_at (change key_field 64 keys_at (change length_field 1 0 (laid_out mark was)))) ≡ laid_out mark now
-  all-four = rw (in-lengths, in-keys) figures
+    let shape : (m : ℕ) → columns (lengths_of places) m (keys_of places) (estimates_of places) ≡ lengths_of places ++ (m ∷ (keys_of places ++ estimates_of places)) = λ m. simp append_assoc in
+    rw (shape new, shape old) (sym (set_at (lengths_of places) old (keys_of places ++ estimates_of places) new 64 (lengths_long places w e)))
 
 -- laid out, another entry in place i
 module _ (mark : ℕ) (es fs : List Entry) (old new : Entry) (i : ℕ) (w : AllWhole es) (v : AllWhole fs) (o : Whole old) (n : Whole new) (e : length es ≡ i) (all : i + suc (length fs) ≡ 64) where
-  put_whole : AllWhole (es ++ (new ∷ fs))
-  unfolding Each
-  put_whole = each_append Whole es (new ∷ fs) w (n, v)
+  before : List Entry
+  before = es ++ (old ∷ fs)
 
-  put_count : length (es ++ (new ∷ fs)) ≡ 64
-  put_count = omega (arith, length-append es (new ∷ fs))
+  after : List Entry
+  after = es ++ (new ∷ fs)
 
-  abbrev putting : Change
-  putting field width start list = put list (start + i * width) (field new)
+  before-whole : AllWhole before
+  unfolding before Each
+  before-whole = each_append Whole es (old ∷ fs) w (o, v)
 
-  puts : (field : Entry → List ℕ) (width : ℕ) → ((x : Entry) → Whole x → length (field x) ≡ width) → Takes putting (es ++ (old ∷ fs)) (es ++ (new ∷ fs)) field width
-  puts field width wide list front back start amid starts = column-put field width wide list front back start amid starts es fs old new i w o n e
+  after-whole : AllWhole after
+  unfolding after Each
+  after-whole = each_append Whole es (new ∷ fs) w (n, v)
+
+  before-long : length before ≡ 64
+  unfolding before
+  before-long = omega (arith, length-append es (old ∷ fs))
+
+  after-long : length after ≡ 64
+  unfolding after
+  after-long = omega (arith, length-append es (new ∷ fs))
+
+  at-estimate : put (columns (lengths_of after) mark (keys_of after) (estimates_of before)) (estimates_at + i * 8) (estimate_field new) ≡ laid_out mark after
+  unfolding before after laid_out
+  at-estimate =
+      put-estimates (lengths_of after) mark (keys_of after) (estimates_of before) (lengths_long after after-whole after-long) (keys_long after after-whole after-long) (i * 8) (estimate_field new)
+      ∙ ap (columns (lengths_of after) mark (keys_of after)) (sym (column-put estimate_field 8 estimate_wide es fs old new i w o n e))
+
+  at_key : put (columns (lengths_of after) mark (keys_of before) (estimates_of before)) (keys_at + i * 64) (key_field new) ≡ columns (lengths_of after) mark (keys_of after) (estimates_of before)
+  unfolding before after
+  at_key =
+      put-keys (lengths_of after) mark (keys_of before) (estimates_of before) (lengths_long after after-whole after-long) (keys_long before before-whole before-long) (i * 64) (key_field new) (omega (arith, key_wide new n))
+      ∙ ap (λ (l : List ℕ). columns (lengths_of after) mark l (estimates_of before)) (sym (column-put key_field 64 key_wide es fs old new i w o n e))
+
+  at_length : put (laid_out mark before) i (length_field new) ≡ columns (lengths_of after) mark (keys_of before) (estimates_of before)
+  unfolding before after laid_out
+  at_length =
+      let one : i * 1 ≡ i = omega arith in
+      put-lengths (lengths_of before) mark (keys_of before) (estimates_of before) (lengths_long before before-whole before-long) (keys_long before before-whole before-long) i (length_field new) (omega (arith, length_wide new n))
+      ∙ ap (λ (l : List ℕ). columns l mark (keys_of before) (estimates_of before)) (sym (rw one at (column-put length_field 1 length_wide es fs old new i w o n e)))
 
   pub laid-put : laid_out mark (es ++ (new ∷ fs)) ≡ put_place (laid_out mark (es ++ (old ∷ fs))) i new
-  unfolding put_place put_figures estimate_field level_field
-  laid-put =
-      let one : i * 1 ≡ i = omega arith in
-      let none : 0 + i ≡ i = omega arith in
-      sym (rw (one, none) at (all-four mark (es ++ (old ∷ fs)) (es ++ (new ∷ fs)) put_whole put_count putting
-      (puts length_field 1 length_wide) (puts key_field 64 key_wide) (puts estimate_field 8 estimate_wide) (puts level_field 1 level_wide)))
+  unfolding put_place before after
+  laid-put = sym (rw (at_length, at_key) at-estimate)
 
-  -- where only the estimate and the level are others
+  -- where only the estimate is another
   pub laid-renewed : length_field new ≡ length_field old → key_field new ≡ key_field old
-      → laid_out mark (es ++ (new ∷ fs)) ≡ put_figures (laid_out mark (es ++ (old ∷ fs))) i new.estimate new.level
-  unfolding laid_out put_figures estimate_field level_field
+      → laid_out mark (es ++ (new ∷ fs)) ≡ put (laid_out mark (es ++ (old ∷ fs))) (estimates_at + i * 8) (estimate_field new)
+  unfolding before after laid_out
   laid-renewed p q =
-      let one : i * 1 ≡ i = omega arith in
-      let same =
-      ap₂ (λ (l k : List ℕ). putting level_field 1 levels_at (putting estimate_field 8 estimates_at (columns mark l k (estimates_of (es ++ (old ∷ fs))) (levels_of (es ++ (old ∷ fs))))))
-      (sym (column-same length_field 1 length_wide es fs old new p)) (sym (column-same key_field 64 key_wide es fs old new q)) in
-      sym (rw one at (same
-      ∙ figures mark (es ++ (old ∷ fs)) (es ++ (new ∷ fs)) put_whole put_count putting
-      (puts length_field 1 length_wide) (puts key_field 64 key_wide) (puts estimate_field 8 estimate_wide) (puts level_field 1 level_wide)))
+      sym (ap₂ (λ (l k : List ℕ). put (columns l mark k (estimates_of before)) (estimates_at + i * 8) (estimate_field new))
+      (sym (column-same length_field 1 length_wide es fs old new p)) (sym (column-same key_field 64 key_wide es fs old new q)) ∙ at-estimate)
 
 -- laid out, place i of n taken out and a free one, all 0, after those in use
 module _ (mark : ℕ) (es fs gs : List Entry) (old : Entry) (i n : ℕ) (w : AllWhole es) (v : AllWhole fs) (u : AllWhole gs) (o : Whole old) (e : length es ≡ i) (k : length es + suc (length fs) ≡ n) (all : n + length gs ≡ 64) where
-  out-whole : AllWhole (es ++ fs ++ (clear_place ∷ gs))
-  unfolding Each
+  full : List Entry
+  full = es ++ (old ∷ fs) ++ gs
+
+  out : List Entry
+  out = es ++ fs ++ (clear_place ∷ gs)
+
+  full-whole : AllWhole full
+  unfolding full Each
+  full-whole = each_append Whole (es ++ (old ∷ fs)) gs (each_append Whole es (old ∷ fs) w (o, v)) u
+
+  out-whole : AllWhole out
+  unfolding out Each
   out-whole = each_append Whole (es ++ fs) (clear_place ∷ gs) (each_append Whole es fs w v) (refl, u)
 
-  out-count : length (es ++ fs ++ (clear_place ∷ gs)) ≡ 64
-  out-count = omega (arith, length-append (es ++ fs) (clear_place ∷ gs), length-append es fs)
+  full-long : length full ≡ 64
+  unfolding full
+  full-long = omega (arith, length-append (es ++ (old ∷ fs)) gs, length-append es (old ∷ fs))
 
-  abbrev closing : Change
-  closing field width start list = closed list (start + i * width) (start + n * width) width
+  out-long : length out ≡ 64
+  unfolding out
+  out-long = omega (arith, length-append (es ++ fs) (clear_place ∷ gs), length-append es fs)
 
-  closes : (field : Entry → List ℕ) (width : ℕ) → ((x : Entry) → Whole x → length (field x) ≡ width) → field clear_place ≡ replicate width 0
-      → Takes closing (es ++ (old ∷ fs) ++ gs) (es ++ fs ++ (clear_place ∷ gs)) field width
-  closes field width wide z list front back start amid starts = column-closed field width wide list front back start amid starts es fs gs old clear_place i n w v o e k z
+  clear-length : length_field clear_place ≡ replicate 1 0
+  unfolding length_field
+  clear-length = refl
+
+  clear-key : key_field clear_place ≡ replicate 64 0
+  unfolding key_field
+  clear-key = refl
+
+  clear-estimate : estimate_field clear_place ≡ replicate 8 0
+  unfolding estimate_field bytes
+  clear-estimate = refl
+
+  no-estimate : closed (columns (lengths_of out) mark (keys_of out) (estimates_of full)) (estimates_at + i * 8) (estimates_at + n * 8) 8 ≡ laid_out mark out
+  unfolding full out laid_out
+  no-estimate =
+      in-estimates (lengths_of out) mark (keys_of out) (estimates_of full) (lengths_long out out-whole out-long) (keys_long out out-whole out-long) (closing 8) (closed_left 8) (closed_right 8) (i * 8) (n * 8)
+      ∙ ap (columns (lengths_of out) mark (keys_of out)) (sym (column-closed estimate_field 8 estimate_wide es fs gs old clear_place i n w v o e k clear-estimate))
+
+  no_key : closed (columns (lengths_of out) mark (keys_of full) (estimates_of full)) (keys_at + i * 64) (keys_at + n * 64) 64 ≡ columns (lengths_of out) mark (keys_of out) (estimates_of full)
+  unfolding full out
+  no_key =
+      in-keys (lengths_of out) mark (keys_of full) (estimates_of full) (lengths_long out out-whole out-long) (keys_long full full-whole full-long) (closing 64) (closed_left 64) (closed_right 64) (i * 64) (n * 64) (omega arith) (omega arith)
+      ∙ ap (λ (l : List ℕ). columns (lengths_of out) mark l (estimates_of full)) (sym (column-closed key_field 64 key_wide es fs gs old clear_place i n w v o e k clear-key))
+
+  no_length : closed (laid_out mark full) i n 1 ≡ columns (lengths_of out) mark (keys_of full) (estimates_of full)
+  unfolding full out laid_out
+  no_length =
+      let one : i * 1 ≡ i = omega arith in
+      let most : n * 1 ≡ n = omega arith in
+      in-lengths (lengths_of full) mark (keys_of full) (estimates_of full) (lengths_long full full-whole full-long) (keys_long full full-whole full-long) (closing 1) (closed_left 1) (closed_right 1) i n (omega arith) (omega arith)
+      ∙ ap (λ (l : List ℕ). columns l mark (keys_of full) (estimates_of full)) (sym (rw (one, most) at (column-closed length_field 1 length_wide es fs gs old clear_place i n w v o e k clear-length)))
 
   pub laid-closed : laid_out mark (es ++ fs ++ (clear_place ∷ gs)) ≡ closed_place (laid_out mark (es ++ (old ∷ fs) ++ gs)) i n
-  unfolding closed_place length_field key_field estimate_field level_field bytes
-  laid-closed =
-      let ones : (j : ℕ) → j * 1 ≡ j = λ j. omega arith in
-      let none : (j : ℕ) → 0 + j ≡ j = λ j. omega arith in
-      sym (rw (ones i, ones n, none i, none n) at (all-four mark (es ++ (old ∷ fs) ++ gs) (es ++ fs ++ (clear_place ∷ gs)) out-whole out-count closing
-      (closes length_field 1 length_wide refl) (closes key_field 64 key_wide refl) (closes estimate_field 8 estimate_wide refl) (closes level_field 1 level_wide refl)))
+  unfolding closed_place full out
+  laid-closed = sym (rw (no_length, no_key) no-estimate)

@@ -1,7 +1,7 @@
 -- Laws of entries in lists, and of a list's bytes: what is laid out is read back.
 use mathlib.Core.Path.{◌≡◌, refl, sym, ap, ◌∙◌}
 use mathlib.Core.Bool.{Bool, true, false, cond, ◌||◌, or_assoc, true≢false}
-use mathlib.Core.List.{List, [], ◌∷◌, ◌++◌, map, append_assoc}
+use mathlib.Core.List.{List, [], ◌∷◌, ◌++◌, map, append_assoc, append-nil}
 use Prim.Native.Nat.{ℕ, zero, suc, ◌+◌, ◌-◌, ◌*◌, ◌^◌, ◌≤◌, ◌<◌}
 use native.Mathlib.Nat.{suc-mul}
 use native.Mathlib.Omega.{arith}
@@ -13,8 +13,8 @@ use Rattle.little_endian.proofs.Bytes.{number_bytes, bytes_length}
 use Rattle.laws.proofs.Tests.{both_ways}
 use Rattle.meter_keys.specs.Keys.{same_key}
 use Rattle.meter_keys.proofs.Same.{same_key_lem, key_same}
-use Rattle.watch_list.specs.List.{Entry, Watch, listed, renewing, renewed, without, clear_place}
-use Rattle.watch_list.specs.Layout.{keys_at, estimates_at, levels_at, list_size, length_field, key_field, estimate_field, level_field, column, laid_out, encode, key_bytes, place_at, places_from, in_use, decode, all_zero, sound_lengths, sound_levels, sound}
+use Rattle.watch_list.specs.List.{Entry, Watch, listed, renewed, without, clear_place}
+use Rattle.watch_list.specs.Layout.{keys_at, estimates_at, list_size, length_field, key_field, estimate_field, column, laid_out, encode, key_bytes, place_at, places_from, in_use, decode, all_zero, sound_lengths, sound}
 
 -- something of each of some entries
 unfoldable pub Each : (Entry → Type 0) → List Entry → Type 0
@@ -57,22 +57,22 @@ by_test true P f g = f refl
 by_test false P f g = g refl
 
 -- Renewing changes the first entry that has the key, and leaves the keys.
-module _ (key : List ℕ) (estimate level : ℕ) where
+module _ (key : List ℕ) (estimate : ℕ) where
   pub renewed-cases : (e : Entry) (es : List Entry) (P : List Entry → Type 0)
-      → (same_key e.key key ≡ true → P (renewing e estimate level ∷ es))
-      → (same_key e.key key ≡ false → P (e ∷ renewed key estimate level es))
-      → P (renewed key estimate level (e ∷ es))
+      → (same_key e.key key ≡ true → P (record { key = e.key; unused = e.unused; estimate = estimate } ∷ es))
+      → (same_key e.key key ≡ false → P (e ∷ renewed key estimate es))
+      → P (renewed key estimate (e ∷ es))
   unfolding renewed
   renewed-cases e es P =
-      by_test (same_key e.key key) (λ b. P (cond b (renewing e estimate level ∷ es) (e ∷ renewed key estimate level es)))
+      by_test (same_key e.key key) (λ b. P (cond b (record { key = e.key; unused = e.unused; estimate = estimate } ∷ es) (e ∷ renewed key estimate es)))
 
-  pub renewed-keys : (es : List Entry) → keys_of (renewed key estimate level es) ≡ keys_of es
+  pub renewed-keys : (es : List Entry) → keys_of (renewed key estimate es) ≡ keys_of es
   unfolding renewed
   renewed-keys [] = refl
   renewed-keys (e ∷ es) = renewed-cases e es (λ now. keys_of now ≡ e.key ∷ keys_of es) (λ p. refl) (λ p. ap (λ (ks : List (List ℕ)). e.key ∷ ks) (renewed-keys es))
 
-  pub renewed-each : (P : Entry → Type 0) → ((e : Entry) → P e → P (renewing e estimate level))
-      → (es : List Entry) → Each P es → Each P (renewed key estimate level es)
+  pub renewed-each : (P : Entry → Type 0) → ((e : Entry) → P e → P (record { key = e.key; unused = e.unused; estimate = estimate }))
+      → (es : List Entry) → Each P es → Each P (renewed key estimate es)
   unfolding renewed Each
   renewed-each P f [] h = tt
   renewed-each P f (e ∷ es) h = renewed-cases e es (Each P) (λ p. (f e h.0, h.1)) (λ p. (h.0, renewed-each P f es h.1))
@@ -146,14 +146,6 @@ module _ (f : Entry → List ℕ) (m : ℕ) where
   column-length [] h = omega arith
   column-length (e ∷ ps) h = length-append (f e) (column f ps) ∙ omega (arith, h.0, column-length ps h.1, suc-mul (length ps) m)
 
--- a column of single bytes
-pub bytes_at : (f : Entry → List ℕ) (g : Entry → ℕ) → ((e : Entry) → f e ≡ g e ∷ []) → (ps : List Entry) (i : ℕ) (z : Entry) → i < length ps
-    → get_or (column f ps) i 0 ≡ g (get_or ps i z)
-unfolding column
-bytes_at f g one [] i z l = absurd (omega arith)
-bytes_at f g one (e ∷ ps) zero z l = rw (one e)
-bytes_at f g one (e ∷ ps) (suc i) z l = rw (one e) (bytes_at f g one ps i z (omega arith))
-
 -- a place that fits its bytes
 pub record Fits (e : Entry) : Type 0 where
   pub wide : length e.key + length e.unused ≡ 64
@@ -166,7 +158,7 @@ pub record WellFormed (watch : Watch) : Type 0 where
   pub used : Each (λ e. 1 ≤ length e.key) watch.entries
   pub unused : Each (λ e. length e.key ≡ 0) watch.free
 
--- the widths of the four columns
+-- the widths of the three columns
 module _ (ps : List Entry) (fit : Each Fits ps) where
   lengths-wide : Each (Wide length_field 1) ps
   unfolding length_field
@@ -180,10 +172,6 @@ module _ (ps : List Entry) (fit : Each Fits ps) where
   unfolding estimate_field
   estimates-wide = each_is Fits (Wide estimate_field 8) (λ e h. bytes_length 8 e.estimate) ps fit
 
-  levels-wide : Each (Wide level_field 1) ps
-  unfolding level_field
-  levels-wide = each_is Fits (Wide level_field 1) (λ e h. refl) ps fit
-
 -- Places of a list that is laid out.
 module _ (mark : ℕ) (ps : List Entry) (fit : Each Fits ps) (full : length ps ≡ 64) where
   lengths : List ℕ
@@ -195,68 +183,53 @@ module _ (mark : ℕ) (ps : List Entry) (fit : Each Fits ps) (full : length ps �
   estimates : List ℕ
   estimates = column estimate_field ps
 
-  levels : List ℕ
-  levels = column level_field ps
-
-  lengths-long : length lengths ≡ 64
+  lengths_long : length lengths ≡ 64
   unfolding lengths
-  lengths-long = omega (arith, column-length length_field 1 ps (lengths-wide ps fit))
+  lengths_long = omega (arith, column-length length_field 1 ps (lengths-wide ps fit))
 
   before-keys : length (lengths ++ (mark ∷ [])) ≡ keys_at
-  before-keys = length-append lengths (mark ∷ []) ∙ omega (arith, lengths-long)
+  before-keys = length-append lengths (mark ∷ []) ∙ omega (arith, lengths_long)
 
   before-estimates : length (lengths ++ (mark ∷ []) ++ keys) ≡ estimates_at
   unfolding keys
   before-estimates = length-append (lengths ++ (mark ∷ [])) keys ∙ omega (arith, before-keys, column-length key_field 64 ps (keys-wide ps fit))
 
-  before-levels : length (lengths ++ (mark ∷ []) ++ keys ++ estimates) ≡ levels_at
-  unfolding estimates
-  before-levels = length-append (lengths ++ (mark ∷ []) ++ keys) estimates ∙ omega (arith, before-estimates, column-length estimate_field 8 ps (estimates-wide ps fit))
-
-  mark-first : laid_out mark ps ≡ lengths ++ (mark ∷ (keys ++ estimates ++ levels))
-  unfolding laid_out lengths keys estimates levels
-  mark-first = simp append_assoc
+  mark-first : laid_out mark ps ≡ lengths ++ (mark ∷ (keys ++ estimates))
+  unfolding laid_out lengths keys estimates
+  mark-first = append_assoc (lengths ++ (mark ∷ [])) keys estimates ∙ append_assoc lengths (mark ∷ []) (keys ++ estimates)
 
   pub mark-at : get_or (laid_out mark ps) 64 0 ≡ mark
-  mark-at = rw mark-first (get_or_at lengths mark (keys ++ estimates ++ levels) 0 64 lengths-long)
+  mark-at = rw mark-first (get_or_at lengths mark (keys ++ estimates) 0 64 lengths_long)
 
   pub lengths-are : take 64 (laid_out mark ps) ≡ column length_field ps
   unfolding lengths
-  lengths-are = rw mark-first (take_at lengths (mark ∷ (keys ++ estimates ++ levels)) 64 lengths-long)
-
-  pub levels-are : drop levels_at (laid_out mark ps) ≡ column level_field ps
-  unfolding laid_out lengths keys estimates
-  levels-are = drop_at (lengths ++ (mark ∷ []) ++ keys ++ estimates) (column level_field ps) levels_at before-levels
+  lengths-are = rw mark-first (take_at lengths (mark ∷ (keys ++ estimates)) 64 lengths_long)
 
   module _ (i : ℕ) (z : Entry) (l : i < length ps) where
     there : Entry
     there = get_or ps i z
 
     length_at : get_or (laid_out mark ps) i 0 ≡ length there.key
-    unfolding there length_field
+    unfolding there lengths length_field
     length_at =
-        sym (get_or-take 64 (laid_out mark ps) i 0 (omega (arith, full)))
-        ∙ ap (λ (xs : List ℕ). get_or xs i 0) lengths-are
-        ∙ bytes_at length_field (λ e. length e.key) (λ e. refl) ps i z l
+        let xs = lengths ++ (mark ∷ (keys ++ estimates)) in
+        let f = field_at length_field 1 ps [] (mark ∷ (keys ++ estimates)) 0 i z (lengths-wide ps fit) refl l in
+        let j : i ≡ 0 + i * 1 + 0 = omega arith in
+        rw mark-first
+        (ap (λ (k : ℕ). get_or xs k 0) j
+        ∙ sym (get_or-drop (0 + i * 1) xs 0 0)
+        ∙ sym (get_or-take 1 (drop (0 + i * 1) xs) 0 0 (omega arith))
+        ∙ ap (λ (ys : List ℕ). get_or ys 0 0) f)
 
     key-at : key_bytes (laid_out mark ps) i ≡ there.key ++ there.unused
     unfolding laid_out there lengths keys estimates key_bytes key_field
-    key-at =
-        rw (append_assoc (lengths ++ (mark ∷ []) ++ keys) estimates (column level_field ps), append_assoc (lengths ++ (mark ∷ [])) keys (estimates ++ column level_field ps))
-        (field_at key_field 64 ps (lengths ++ (mark ∷ [])) (estimates ++ column level_field ps) keys_at i z (keys-wide ps fit) before-keys l)
+    key-at = rw (append_assoc (lengths ++ (mark ∷ [])) keys estimates) (field_at key_field 64 ps (lengths ++ (mark ∷ [])) estimates keys_at i z (keys-wide ps fit) before-keys l)
 
     estimate-at : take 8 (drop (estimates_at + i * 8) (laid_out mark ps)) ≡ bytes 8 there.estimate
     unfolding laid_out there lengths keys estimates estimate_field
     estimate-at =
-        rw (append_assoc (lengths ++ (mark ∷ []) ++ keys) estimates (column level_field ps))
-        (field_at estimate_field 8 ps (lengths ++ (mark ∷ []) ++ keys) (column level_field ps) estimates_at i z (estimates-wide ps fit) before-estimates l)
-
-    level-at : get_or (laid_out mark ps) (levels_at + i) 0 ≡ there.level
-    unfolding there level_field
-    level-at =
-        sym (get_or-drop levels_at (laid_out mark ps) i 0)
-        ∙ ap (λ (xs : List ℕ). get_or xs i 0) levels-are
-        ∙ bytes_at level_field (λ e. e.level) (λ e. refl) ps i z l
+        rw (← append-nil (column estimate_field ps))
+        (field_at estimate_field 8 ps (lengths ++ (mark ∷ []) ++ keys) [] estimates_at i z (estimates-wide ps fit) before-estimates l)
 
     place_at : place_at (laid_out mark ps) i ≡ get_or ps i z
     unfolding place_at there
@@ -267,7 +240,6 @@ module _ (mark : ℕ) (ps : List Entry) (fit : Each Fits ps) (full : length ps �
           key-at,
           length_at,
           estimate-at,
-          level-at,
           take_at e.key e.unused (length e.key) refl,
           drop_at e.key e.unused (length e.key) refl,
           number_bytes 8 e.estimate s,
@@ -322,22 +294,10 @@ module _ (watch : Watch) (good : WellFormed watch) where
       let a = column length_field places in
       let b = column key_field places in
       let c = column estimate_field places in
-      let d = column level_field places in
       let p = column-length length_field 1 places (lengths-wide places good.fit) in
       let q = column-length key_field 64 places (keys-wide places good.fit) in
       let r = column-length estimate_field 8 places (estimates-wide places good.fit) in
-      let t = column-length level_field 1 places (levels-wide places good.fit) in
-      rw (
-        length-append (a ++ (watch.mark ∷ []) ++ b ++ c) d,
-        length-append (a ++ (watch.mark ∷ []) ++ b) c,
-        length-append (a ++ (watch.mark ∷ [])) b,
-        length-append a (watch.mark ∷ []),
-        p,
-        q,
-        r,
-        t,
-        places-full,
-      )
+      rw (length-append (a ++ (watch.mark ∷ []) ++ b) c, length-append (a ++ (watch.mark ∷ [])) b, length-append a (watch.mark ∷ []), p, q, r, places-full)
 
   unused-sound : (fs : List Entry) → Each (λ e. length e.key ≡ 0) fs → all_zero (column length_field fs) ≡ true
   unfolding column length_field Each all_zero
@@ -355,28 +315,20 @@ module _ (watch : Watch) (good : WellFormed watch) where
       go zero p q i = absurd (omega arith)
       go (suc n) p q i = rw (le-leb (suc n) 64 q) i
 
-  levels_sound : (es fs : List Entry) → Each (λ e. e.level ≤ 3) es → sound_levels (length es) (column level_field (es ++ fs)) ≡ true
-  unfolding column level_field Each sound_levels
-  levels_sound [] fs h = refl
-  levels_sound (e ∷ es) fs h = rw (le-leb e.level 3 h.0) (levels_sound es fs h.1)
-
-  pub encode-sound : watch.mark ≤ 1 → Each (λ e. e.level ≤ 3) watch.entries → sound (encode watch) ≡ true
+  pub encode-sound : watch.mark ≤ 1 → sound (encode watch) ≡ true
   unfolding encode sound
-  encode-sound m h =
+  encode-sound m =
       rw (
         lengths-are watch.mark places good.fit places-full,
         mark-at watch.mark places good.fit places-full,
-        levels-are watch.mark places good.fit places-full,
         lengths-sound watch.entries watch.free good.used good.fit good.unused,
-        le-leb watch.mark 1 m,
-        used_are watch.entries watch.free good.used good.unused,
       )
-      (levels_sound watch.entries watch.free h)
+      (le-leb watch.mark 1 m)
 
 -- a cleared list: its bytes are all 0
 abbrev pub cleared : Watch
 cleared = record { mark = 0; entries = []; free = replicate 64 clear_place }
 
 pub cleared_bytes : encode cleared ≡ replicate list_size 0
-unfolding encode laid_out column length_field key_field estimate_field level_field bytes
+unfolding encode laid_out column length_field key_field estimate_field bytes
 cleared_bytes = refl

@@ -1,19 +1,20 @@
 -- The places of a list's bytes: laid out again they are the bytes.
-use mathlib.Core.Path.{◌≡◌, refl, sym, ap, ◌∙◌}
-use mathlib.Core.Bool.{true, true≢false, ◌&&◌, and-eq-true_iff}
-use mathlib.Core.List.{List, [], ◌∷◌, ◌++◌}
+use mathlib.Core.Path.{◌≡◌, refl, sym, ap, ap₂, ◌∙◌}
+use mathlib.Core.Bool.{true, true≢false, and-eq-true_iff}
+use mathlib.Core.List.{List, [], ◌∷◌, ◌++◌, append_assoc}
 use Prim.Native.Nat.{ℕ, zero, suc, ◌+◌, ◌-◌, ◌*◌, ◌≤◌, ◌<◌}
 use native.Mathlib.Nat.{suc-mul}
 use native.Mathlib.Omega.{arith}
 use borrow.Author.Tests.{leb-true}
 use lib.Dec.{leb}
-use lib.ListN.{length, get_or, take, drop, length-take, length-drop, take-append-drop}
+use lib.ListN.{length, get_or, take, drop, length-take, length-drop, take-append-drop, length-append}
 use lib.Seq.{take-suc, take-add, take_all, drop-drop, drop-cons, get_or-take}
 use Rattle.laws.proofs.Lists.{Bytes, bytes_take, bytes_drop}
-use Rattle.little_endian.specs.Bytes.{bytes}
+use Rattle.little_endian.specs.Bytes.{number, bytes}
 use Rattle.little_endian.proofs.Bytes.{bytes_number}
 use Rattle.watch_list.specs.List.{Entry}
-use Rattle.watch_list.specs.Layout.{keys_at, estimates_at, levels_at, list_size, length_field, key_field, estimate_field, level_field, column, laid_out, encode, key_bytes, place_at, places_from, in_use, decode, all_zero, sound_lengths, sound_levels, sound}
+use Rattle.watch_list.specs.Layout.{keys_at, estimates_at, list_size, length_field, key_field, estimate_field, column, laid_out, encode, key_bytes, place_at, places_from, in_use, decode, all_zero, sound_lengths, sound}
+use Rattle.watch_list.specs.Parts.{Holds}
 use Rattle.watch_list.proofs.Lists.{Each}
 use Rattle.watch_list.proofs.Columns.{Whole, AllWhole}
 
@@ -33,21 +34,6 @@ places_split xs (suc n) m k =
     let f : suc n + m ≡ suc (n + m) = omega arith in
     rw f
     (ap (λ (l : List Entry). place_at xs k ∷ l) (places_split xs n m (suc k) ∙ ap (λ (j : ℕ). places_from xs n (suc k) ++ places_from xs m j) e))
-
--- what is sound of a sound list
-pub record Sound (xs : List ℕ) : Type 0 where
-  pub lengths : sound_lengths (take 64 xs) ≡ true
-  pub mark : leb (get_or xs 64 0) 1 ≡ true
-  pub levels : sound_levels (in_use (take 64 xs)) (drop levels_at xs) ≡ true
-
-pub sound_parts : (xs : List ℕ) → sound xs ≡ true → Sound xs
-unfolding sound
-sound_parts xs good =
-    let lengths = sound_lengths (take 64 xs) in
-    let mark = leb (get_or xs 64 0) 1 in
-    let both = (and-eq-true_iff (lengths && mark) (sound_levels (in_use (take 64 xs)) (drop levels_at xs))).0 good in
-    let front = (and-eq-true_iff lengths mark).0 both.0 in
-    record { lengths = front.0; mark = front.1; levels = both.1 }
 
 -- sound lengths are at most 64, and no more are in use than there are
 zero_short : (ls : List ℕ) → all_zero ls ≡ true → (k : ℕ) → get_or ls k 0 ≤ 64
@@ -71,12 +57,10 @@ in_use_le [] = omega arith
 in_use_le (zero ∷ ls) = omega arith
 in_use_le (suc l ∷ ls) = omega (arith, in_use_le ls)
 
--- a list in five parts, the second of one element
-five_parts : (xs : List ℕ) (a b c d : ℕ) → length xs ≡ suc a + b + c + d
-    → take a xs ++ (get_or xs a 0 ∷ []) ++ take b (drop (suc a) xs) ++ take c (drop (suc a + b) xs) ++ take d (drop (suc a + b + c) xs) ≡ xs
-five_parts xs a b c d e =
-    rw (← take-suc xs a 0 (omega arith), ← take-add (suc a) b xs, ← take-add (suc a + b) c xs, ← take-add (suc a + b + c) d xs)
-    (take_all (suc a + b + c + d) xs (omega arith))
+-- a list in four parts, the second of one element
+four_parts : (xs : List ℕ) (a b c : ℕ) → length xs ≡ suc a + b + c → take a xs ++ (get_or xs a 0 ∷ []) ++ take b (drop (suc a) xs) ++ take c (drop (suc a + b) xs) ≡ xs
+four_parts xs a b c e =
+    rw (← take-suc xs a 0 (omega arith), ← take-add (suc a) b xs, ← take-add (suc a + b) c xs) (take_all (suc a + b + c) xs (omega arith))
 
 module _ (xs : List ℕ) (long : length xs ≡ list_size) where
   key-bytes-long : (k : ℕ) → k < 64 → length (key_bytes xs k) ≡ 64
@@ -113,8 +97,9 @@ module _ (xs : List ℕ) (long : length xs ≡ list_size) where
   in-use-most = omega (arith, in_use_le (take 64 xs), length-take 64 xs)
 
   pub length-short : sound xs ≡ true → (k : ℕ) → k < 64 → get_or xs k 0 ≤ 64
+  unfolding sound
   length-short good k h =
-      rw get_or-take at (sound_short (take 64 xs) (sound_parts xs good).lengths k)
+      rw get_or-take at (sound_short (take 64 xs) ((and-eq-true_iff (sound_lengths (take 64 xs)) (leb (get_or xs 64 0) 1)).0 good).0 k)
 
   module _ (small : Bytes xs) (good : sound xs ≡ true) where
     length_at : (k : ℕ) → k < 64 → length_field (place_at xs k) ≡ take 1 (drop (0 + k * 1) xs)
@@ -134,20 +119,13 @@ module _ (xs : List ℕ) (long : length xs ≡ list_size) where
         let e : length part ≡ 8 = omega (arith, length-take 8 (drop (estimates_at + k * 8) xs), length-drop (estimates_at + k * 8) xs) in
         rw e at (bytes_number part (bytes_take 8 (drop (estimates_at + k * 8) xs) (bytes_drop (estimates_at + k * 8) xs small)))
 
-    level-at : (k : ℕ) → k < 64 → level_field (place_at xs k) ≡ take 1 (drop (levels_at + k * 1) xs)
-    unfolding level_field place_at
-    level-at k h =
-        let e : k * 1 ≡ k = omega arith in
-        rw (e, drop-cons xs (levels_at + k) 0 (omega arith))
-
     pub laid-places : laid_out (get_or xs 64 0) (places_from xs 64 0) ≡ xs
     unfolding laid_out
     laid-places =
         let lengths : column length_field (places_from xs 64 0) ≡ take 64 xs = column-places length_field 1 0 length_at 64 0 (omega arith) in
         let keys : column key_field (places_from xs 64 0) ≡ take 4096 (drop 65 xs) = column-places key_field 64 keys_at key-at 64 0 (omega arith) in
         let estimates : column estimate_field (places_from xs 64 0) ≡ take 512 (drop 4161 xs) = column-places estimate_field 8 estimates_at estimate-at 64 0 (omega arith) in
-        let levels : column level_field (places_from xs 64 0) ≡ take 64 (drop 4673 xs) = column-places level_field 1 levels_at level-at 64 0 (omega arith) in
-        rw (lengths, keys, estimates, levels) (five_parts xs 64 4096 512 64 long)
+        rw (lengths, keys, estimates) (four_parts xs 64 4096 512 long)
 
     pub encode_decode : encode (decode xs) ≡ xs
     unfolding encode decode

@@ -1,23 +1,20 @@
--- How a watch list lies in lent bytes. Document 02, requests 1 and 5. Cited by contracts and theorems. 64 bytes with the key length of each
--- place, the mark, 64 keys of 64 bytes, 64 estimates of 8 bytes, lowest first, 64 bytes with the level of each place.
+-- How a watch list lies in lent bytes. Document 02, request 1. Cited by contracts and theorems. 64 bytes with the key length of each place,
+-- the mark, 64 keys of 64 bytes, 64 estimates of 8 bytes, lowest first.
 use Rattle.std.specs.Prelude.{ℕ, zero, suc, ◌+◌, ◌-◌, ◌*◌, Bool, true, false, ◌&&◌, List, [], ◌∷◌, ◌++◌, leb, length, get_or, take, drop}
 use Rattle.little_endian.specs.Bytes.{number, bytes}
 use Rattle.watch_list.specs.List.{Entry, Watch}
 
--- where the keys, the estimates and the levels start, and the bytes of a list
+-- where the keys and the estimates start, and the bytes of a list
 abbrev pub keys_at : ℕ
 keys_at = 65
 
 abbrev pub estimates_at : ℕ
 estimates_at = 4161
 
-abbrev pub levels_at : ℕ
-levels_at = 4673
-
 abbrev pub list_size : ℕ
-list_size = 4737
+list_size = 4673
 
--- what each entry has in the four columns, and a column
+-- what each entry has in the three columns, and a column
 unfoldable pub length_field : Entry → List ℕ
 length_field e = length e.key ∷ []
 
@@ -27,17 +24,13 @@ key_field e = e.key ++ e.unused
 unfoldable pub estimate_field : Entry → List ℕ
 estimate_field e = bytes 8 e.estimate
 
-unfoldable pub level_field : Entry → List ℕ
-level_field e = e.level ∷ []
-
 unfoldable pub column : (Entry → List ℕ) → List Entry → List ℕ
 column field [] = []
 column field (e ∷ es) = field e ++ column field es
 
 -- the bytes of a list
 unfoldable pub laid_out : ℕ → List Entry → List ℕ
-laid_out mark places =
-    column length_field places ++ (mark ∷ []) ++ column key_field places ++ column estimate_field places ++ column level_field places
+laid_out mark places = column length_field places ++ (mark ∷ []) ++ column key_field places ++ column estimate_field places
 
 unfoldable pub encode : Watch → List ℕ
 encode watch = laid_out watch.mark (watch.entries ++ watch.free)
@@ -48,12 +41,7 @@ key_bytes list k = take 64 (drop (keys_at + k * 64) list)
 
 unfoldable pub place_at : List ℕ → ℕ → Entry
 place_at list k =
-    record {
-      key = take (get_or list k 0) (key_bytes list k);
-      unused = drop (get_or list k 0) (key_bytes list k);
-      estimate = number (take 8 (drop (estimates_at + k * 8) list));
-      level = get_or list (levels_at + k) 0;
-    }
+    record { key = take (get_or list k 0) (key_bytes list k); unused = drop (get_or list k 0) (key_bytes list k); estimate = number (take 8 (drop (estimates_at + k * 8) list)) }
 
 unfoldable pub places_from : List ℕ → ℕ → ℕ → List Entry
 places_from list zero k = []
@@ -69,8 +57,7 @@ unfoldable pub decode : List ℕ → Watch
 decode list =
     record { mark = get_or list 64 0; entries = places_from list (in_use (take 64 list)) 0; free = places_from list (64 - in_use (take 64 list)) (in_use (take 64 list)) }
 
--- What breaks a list: a key length above 64, a length other than 0 after a 0, a mark above 1, a level above 3 of a place in use. Nothing
--- else does.
+-- What breaks a list: a key length above 64, a length other than 0 after a 0, a mark above 1. Nothing else does.
 unfoldable pub all_zero : List ℕ → Bool
 all_zero [] = true
 all_zero (zero ∷ bytes) = all_zero bytes
@@ -81,11 +68,5 @@ sound_lengths [] = true
 sound_lengths (zero ∷ lengths) = all_zero lengths
 sound_lengths (suc n ∷ lengths) = leb (suc n) 64 && sound_lengths lengths
 
--- the levels of the first n places
-unfoldable pub sound_levels : ℕ → List ℕ → Bool
-sound_levels zero levels = true
-sound_levels (suc n) [] = true
-sound_levels (suc n) (level ∷ levels) = leb level 3 && sound_levels n levels
-
 unfoldable pub sound : List ℕ → Bool
-sound list = sound_lengths (take 64 list) && leb (get_or list 64 0) 1 && sound_levels (in_use (take 64 list)) (drop levels_at list)
+sound list = sound_lengths (take 64 list) && leb (get_or list 64 0) 1

@@ -1,15 +1,13 @@
--- A watch list: keys in the order they joined, each with an estimate and its level, and a mark. Cited by contracts and theorems. Document
--- 02, requests 1 and 5.
+-- A watch list: keys in the order they joined, each with an estimate, and a mark. Document 02, request 1. Cited by contracts and theorems.
 use Rattle.std.specs.Prelude.{ℕ, ◌-◌, Bool, false, cond, ◌||◌, List, [], ◌∷◌, ◌++◌, leb, length, replicate}
 use Rattle.meter_keys.specs.Keys.{same_key}
 
--- An entry: a key of 1 to 64 bytes, and the estimate that it had at its last update accepted through the list, with the estimate's level.
--- It has a place of 64 bytes for its key; those past the key are unused and may hold anything.
+-- An entry: a key of 1 to 64 bytes, and the estimate that it had at its last update accepted through the list. It has a place of 64 bytes
+-- for its key; those past the key are unused and may hold anything.
 pub record Entry : Type 0 where
   pub key : List ℕ
   pub unused : List ℕ
   pub estimate : ℕ
-  pub level : ℕ
 
 -- A list: the mark, 0 or 1; the entries, in the order they joined; the free places, whose keys are empty. There are 64 places in all.
 pub record Watch : Type 0 where
@@ -23,27 +21,25 @@ listed key [] = false
 listed key (e ∷ es) = same_key e.key key || listed key es
 
 -- A key joins after all others, in the first free place, where its unused bytes are 0. Where no place is free the mark is set instead.
-abbrev pub joining : List ℕ → ℕ → ℕ → Entry
-joining key estimate level = record { key = key; unused = replicate (64 - length key) 0; estimate = estimate; level = level }
+abbrev pub joining : List ℕ → ℕ → Entry
+joining key estimate = record { key = key; unused = replicate (64 - length key) 0; estimate = estimate }
 
-unfoldable pub joined : List ℕ → ℕ → ℕ → ℕ → List Entry → List Entry → Watch
-joined key estimate level mark entries [] = record { mark = 1; entries = entries; free = [] }
-joined key estimate level mark entries (place ∷ places) = record { mark = mark; entries = entries ++ (joining key estimate level ∷ []); free = places }
+unfoldable pub joined : List ℕ → ℕ → ℕ → List Entry → List Entry → Watch
+joined key estimate mark entries [] = record { mark = 1; entries = entries; free = [] }
+joined key estimate mark entries (place ∷ places) = record { mark = mark; entries = entries ++ (joining key estimate ∷ []); free = places }
 
--- A listed key's estimate and level are renewed, at the first place that has the key.
-abbrev pub renewing : Entry → ℕ → ℕ → Entry
-renewing e estimate level = record { key = e.key; unused = e.unused; estimate = estimate; level = level }
+-- A listed key's estimate is renewed, at the first place that has the key.
+unfoldable pub renewed : List ℕ → ℕ → List Entry → List Entry
+renewed key estimate [] = []
+renewed key estimate (e ∷ es) =
+    cond (same_key e.key key) (record { key = e.key; unused = e.unused; estimate = estimate } ∷ es) (e ∷ renewed key estimate es)
 
-unfoldable pub renewed : List ℕ → ℕ → ℕ → List Entry → List Entry
-renewed key estimate level [] = []
-renewed key estimate level (e ∷ es) = cond (same_key e.key key) (renewing e estimate level ∷ es) (e ∷ renewed key estimate level es)
-
--- What an accepted update of a key leaves, by the estimate after it and its level: a listed key is renewed; one that is not listed joins
--- exactly when the estimate is at or above the threshold.
-unfoldable pub noted : List ℕ → ℕ → ℕ → ℕ → Watch → Watch
-noted key estimate level threshold watch =
-    cond (listed key watch.entries) (record { mark = watch.mark; entries = renewed key estimate level watch.entries; free = watch.free })
-    (cond (leb threshold estimate) (joined key estimate level watch.mark watch.entries watch.free) watch)
+-- What an accepted update of a key leaves, by the estimate after it: a listed key is renewed; one that is not listed joins exactly when
+-- the estimate is at or above the threshold.
+unfoldable pub noted : List ℕ → ℕ → ℕ → Watch → Watch
+noted key estimate threshold watch =
+    cond (listed key watch.entries) (record { mark = watch.mark; entries = renewed key estimate watch.entries; free = watch.free })
+    (cond (leb threshold estimate) (joined key estimate watch.mark watch.entries watch.free) watch)
 
 -- Taking a key off: the entries after the first place that has it move up by one, and the last place in use becomes free, all 0. A key
 -- that is not listed changes nothing.
@@ -52,7 +48,7 @@ without key [] = []
 without key (e ∷ es) = cond (same_key e.key key) es (e ∷ without key es)
 
 abbrev pub clear_place : Entry
-clear_place = record { key = []; unused = replicate 64 0; estimate = 0; level = 0 }
+clear_place = record { key = []; unused = replicate 64 0; estimate = 0 }
 
 unfoldable pub taken_off : List ℕ → Watch → Watch
 taken_off key watch =

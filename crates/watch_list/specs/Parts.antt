@@ -1,9 +1,8 @@
 -- What is looked for in a list's bytes, and changes of them in place. The code's own terms.
 use Rattle.std.specs.Prelude.{ℕ, suc, ◌+◌, ◌*◌, ◌≤◌, ◌≡◌, true, cond, List, [], ◌∷◌, ◌++◌, length, take, drop, replicate}
-use Rattle.little_endian.specs.Bytes.{bytes}
 use Rattle.meter_keys.specs.Keys.{same_key}
 use Rattle.watch_list.specs.List.{Entry}
-use Rattle.watch_list.specs.Layout.{keys_at, estimates_at, levels_at, list_size, length_field, key_field, in_use, sound}
+use Rattle.watch_list.specs.Layout.{keys_at, estimates_at, list_size, length_field, key_field, estimate_field, in_use, sound}
 
 -- a sound list's bytes, n places of which are in use, and a key of a valid length
 pub record Holds (list : List ℕ) (n : ℕ) : Type 0 where
@@ -27,13 +26,9 @@ put xs at ys = take at xs ++ ys ++ drop (at + length ys) xs
 unfoldable pub closed : List ℕ → ℕ → ℕ → ℕ → List ℕ
 closed xs at end width = take at xs ++ drop (at + width) (take end xs) ++ replicate width 0 ++ drop end xs
 
--- an estimate and its level put in place i, an entry put there, and place i of n taken out, in the columns
-unfoldable pub put_figures : List ℕ → ℕ → ℕ → ℕ → List ℕ
-put_figures list i estimate level = put (put list (estimates_at + i * 8) (bytes 8 estimate)) (levels_at + i) (level ∷ [])
-
+-- an entry put in place i, and place i of n taken out, in the three columns
 unfoldable pub put_place : List ℕ → ℕ → Entry → List ℕ
-put_place list i e = put_figures (put (put list i (length_field e)) (keys_at + i * 64) (key_field e)) i e.estimate e.level
+put_place list i e = put (put (put list i (length_field e)) (keys_at + i * 64) (key_field e)) (estimates_at + i * 8) (estimate_field e)
 
 unfoldable pub closed_place : List ℕ → ℕ → ℕ → List ℕ
-closed_place list i n =
-    closed (closed (closed (closed list i n 1) (keys_at + i * 64) (keys_at + n * 64) 64) (estimates_at + i * 8) (estimates_at + n * 8) 8) (levels_at + i) (levels_at + n) 1
+closed_place list i n = closed (closed (closed list i n 1) (keys_at + i * 64) (keys_at + n * 64) 64) (estimates_at + i * 8) (estimates_at + n * 8) 8

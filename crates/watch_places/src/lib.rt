@@ -2,7 +2,7 @@
 ghost use Rattle.std.specs.Prelude.{◌≡◌, ◌++◌, ◌+◌, ◌-◌, ◌<◌, ◌≤◌, length, get_or, replicate};
 ghost use Rattle.watch_list.specs.List.{joining, noted, taken_off};
 ghost use Rattle.watch_list.specs.Layout.{list_size, encode, decode};
-ghost use Rattle.watch_list.specs.Parts.{Holds, KeyLong, put, closed, put_figures, put_place, closed_place};
+ghost use Rattle.watch_list.specs.Parts.{Holds, KeyLong, put, closed, put_place, closed_place};
 
 use little_endian::bytes_of;
 use meter_memory::put_eight;
@@ -26,28 +26,16 @@ fn put_key(list: &mut [u8], at: usize, key: &[u8])
     }
 }
 
-// An estimate and its level put in place i.
-fn put_figures(list: &mut [u8], i: usize, estimate: u64, level: u32)
-    requires fact_1 { length list.old ≡ list_size }
-    requires fact_2 { i < 64 }
-    requires fact_3 { level ≤ 3 }
-    ensures { list.new ≡ put_figures list.old i estimate level }
-{
-    put_eight(list, 4161 + i * 8, bytes_of(estimate));
-    list[4673 + i] = level as u8;
-}
-
 // A key joins at place n.
-fn join(list: &mut [u8], n: usize, key: &[u8], estimate: u64, level: u32)
+fn join(list: &mut [u8], n: usize, key: &[u8], estimate: u64)
     requires fact_1 { length list.old ≡ list_size }
     requires fact_2 { n < 64 }
     requires fact_3 { length key.now ≤ 64 }
-    requires fact_4 { level ≤ 3 }
-    ensures { list.new ≡ put_place list.old n (joining key.now estimate level) }
+    ensures { list.new ≡ put_place list.old n (joining key.now estimate) }
 {
     list[n] = key.len() as u8;
     put_key(list, 65 + n * 64, key);
-    put_figures(list, n, estimate, level);
+    put_eight(list, 4161 + n * 8, bytes_of(estimate));
 }
 
 // A part of `width` bytes taken out: what follows it up to `end` moves up, and zeros come before `end`.
@@ -71,19 +59,17 @@ fn remove(list: &mut [u8], i: usize, n: usize)
     close(list, i, n, 1);
     close(list, 65 + i * 64, 65 + n * 64, 64);
     close(list, 4161 + i * 8, 4161 + n * 8, 8);
-    close(list, 4673 + i, 4673 + n, 1);
 }
 
-// An accepted update of a key, by the estimate that it left and its level.
-pub fn note(list: &mut [u8], n: usize, key: &[u8], estimate: u64, level: u32, threshold: u64)
+// An accepted update of a key, by the estimate that it left.
+pub fn note(list: &mut [u8], n: usize, key: &[u8], estimate: u64, threshold: u64)
     requires fact_1 { Holds list.old n }
     requires fact_2 { KeyLong key.now }
-    requires fact_3 { level ≤ 3 }
-    ensures { list.new ≡ encode (noted key.now estimate level threshold (decode list.old)) }
+    ensures { list.new ≡ encode (noted key.now estimate threshold (decode list.old)) }
 {
     let i = find(list, n, key);
     if i < n {
-        put_figures(list, i, estimate, level);
+        put_eight(list, 4161 + i * 8, bytes_of(estimate));
         return;
     }
     if estimate < threshold {
@@ -93,7 +79,7 @@ pub fn note(list: &mut [u8], n: usize, key: &[u8], estimate: u64, level: u32, th
         list[64] = 1;
         return;
     }
-    join(list, n, key, estimate, level);
+    join(list, n, key, estimate);
 }
 
 // A key taken off.

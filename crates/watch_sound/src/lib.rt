@@ -1,16 +1,16 @@
 // Whether a watch list's bytes are sound, and how many of its places are in use.
 ghost use Rattle.std.specs.Prelude.{◌≡◌, ◌<◌, ◌≤◌, length, take};
 ghost use Rattle.watch_list.specs.Layout.{list_size, sound};
-ghost use Rattle.watch_sound.specs.Bounds.{bound_at, above_at, over_bounds, too_long};
+ghost use Rattle.watch_sound.specs.Lengths.{longest_key, above_at, too_long};
 
-// The bound of place k if n places are in use: one for these, another for those that are free. Tested by a sum: of `k < n` the compiler
-// makes tests of wider numbers than bytes, which takes twice the instructions.
-fn bound_at(k: u8, n: u8, used: u8, free: u8) -> u8
+// The longest key that place k may have if n places are in use: 64 bytes in one of these, none in another. Tested by a sum: of `k < n` the
+// compiler makes tests of wider numbers than bytes, which takes twice the instructions.
+fn longest_key(k: u8, n: u8) -> u8
     requires fact_1 { k < 64 }
     requires fact_2 { n ≤ 64 }
-    ensures { result ≡ bound_at used free k n }
+    ensures { result ≡ longest_key k n }
 {
-    if k + (128 - n) < 128 { used } else { free }
+    if k + (128 - n) < 128 { 64 } else { 0 }
 }
 
 // Whether a byte is above a bound: 1 or 0.
@@ -20,16 +20,15 @@ fn above(byte: u8, bound: u8) -> u8
     if bound < byte { 1 } else { 0 }
 }
 
-// How many of 64 bytes, one of each place, are above their bounds if n places are in use. Without a branch, so that the compiler takes many
-// at once.
-fn over_bounds(bytes: &[u8], n: u8, used: u8, free: u8) -> u8
-    requires fact_1 { length bytes.now ≡ 64 }
+// How many of 64 keys are too long if n places are in use. Without a branch, so that the compiler takes many at once.
+fn too_long(lengths: &[u8], n: u8) -> u8
+    requires fact_1 { length lengths.now ≡ 64 }
     requires fact_2 { n ≤ 64 }
-    ensures { (result ≡ over_bounds used free n bytes.now) × (result ≤ 64) }
+    ensures { (result ≡ too_long n lengths.now) × (result ≤ 64) }
 {
     let mut count = 0u8;
     for k in 0..64 {
-        count = count + above(bytes[k], bound_at(k as u8, n, used, free));
+        count = count + above(lengths[k], longest_key(k as u8, n));
     }
     count
 }
@@ -41,17 +40,14 @@ pub struct Usage {
     pub places: usize,
 }
 
-// Reads a list's key lengths, mark and levels. A place with a key is one whose key is too long for a free place; the level of a free place
-// may be any byte.
+// Reads a list's key lengths and mark. A place with a key is one whose key is too long for a free place.
 pub fn usage_of(list: &[u8]) -> Usage
     requires { length list.now ≡ list_size }
     ensures sound_value { result.sound ≡ sound list.now }
     ensures places_value { result.places ≡ too_long 0 (take 64 list.now) }
 {
-    let n = over_bounds(&list[0..64], 0, 64, 0);
-    let lengths = over_bounds(&list[0..64], n, 64, 0);
-    let levels = over_bounds(&list[4673..4737], n, 3, 255);
-    let over = lengths + above(list[64], 1) + levels;
+    let n = too_long(&list[0..64], 0);
+    let over = too_long(&list[0..64], n) + above(list[64], 1);
     Usage {
         sound: over == 0,
         places: n as usize,

@@ -1,6 +1,6 @@
 //! The meters that the proved ones are compared with: the same rules in plain C, and a Count-Min with counters of 64 bits.
 
-use meter::{Answer, Reading};
+use meter::Answer;
 
 mod ffi {
     extern "C" {
@@ -25,8 +25,6 @@ mod ffi {
             key_len: usize,
             place: *mut u64,
             figure: *mut u64,
-            level: *mut u32,
-            row: *mut u32,
         ) -> u32;
         pub fn salsa_unite(
             d: usize,
@@ -68,8 +66,6 @@ mod ffi {
             words_len: usize,
             place: *mut u64,
             figure: *mut u64,
-            level: *mut u32,
-            row: *mut u32,
         ) -> u32;
         pub fn salsa_signed_clear(
             d: usize,
@@ -135,21 +131,10 @@ fn call<F: Default>(f: impl FnOnce(*mut u64, *mut F) -> u32) -> Answer<F> {
     Answer { number, place, figure }
 }
 
-#[inline]
-fn call_reading(f: impl FnOnce(*mut u64, *mut u64, *mut u32, *mut u32) -> u32) -> Answer<Reading> {
-    let (mut place, mut reading) = (0, Reading::default());
-    let number = f(&mut place, &mut reading.figure, &mut reading.level, &mut reading.row);
-    Answer {
-        number,
-        place,
-        figure: reading,
-    }
-}
-
 /// The same rules in plain C, in the shape of the proved calls.
 pub mod plain {
-    use super::{call, call_reading, ffi};
-    use meter::{Answer, Reading};
+    use super::{call, ffi};
+    use meter::Answer;
 
     pub fn clear(d: usize, w: usize, memory: &mut [u8]) -> Answer {
         call(|p, f| unsafe { ffi::salsa_clear(d, w, memory.as_mut_ptr(), memory.len(), p, f) })
@@ -161,10 +146,8 @@ pub mod plain {
     }
 
     #[inline]
-    pub fn estimate(d: usize, w: usize, memory: &[u8], key: &[u8]) -> Answer<Reading> {
-        call_reading(|p, f, level, row| unsafe {
-            ffi::salsa_estimate(d, w, memory.as_ptr(), memory.len(), key.as_ptr(), key.len(), p, f, level, row)
-        })
+    pub fn estimate(d: usize, w: usize, memory: &[u8], key: &[u8]) -> Answer {
+        call(|p, f| unsafe { ffi::salsa_estimate(d, w, memory.as_ptr(), memory.len(), key.as_ptr(), key.len(), p, f) })
     }
 
     pub fn unite(d: usize, w: usize, memory: &mut [u8], source: &[u8]) -> Answer {
@@ -180,8 +163,8 @@ pub mod plain {
     }
 
     #[inline]
-    pub fn feed_record(d: usize, w: usize, memory: &mut [u8], before: u64, words: &[u32]) -> Answer<Reading> {
-        call_reading(|p, f, level, row| unsafe {
+    pub fn feed_record(d: usize, w: usize, memory: &mut [u8], before: u64, words: &[u32]) -> Answer {
+        call(|p, f| unsafe {
             ffi::salsa_feed_record(
                 d,
                 w,
@@ -192,8 +175,6 @@ pub mod plain {
                 words.len(),
                 p,
                 f,
-                level,
-                row,
             )
         })
     }

@@ -163,10 +163,10 @@ fn keyed() {
                     updates.push((name.clone(), times));
 
                     for (key, _) in calls.each() {
-                        let answer = meter::estimate(d, w, &a, key);
-                        assert_eq!(answer, plain::estimate(d, w, &b, key), "{name}: estimates");
+                        let figure = meter::estimate(d, w, &a, key);
+                        assert_eq!(figure, plain::estimate(d, w, &b, key), "{name}: estimates");
                         assert!(
-                            answer.number == 0 && answer.figure.figure >= c.estimate(key),
+                            figure.number == 0 && figure.figure >= c.estimate(key),
                             "{name}: Count-Min's estimate"
                         );
                     }

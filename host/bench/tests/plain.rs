@@ -5,8 +5,7 @@ mod common;
 
 use bench::plain;
 use common::{
-    amount, answered, key, lend_bytes, lend_words, memory, record, seed, signed_amount, signed_memory, some_image, Lent, Numbers,
-    Rng,
+    amount, key, lend_bytes, lend_words, memory, record, seed, signed_amount, signed_memory, some_image, Lent, Numbers, Rng,
 };
 use reference::Memory;
 
@@ -40,12 +39,7 @@ fn plain_c_follows_the_paper() {
         let mut model = Memory::new(&bytes);
 
         let a = plain::estimate(d, w, c.get(), &key);
-        same(
-            "estimate",
-            answered(a),
-            reference::estimate(d, w, &mut model, &key),
-            &mut given,
-        );
+        same("estimate", a, reference::estimate(d, w, &mut model, &key), &mut given);
         let a = plain::update(d, w, c.get_mut(), &key, amount);
         same("update", a, reference::update(d, w, &mut model, &key, amount), &mut given);
         compare("update", &c, &model);
@@ -54,7 +48,7 @@ fn plain_c_follows_the_paper() {
         let a = plain::feed_record(d, w, c.get_mut(), 3, &words);
         same(
             "feed_record",
-            answered(a),
+            a,
             reference::feed_record(d, w, &mut model, 3, &words).0,
             &mut given,
         );

@@ -5,22 +5,17 @@ use crate::files::{self, Output, Progress};
 use crate::image;
 use crate::text;
 use crate::words::Key;
-use meter::Reading;
 use std::collections::HashSet;
 use std::ffi::OsString;
 use std::net::IpAddr;
 use std::os::unix::ffi::OsStrExt;
 
 pub const HELP: &str = "\
-Says what a meter's image has counted for keys: a line for each, the key, its
-figure, the number of slots that share the figure and the row that they are in.
+Says what a meter's image has counted for keys: a line for each, the key and its
+figure. A figure is never below what was counted for the key.
 
-usage: meter ask IMAGE KEY.. [--top N] [--ip] [--json]
-       meter ask IMAGE [KEY..] --keys FILE [--top N] [--ip] [--json]
-
-A figure is never below what was counted for the key: it is all that was counted
-in these slots of that row, which are 1, 2, 4 or 8. So the fewer there are, the
-less of it is other keys'. Of rows with the same figure the first is told.
+usage: meter ask IMAGE KEY.. [--top N] [--ip]
+       meter ask IMAGE [KEY..] --keys FILE [--top N] [--ip]
 
 A key is 1 to 64 bytes without blanks, or 0x and hexadecimal digits for any
 bytes. Keys that start with - come after --. IMAGE or FILE may be -, standard
@@ -32,7 +27,6 @@ input.
                 once; equal figures in the order given
   --ip          keys are IP addresses, as 192.0.2.17, 2001:db8::1 or in
                 hexadecimal digits: those of meter feed --key src|dst
-  --json        each line as JSON: key, figure, slots, row
 ";
 
 /// A key and what it was called.
@@ -83,24 +77,8 @@ fn address_of(bytes: &[u8]) -> Option<IpAddr> {
     four.or_else(|_| <[u8; 16]>::try_from(bytes).map(IpAddr::from)).ok()
 }
 
-/// A key's line.
-fn line(name: &str, reading: &Reading) -> String {
-    format!("{name} {} {} {}\n", reading.figure, reading.slots(), reading.row)
-}
-
-/// The same as JSON. Of what a name has only two characters need an escape.
-fn json(name: &str, reading: &Reading) -> String {
-    let name = name.replace('\\', "\\\\").replace('"', "\\\"");
-    format!(
-        "{{\"key\":\"{name}\",\"figure\":{},\"slots\":{},\"row\":{}}}\n",
-        reading.figure,
-        reading.slots(),
-        reading.row
-    )
-}
-
 pub fn run(given: &[OsString]) -> Outcome {
-    let arguments = Arguments::parse(given, &[("--keys", 1), ("--top", 1), ("--ip", 0), ("--json", 0)])?;
+    let arguments = Arguments::parse(given, &[("--keys", 1), ("--top", 1), ("--ip", 0)])?;
     let Some((file, parts)) = arguments.rest.split_first() else {
         return usage("an image is missing");
     };
@@ -138,25 +116,24 @@ pub fn run(given: &[OsString]) -> Outcome {
             }
         }
     }
-    let mut readings = Vec::with_capacity(asked.len());
+    let mut figures = Vec::with_capacity(asked.len());
     let mut known = HashSet::new();
     for (n, one) in asked.iter().enumerate() {
         progress.at(n as u64, Some(asked.len() as u64), "keys");
         if top.is_some() && !known.insert(one.key.bytes()) {
             continue;
         }
-        readings.push((image::expect(meter.reading(one.key.bytes()))?, &one.name));
+        figures.push((image::expect(meter.estimate(one.key.bytes()))?, &one.name));
     }
     if let Some(top) = top {
         // equal figures stay in order
-        readings.sort_by_key(|(reading, _)| std::cmp::Reverse(reading.figure));
-        readings.truncate(top);
+        figures.sort_by_key(|(figure, _)| std::cmp::Reverse(*figure));
+        figures.truncate(top);
     }
     drop(progress);
-    let shape = if arguments.has("--json") { json } else { line };
     let mut output = Output::standard()?;
-    for (reading, name) in &readings {
-        output.put(shape(name, reading).as_bytes())?;
+    for (figure, name) in figures {
+        output.put(format!("{name} {figure}\n").as_bytes())?;
     }
     output.flush()
 }

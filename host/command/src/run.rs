@@ -3,7 +3,7 @@
 use crate::cli::{refused, usage, Arguments, Failure, Outcome};
 use crate::files::{Input, Output, Progress};
 use crate::words::{self, END, LONGEST_RECORD};
-use meter::{feed_taken, Meter, Reading, Reason, Refused};
+use meter::{feed_taken, Meter, Reason, Refused};
 use std::ffi::OsString;
 use std::io::Read;
 
@@ -18,8 +18,7 @@ words of its record are there, so that a feed can be a live pipe:
 
     geometry D W       the head
     updated            an update
-    estimate F L R     what was asked for: the figure, and level (0 to 3) and
-                       row of the counter that has it
+    estimate FIGURE    what was asked for
     refused 6          an update that would make a counter of 64 bits overflow;
                        the feed goes on
     end RECORDS        the end
@@ -169,7 +168,7 @@ impl Run {
         match answer {
             Ok(_) if ends => self.output.put(format!("end {}\n", self.records).as_bytes())?,
             Ok(_) if room[0] >> 28 == words::UPDATE => self.output.put(b"updated\n")?,
-            Ok(Reading { figure, level, row }) => self.output.put(format!("estimate {figure} {level} {row}\n").as_bytes())?,
+            Ok(figure) => self.output.put(format!("estimate {figure}\n").as_bytes())?,
             Err(r) if r.reason == Reason::CounterFull => {
                 self.clean = false;
                 self.output.put(b"refused 6\n")?;
@@ -254,7 +253,7 @@ mod tests {
         let lines = fs::read_to_string(folder.join("lines")).unwrap();
         assert_eq!(
             lines,
-            format!("geometry 1 32\nrefused 6\nupdated\nestimate {} 3 0\nend 3\n", u64::MAX)
+            format!("geometry 1 32\nrefused 6\nupdated\nestimate {}\nend 3\n", u64::MAX)
         );
         fs::remove_dir_all(&folder).unwrap();
     }

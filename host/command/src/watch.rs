@@ -12,8 +12,7 @@ use std::os::unix::ffi::OsStrExt;
 
 pub const HELP: &str = "\
 Runs a feed into a clear meter and lists the keys that got heavy: up to 64, each
-with the estimate that its last update left and the number of slots, 1, 2, 4 or
-8, that shared it.
+with the estimate that its last update left.
 
 usage: meter watch [FEED] --threshold N [--sort] [--ip]
        meter watch --text [TEXT] --threshold N [--sort] [--ip]
@@ -65,10 +64,10 @@ fn table(list: &WatchList, threshold: u64, sort: bool, ip: bool) -> String {
     if !entries.is_empty() {
         let digits = list.iter().map(|entry| entry.estimate.to_string().len()).max();
         let width = digits.unwrap_or(0).max("estimate".len());
-        text.push_str(&format!("joined  {:>width$}  slots  key\n", "estimate"));
+        text.push_str(&format!("joined  {:>width$}  key\n", "estimate"));
         for (place, entry) in &entries {
-            let (joined, slots, name) = (place + 1, entry.slots(), show(entry.key, ip));
-            text.push_str(&format!("{joined:>6}  {:>width$}  {slots:>5}  {name}\n", entry.estimate));
+            let (joined, name) = (place + 1, show(entry.key, ip));
+            text.push_str(&format!("{joined:>6}  {:>width$}  {name}\n", entry.estimate));
         }
         text.push('\n');
     }
@@ -154,7 +153,7 @@ mod tests {
         assert_eq!(
             table(&list, 7, false, false),
             format!(
-                "joined  {:>20}  slots  key\n     1  {}      8  B\n\n1 key of 7 or more; none is left out\n",
+                "joined  {:>20}  key\n     1  {}  B\n\n1 key of 7 or more; none is left out\n",
                 "estimate",
                 u64::MAX
             )

@@ -257,7 +257,7 @@ fn geometry_asking_and_lists() {
     );
     assert_eq!(
         text(&good(&["run"], &feed)),
-        "geometry 2 64\nupdated\nupdated\nupdated\nestimate 300 1 0\nestimate 70 0 0\nend 5\n"
+        "geometry 2 64\nupdated\nupdated\nupdated\nestimate 300\nestimate 70\nend 5\n"
     );
     let list = good(&with(&["--list"]), &capture);
     assert_eq!(text(&list), format!("0x0a000001\n{six}\n"));
@@ -268,11 +268,11 @@ fn geometry_asking_and_lists() {
     good(&["run", "-o", &image], &feed);
     assert_eq!(
         text(&good(&["ask", &image, "--ip", "--keys", &keys, "--top", "9"], b"")),
-        "10.0.0.1 300 2 0\n2001:db8::1 70 1 0\n"
+        "10.0.0.1 300\n2001:db8::1 70\n"
     );
     assert_eq!(
         text(&good(&["ask", &image, "--ip", "10.0.0.1", "2001:db8::1"], b"")),
-        "10.0.0.1 300 2 0\n2001:db8::1 70 1 0\n"
+        "10.0.0.1 300\n2001:db8::1 70\n"
     );
 
     // an address whose bytes are letters stays an address
@@ -282,7 +282,7 @@ fn geometry_asking_and_lists() {
     assert_eq!(text(&good(&with(&["--list"]), &capture)), "0x41424344\n");
     good(&["run", "-o", &image], &good(&from, &capture));
     let asked = good(&["ask", &image, "--ip", "--keys", "-"], b"0x41424344\n65.66.67.68\n");
-    assert_eq!(text(&asked), "65.66.67.68 64 1 0\n65.66.67.68 64 1 0\n");
+    assert_eq!(text(&asked), "65.66.67.68 64\n65.66.67.68 64\n");
 }
 
 #[test]

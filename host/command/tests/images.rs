@@ -4,7 +4,7 @@ mod common;
 #[path = "../../tests/common/wide_image.rs"]
 mod wide_image;
 
-use common::{bad, good, meter, named, text, to_bytes, to_words, Folder, Rng};
+use common::{bad, good, meter, text, to_bytes, to_words, Folder, Rng};
 use meter::{Meter, LARGEST_WIDTH};
 use std::fs;
 
@@ -266,16 +266,16 @@ fn figures() {
     let file = folder.put("image", &image(&one));
     assert_eq!(
         text(&good(&["ask", &file, "d", "0X00ff", "nobody", "0x61"], b"")),
-        "d 5 1 0\n0x00ff 300 2 0\nnobody 0 1 0\na 70000 4 0\n"
+        "d 5\n0x00ff 300\nnobody 0\na 70000\n"
     );
-    assert_eq!(text(&good(&["ask", "-", "a"], &image(&one))), "a 70000 4 0\n");
-    assert_eq!(text(&good(&["ask", &file, "--", "-x", "a"], b"")), "-x 0 1 0\na 70000 4 0\n");
+    assert_eq!(text(&good(&["ask", "-", "a"], &image(&one))), "a 70000\n");
+    assert_eq!(text(&good(&["ask", &file, "--", "-x", "a"], b"")), "-x 0\na 70000\n");
 
     // equal figures stay in order, and each key comes once
     let keys = folder.put("keys", b"# tenants\r\n\r\nd\r\nb\r\nc\r\n  a \r\n0x62\r\n0x00ff");
-    let all = "d 5 1 0\nb 70 1 0\nc 70 1 0\na 70000 4 0\nb 70 1 0\n0x00ff 300 2 0\n";
+    let all = "d 5\nb 70\nc 70\na 70000\nb 70\n0x00ff 300\n";
     assert_eq!(text(&good(&["ask", &file, "--keys", &keys], b"")), all);
-    let top = ["a 70000 4 0\n", "0x00ff 300 2 0\n", "b 70 1 0\n", "c 70 1 0\n", "d 5 1 0\n"];
+    let top = ["a 70000\n", "0x00ff 300\n", "b 70\n", "c 70\n", "d 5\n"];
     for n in 0..8 {
         let expected = top[..n.min(5)].concat();
         assert_eq!(
@@ -285,17 +285,13 @@ fn figures() {
     }
     assert_eq!(
         text(&good(&["ask", &file, "c", "--keys", "-", "--top=1"], b"b\nd\n")),
-        "c 70 1 0\n"
-    );
-    assert_eq!(
-        text(&good(&["ask", &file, "--keys", &keys, "--top", "2", "--json"], b"")),
-        "{\"key\":\"a\",\"figure\":70000,\"slots\":4,\"row\":0}\n{\"key\":\"0x00ff\",\"figure\":300,\"slots\":2,\"row\":0}\n"
+        "c 70\n"
     );
 
     // only blanks are no part of a key
     assert_eq!(
         text(&good(&["ask", &file, "--keys", "-"], b"\ta\t \na\x0c\n\ra\r\n")),
-        "a 70000 4 0\n0x610c 0 1 0\n0x0d61 0 1 0\n"
+        "a 70000\n0x610c 0\n0x0d61 0\n"
     );
 
     let wrong = folder.put("wrong", b"a\n\nb c\n");
@@ -318,43 +314,6 @@ fn figures() {
     ] {
         bad(wrong, b"", 2);
     }
-}
-
-/// Figures, slots and rows are the reference's, as text and as JSON, on meters with counters of every level.
-#[test]
-fn figures_of_random_meters() {
-    let mut rng = Rng::new("figures_of_random_meters");
-    let folder = Folder::new();
-    let mut seen = std::collections::BTreeSet::new();
-    for _ in 0..30 {
-        let (d, w) = (1 + rng.below(8), 32 << rng.below(6));
-        let meter = random_meter(&mut rng, d, w);
-        let file = folder.put("image", &image(&meter));
-        let mut memory = reference::Memory::new(meter.bytes());
-        let (mut names, mut lines, mut json) = (String::new(), String::new(), String::new());
-        for n in 0..300 {
-            let length = rng.below(64);
-            let key = match n {
-                0 => br#"a"b\c"#.to_vec(),
-                // not printable, so that its name needs no escape
-                _ => [vec![0xff], rng.bytes(length)].concat(),
-            };
-            let reference::Reading { figure, level, row } = reference::estimate(d, w, &mut memory, &key).figure;
-            let (name, slots) = (named(&key), [1, 2, 4, 8][level as usize]);
-            names.push_str(&format!("{name}\n"));
-            lines.push_str(&format!("{name} {figure} {slots} {row}\n"));
-            let name = if n == 0 { r#"a\"b\\c"# } else { &name };
-            json.push_str(&format!(
-                "{{\"key\":\"{name}\",\"figure\":{figure},\"slots\":{slots},\"row\":{row}}}\n"
-            ));
-            seen.insert(("slots", slots));
-            seen.insert(("row", row));
-        }
-        let ask = ["ask", &file, "--keys", "-", "--json"];
-        assert_eq!(text(&good(&ask[..4], names.as_bytes())), lines);
-        assert_eq!(text(&good(&ask, names.as_bytes())), json);
-    }
-    assert_eq!(seen.len(), 4 + 8, "every level and row: {seen:?}");
 }
 
 /// The figures of `size` are those of meters.

@@ -203,7 +203,7 @@ fn progress() {
             &["ask", &image, "--keys", "-"],
             keys,
             " bytes read",
-            "A 0 1 0\r\nB 0 1 0\r\nC 0 1 0\r\nD 0 1 0\r\n",
+            "A 0\r\nB 0\r\nC 0\r\nD 0\r\n",
         ),
     ];
     thread::scope(|scope| {

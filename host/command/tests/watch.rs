@@ -24,35 +24,34 @@ fn watched(d: usize, w: usize, words: &[u32], threshold: u64) -> Watch {
     }
 }
 
-/// What a line of the table says: when the key joined, its estimate, the slots that share it and the key's name.
-fn line(line: &str) -> (usize, u64, usize, String) {
+/// What a line of the table says: when the key joined, its estimate and its name.
+fn line(line: &str) -> (usize, u64, String) {
     let parts: Vec<&str> = line.split_whitespace().collect();
-    assert_eq!(parts.len(), 4, "{line}");
-    let number = |at: usize| parts[at].parse().unwrap();
-    (number(0), parts[1].parse().unwrap(), number(2), parts[3].into())
+    assert_eq!(parts.len(), 3, "{line}");
+    (parts[0].parse().unwrap(), parts[1].parse().unwrap(), parts[2].into())
 }
 
 #[test]
 fn random_feeds() {
     let mut rng = Rng::new("random_feeds");
-    let (mut listed, mut left, mut levels) = (0, 0, [0; 4]);
+    let (mut listed, mut left) = (0, 0);
     for _ in 0..120 {
         let (d, w) = (1 + rng.below(8), rng.width());
         let words = random_feed(&mut rng, d, w, 60);
         let threshold = 1 + (rng.next() >> (20 + rng.below(44)));
         let expected = watched(d, w, &words, threshold);
         let used = expected.used();
-        let mut rows: Vec<(usize, u64, usize, String)> = expected.places[..used]
+        let mut rows: Vec<(usize, u64, String)> = expected.places[..used]
             .iter()
             .enumerate()
-            .map(|(at, place)| (at + 1, place.estimate, [1, 2, 4, 8][place.level as usize], named(&place.key)))
+            .map(|(at, place)| (at + 1, place.estimate, named(&place.key)))
             .collect();
         for sorted in [false, true] {
             let n = threshold.to_string();
             let mut arguments = vec!["watch", "--threshold", &n];
             if sorted {
                 arguments.push("--sort");
-                rows.sort_by_key(|(_, estimate, ..)| std::cmp::Reverse(*estimate));
+                rows.sort_by_key(|(_, estimate, _)| std::cmp::Reverse(*estimate));
             }
             let output = text(&good(&arguments, &to_bytes(&words)));
             let lines: Vec<&str> = output.lines().collect();
@@ -67,13 +66,10 @@ fn random_feeds() {
             assert_eq!((lines[used + 1], lines.len()), ("", used + 3));
         }
         listed += used;
-        for place in &expected.places[..used] {
-            levels[place.level as usize] += 1;
-        }
         left += usize::from(used == 0);
     }
-    println!("{listed} keys listed, by level {levels:?}; {left} lists with none");
-    assert!(listed > 300 && left > 3 && levels.iter().all(|&n| n > 0));
+    println!("{listed} keys listed; {left} lists with none");
+    assert!(listed > 300 && left > 3);
 }
 
 const LINES: &str = "\
@@ -95,10 +91,10 @@ fn tables() {
     let feed = folder.path("feed");
     good(&["feed", &lines, "-o", &feed], b"");
     let expected = "\
-joined  estimate  slots  key
-     1     70000      4  tenant-b
-     2      1000      2  tenant-a
-     3      5000      2  0x0a000001
+joined  estimate  key
+     1     70000  tenant-b
+     2      1000  tenant-a
+     3      5000  0x0a000001
 
 3 keys of 1000 or more; none is left out
 ";
@@ -111,10 +107,10 @@ joined  estimate  slots  key
         assert_eq!(text(&good(arguments, LINES.as_bytes())), expected, "{arguments:?}");
     }
     let sorted = "\
-joined  estimate  slots  key
-     1     70000      4  tenant-b
-     3      5000      2  10.0.0.1
-     2      1000      2  tenant-a
+joined  estimate  key
+     1     70000  tenant-b
+     3      5000  10.0.0.1
+     2      1000  tenant-a
 
 3 keys of 1000 or more; none is left out
 ";
@@ -124,7 +120,7 @@ joined  estimate  slots  key
     );
     assert_eq!(
         text(&good(&["watch", &feed, "--threshold", "5001"], b"")),
-        "joined  estimate  slots  key\n     1     70000      4  tenant-b\n\n1 key of 5001 or more; none is left out\n"
+        "joined  estimate  key\n     1     70000  tenant-b\n\n1 key of 5001 or more; none is left out\n"
     );
     assert_eq!(
         text(&good(&["watch", &feed, "--threshold", "18446744073709551615"], b"")),
@@ -151,7 +147,7 @@ fn a_full_list() {
         let output = text(&good(&["watch", "--threshold", "9"], &feed(&updates[..count])));
         assert!(output.ends_with(&format!("\n\n{end}")), "{output}");
         for (at, row) in output.lines().skip(1).take(64).enumerate() {
-            assert_eq!(line(row).3.as_bytes(), keys[at]);
+            assert_eq!(line(row).2.as_bytes(), keys[at]);
         }
     }
 }

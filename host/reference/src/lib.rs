@@ -21,15 +21,6 @@ pub struct Answer<F = u64> {
     pub figure: F,
 }
 
-/// What an estimate finds: the figure of the key's least counter, that counter's level, and the row that it is in. All 0 if the call was
-/// refused or no estimate.
-#[derive(Clone, Copy, Debug, Default, PartialEq, Eq)]
-pub struct Reading {
-    pub figure: u64,
-    pub level: u32,
-    pub row: u32,
-}
-
 fn accepted<F>(figure: F) -> Answer<F> {
     Answer {
         number: 0,
@@ -468,23 +459,12 @@ impl Meter {
         Ok(0)
     }
 
-    fn estimate(&self, key: &[u8]) -> Result<Reading, Refused> {
-        let mut rows = Vec::new();
+    fn estimate(&self, key: &[u8]) -> Result<u64, Refused> {
+        let mut figures = Vec::new();
         for (g, s) in self.places(key) {
-            rows.push(self.groups[g].sound()?.counter_of(s));
+            figures.push(self.groups[g].sound()?.counter_of(s).1);
         }
-        // From the last row up, so that of equal figures the lowest row's is left.
-        let mut least = None;
-        for (row, (node, figure)) in rows.into_iter().enumerate().rev() {
-            if least.is_none_or(|found: Reading| figure <= found.figure) {
-                least = Some(Reading {
-                    figure,
-                    level: level(node),
-                    row: row as u32,
-                });
-            }
-        }
-        Ok(least.expect("a meter has a row"))
+        Ok(figures.into_iter().min().expect("a meter has a row"))
     }
 
     fn widest(&self) -> Result<u64, Refused> {
@@ -616,7 +596,7 @@ pub fn update(d: usize, w: usize, memory: &mut Memory, key: &[u8], amount: u32) 
     )
 }
 
-pub fn estimate(d: usize, w: usize, memory: &mut Memory, key: &[u8]) -> Answer<Reading> {
+pub fn estimate(d: usize, w: usize, memory: &mut Memory, key: &[u8]) -> Answer {
     answer(
         good_shape(d, w, memory.len())
             .and_then(|()| good_key(key))
@@ -780,7 +760,7 @@ fn parse_record(before: u64, words: &[u32]) -> Result<Record, Refused> {
 }
 
 /// Carries out a record or the end of a feed; also says which it was, where its words pass.
-pub fn feed_record(d: usize, w: usize, memory: &mut Memory, before: u64, words: &[u32]) -> (Answer<Reading>, Option<Record>) {
+pub fn feed_record(d: usize, w: usize, memory: &mut Memory, before: u64, words: &[u32]) -> (Answer, Option<Record>) {
     if let Err(refused) = good_shape(d, w, memory.len()) {
         return (answer(Err(refused)), None);
     }
@@ -788,9 +768,9 @@ pub fn feed_record(d: usize, w: usize, memory: &mut Memory, before: u64, words: 
         Err(refused) => (answer(Err(refused)), None),
         Ok(record) => {
             let outcome = match &record {
-                Record::End => Ok(Reading::default()),
+                Record::End => Ok(0),
                 Record::Ask(key) => memory.meter(d, w).estimate(key),
-                Record::Update(key, amount) => memory.meter(d, w).update(key, *amount).map(|_| Reading::default()),
+                Record::Update(key, amount) => memory.meter(d, w).update(key, *amount),
             };
             (answer(outcome), Some(record))
         }
@@ -896,33 +876,8 @@ mod tests {
         ];
         let mut memory = Memory::new(&[0; 36]);
         assert_eq!(feed_head(&feed), accepted(0x51));
-        let read = |figure, level, row| accepted(Reading { figure, level, row });
-        assert_eq!(feed_record(1, 32, &mut memory, 1, &feed[1..]).0, read(0, 0, 0));
-        assert_eq!(feed_record(1, 32, &mut memory, 5, &feed[5..]).0, read(300, 1, 0));
-        assert_eq!(feed_record(1, 32, &mut memory, 7, &feed[7..]).0, read(0, 0, 0));
-    }
-
-    /// Three rows with the key's counter in each by hand, its level and its figure: which of them an estimate gives.
-    #[test]
-    fn the_least_counter() {
-        let (w, key) = (32, b"tenant-7");
-        let given = |rows: [(u8, u64); 3]| {
-            let mut groups = vec![Group::Sound(Tree::clear()); 3 * w / 8];
-            for (r, (level, figure)) in rows.into_iter().enumerate() {
-                let s = slot(r, key, w);
-                let (mut tree, node) = (Tree::clear(), (FIRST_SLOT + s % 8) >> level);
-                tree.remove(node);
-                tree.counter[node] = Some(figure);
-                groups[r * w / 8 + s / 8] = Group::Sound(tree);
-            }
-            let read = Meter { d: 3, w, groups }.estimate(key).expect("sound groups");
-            (read.figure, read.level, read.row)
-        };
-        assert_eq!(given([(3, 300), (1, 7), (2, 8)]), (7, 1, 1));
-        assert_eq!(given([(0, 9), (1, 9), (2, 8)]), (8, 2, 2));
-        // Equal figures: the lowest row, whatever the levels.
-        assert_eq!(given([(3, 7), (0, 7), (1, 7)]), (7, 3, 0));
-        assert_eq!(given([(0, 8), (2, 7), (1, 7)]), (7, 2, 1));
-        assert_eq!(given([(3, u64::MAX); 3]), (u64::MAX, 3, 0));
+        assert_eq!(feed_record(1, 32, &mut memory, 1, &feed[1..]).0, accepted(0));
+        assert_eq!(feed_record(1, 32, &mut memory, 5, &feed[5..]).0, accepted(300));
+        assert_eq!(feed_record(1, 32, &mut memory, 7, &feed[7..]).0, accepted(0));
     }
 }

@@ -1,35 +1,28 @@
-//! The watch list of document 02, requests 1 and 5, as places in a row: read from the bytes, changed as a list, written back.
+//! The watch list of document 02, request 1, as places in a row: read from the bytes, changed as a list, written back.
 
-use crate::{answer, good_key, good_shape, Answer, Memory, Reading, Refused};
+use crate::{answer, good_key, good_shape, Answer, Memory, Refused};
 
 const PLACES: usize = 64;
 
-/// The bytes of a watch list: of each place a length, a key, an estimate and a level, and one mark.
-pub const WATCH_SIZE: usize = PLACES * (1 + 64 + 8 + 1) + 1;
+/// The bytes of a watch list: of each place a length, a key and an estimate, and one mark.
+pub const WATCH_SIZE: usize = PLACES * (1 + 64 + 8) + 1;
 
-/// A place: its key, empty if it is free, the bytes behind the key, the estimate and its level.
+/// A place: its key, empty if it is free, the bytes behind the key and the estimate.
 #[derive(Clone, PartialEq, Eq, Debug)]
 pub struct Place {
     pub key: Vec<u8>,
     pub behind: Vec<u8>,
     pub estimate: u64,
-    pub level: u8,
 }
 
 impl Place {
     /// A place as it is written: what the key leaves is 0.
-    pub fn new(key: &[u8], estimate: u64, level: u8) -> Place {
+    pub fn new(key: &[u8], estimate: u64) -> Place {
         Place {
             key: key.to_vec(),
             behind: vec![0; 64 - key.len()],
             estimate,
-            level,
         }
-    }
-
-    /// A free place, as it is written.
-    pub fn free() -> Place {
-        Place::new(b"", 0, 0)
     }
 }
 
@@ -46,24 +39,20 @@ impl Watch {
     pub fn parse(bytes: &[u8]) -> Option<Watch> {
         let (lengths, rest) = bytes.split_at_checked(PLACES)?;
         let (mark, rest) = rest.split_first()?;
-        let (keys, rest) = rest.split_at_checked(64 * PLACES)?;
-        let (estimates, levels) = rest.split_at_checked(8 * PLACES)?;
+        let (keys, estimates) = rest.split_at_checked(64 * PLACES)?;
         let gap = lengths.windows(2).any(|two| two[0] == 0 && two[1] != 0);
-        let deep = lengths.iter().zip(levels).any(|(&length, &level)| length > 0 && level > 3);
-        if levels.len() != PLACES || lengths.iter().any(|&n| n > 64) || gap || *mark > 1 || deep {
+        if estimates.len() != 8 * PLACES || lengths.iter().any(|&n| n > 64) || gap || *mark > 1 {
             return None;
         }
         let places = lengths
             .iter()
-            .zip(levels)
             .zip(keys.chunks(64).zip(estimates.chunks(8)))
-            .map(|((&length, &level), (key, estimate))| {
+            .map(|(&length, (key, estimate))| {
                 let (key, behind) = key.split_at(length as usize);
                 Place {
                     key: key.to_vec(),
                     behind: behind.to_vec(),
                     estimate: u64::from_le_bytes(estimate.try_into().expect("eight bytes")),
-                    level,
                 }
             })
             .collect();
@@ -83,7 +72,6 @@ impl Watch {
         for place in &self.places {
             bytes.extend(place.estimate.to_le_bytes());
         }
-        bytes.extend(self.places.iter().map(|place| place.level));
         bytes
     }
 
@@ -97,16 +85,12 @@ impl Watch {
         self.places.iter().position(|place| place.key == key)
     }
 
-    fn note(&mut self, key: &[u8], read: Reading, threshold: u64) {
-        let new = Place::new(key, read.figure, read.level as u8);
+    fn note(&mut self, key: &[u8], estimate: u64, threshold: u64) {
         match (self.find(key), self.used()) {
-            (Some(at), _) => {
-                self.places[at].estimate = new.estimate;
-                self.places[at].level = new.level;
-            }
-            (None, _) if new.estimate < threshold => {}
+            (Some(at), _) => self.places[at].estimate = estimate,
+            (None, _) if estimate < threshold => {}
             (None, PLACES) => self.marked = true,
-            (None, free) => self.places[free] = new,
+            (None, free) => self.places[free] = Place::new(key, estimate),
         }
     }
 
@@ -114,7 +98,7 @@ impl Watch {
         let last = self.used();
         if let Some(at) = self.find(key) {
             self.places.remove(at);
-            self.places.insert(last - 1, Place::free());
+            self.places.insert(last - 1, Place::new(b"", 0));
         }
     }
 }
@@ -177,26 +161,21 @@ mod tests {
         watch_update(1, 32, &mut both.0, &mut both.1, key, amount, threshold).number
     }
 
-    /// The keys in use, with their estimates and levels.
-    fn listed(list: &[u8]) -> Vec<(Vec<u8>, u64, u8)> {
+    /// The keys in use, with their estimates.
+    fn listed(list: &[u8]) -> Vec<(Vec<u8>, u64)> {
         let watch = Watch::parse(list).expect("a list");
         let used = watch.used();
-        watch
-            .places
-            .into_iter()
-            .take(used)
-            .map(|p| (p.key, p.estimate, p.level))
-            .collect()
+        watch.places.into_iter().take(used).map(|p| (p.key, p.estimate)).collect()
     }
 
     fn keys(list: &[u8]) -> Vec<Vec<u8>> {
-        listed(list).into_iter().map(|(key, _, _)| key).collect()
+        listed(list).into_iter().map(|(key, _)| key).collect()
     }
 
     /// The layout by its offsets, as the readings give it.
     #[test]
     fn layout() {
-        assert_eq!(WATCH_SIZE, 4_737);
+        assert_eq!(WATCH_SIZE, 4_673);
         let mut both = both();
         assert_eq!(update(&mut both, b"ab", 300, 300), 0);
         assert_eq!(update(&mut both, b"c", 70_000, 300), 0);
@@ -206,7 +185,6 @@ mod tests {
         expected[65 + 64] = b'c';
         expected[4_161..4_163].copy_from_slice(&[0x2c, 1]);
         expected[4_169..4_172].copy_from_slice(&[0x70, 0x11, 1]);
-        (expected[4_673], expected[4_674]) = (1, 2);
         assert!(both.1 == expected);
     }
 
@@ -219,10 +197,10 @@ mod tests {
         assert_eq!(update(&mut both, b"a", 1, 10), 0);
         assert_eq!(update(&mut both, b"b", 10, 11), 0);
         assert_eq!(update(&mut both, b"b", 0, 10), 0);
-        assert_eq!(listed(&both.1), [(b"a".to_vec(), 10, 0), (b"b".to_vec(), 10, 0)]);
-        // Renewed whatever the threshold, with the level.
-        assert_eq!(update(&mut both, b"a", 290, u64::MAX), 0);
-        assert_eq!(listed(&both.1), [(b"a".to_vec(), 300, 1), (b"b".to_vec(), 10, 0)]);
+        assert_eq!(listed(&both.1), [(b"a".to_vec(), 10), (b"b".to_vec(), 10)]);
+        // Renewed whatever the threshold.
+        assert_eq!(update(&mut both, b"a", 5, u64::MAX), 0);
+        assert_eq!(listed(&both.1), [(b"a".to_vec(), 15), (b"b".to_vec(), 10)]);
         // A prefix is another key.
         assert_eq!(watch_remove(&mut both.1, b"ab").number, 0);
         assert_eq!(keys(&both.1), [b"a", b"b"]);
@@ -230,9 +208,8 @@ mod tests {
         assert_eq!(keys(&both.1), [b"b"]);
         // The place behind is 0 again, and the key joins at another.
         assert!(both.1[65 + 64..65 + 128].iter().chain(&both.1[4_169..4_177]).all(|&b| b == 0));
-        assert_eq!((both.1[4_673], both.1[4_674]), (0, 0));
         assert_eq!(update(&mut both, b"a", 0, 10), 0);
-        assert_eq!(listed(&both.1), [(b"b".to_vec(), 10, 0), (b"a".to_vec(), 300, 1)]);
+        assert_eq!(listed(&both.1), [(b"b".to_vec(), 10), (b"a".to_vec(), 15)]);
     }
 
     #[test]
@@ -263,24 +240,23 @@ mod tests {
         let mut both = both();
         let mut watch = Watch::parse(&both.1).expect("a list");
         for (at, key) in [b"x", b"y", b"x"].into_iter().enumerate() {
-            watch.places[at] = Place::new(key, at as u64, 3 - at as u8);
+            watch.places[at] = Place::new(key, at as u64);
             watch.places[at].behind.fill(at as u8 + 1);
         }
         watch.places[3].behind.fill(9);
         watch.places[3].estimate = 9;
-        watch.places[3].level = 9;
         both.1 = watch.bytes();
         let mut expected = watch.clone();
         assert_eq!(update(&mut both, b"x", 50, 1), 0);
-        (expected.places[0].estimate, expected.places[0].level) = (50, 0);
+        expected.places[0].estimate = 50;
         assert!(both.1 == expected.bytes());
         assert_eq!(watch_remove(&mut both.1, b"x").number, 0);
         expected.places[0] = watch.places[1].clone();
         expected.places[1] = watch.places[2].clone();
-        expected.places[2] = Place::free();
+        expected.places[2] = Place::new(b"", 0);
         assert!(both.1 == expected.bytes());
         assert_eq!(watch_remove(&mut both.1, b"x").number, 0);
-        expected.places[1] = Place::free();
+        expected.places[1] = Place::new(b"", 0);
         assert!(both.1 == expected.bytes());
     }
 
@@ -334,11 +310,6 @@ mod tests {
         assert!(!sound(&[(0, 1), (63, 1)]));
         assert!(sound(&[(64, 1)]));
         assert!(!sound(&[(64, 2)]));
-        // A level of a place in use, and of a free one.
-        assert!(sound(&[(0, 1), (4_673, 3)]));
-        assert!(!sound(&[(0, 1), (4_673, 4)]));
-        assert!(!sound(&[(0, 1), (1, 1), (4_674, 255)]));
-        assert!(sound(&[(0, 1), (4_674, 255), (4_736, 4)]));
         assert!(sound(&[(65, 255), (4_672, 255)]));
     }
 }

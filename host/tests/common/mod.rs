@@ -90,21 +90,6 @@ impl Numbers {
     }
 }
 
-/// What an estimate found, in the reference's terms.
-pub fn found(reading: meter::Reading) -> reference::Reading {
-    let meter::Reading { figure, level, row } = reading;
-    reference::Reading { figure, level, row }
-}
-
-/// An estimate's answer, in the reference's terms.
-pub fn answered(answer: meter::Answer<meter::Reading>) -> meter::Answer<reference::Reading> {
-    meter::Answer {
-        number: answer.number,
-        place: answer.place,
-        figure: found(answer.figure),
-    }
-}
-
 const GUARD: usize = 24;
 
 /// A lent buffer, between guards that no call may touch.
@@ -196,16 +181,12 @@ pub fn list(rng: &mut Rng, keys: &[Vec<u8>]) -> Vec<u8> {
     watch.marked = rng.once_in(4);
     let used = rng.pick(&[0, 1, 2, 10, 62, 63, 64]);
     for place in watch.places.iter_mut().take(used) {
-        let (estimate, level) = (rng.next() >> rng.below(64), rng.below(4) as u8);
-        *place = Place::new(&keys[rng.below(keys.len())], estimate, level);
+        *place = Place::new(&keys[rng.below(keys.len())], rng.next() >> rng.below(64));
     }
     if rng.once_in(2) {
         for place in &mut watch.places {
             place.behind = rng.bytes(place.behind.len());
             place.estimate = rng.next();
-            if place.key.is_empty() {
-                place.level = rng.next() as u8;
-            }
         }
     }
     watch.bytes()
@@ -214,7 +195,7 @@ pub fn list(rng: &mut Rng, keys: &[Vec<u8>]) -> Vec<u8> {
 /// Breaks a sound list, and says how.
 pub fn break_list(rng: &mut Rng, list: &mut [u8]) -> &'static str {
     let used = list[..64].iter().take_while(|&&n| n != 0).count();
-    match rng.below(4) {
+    match rng.below(3) {
         0 => {
             list[rng.below(64.min(used + 1))] = rng.within(65..256) as u8;
             "a length above 64"
@@ -226,10 +207,6 @@ pub fn break_list(rng: &mut Rng, list: &mut [u8]) -> &'static str {
         1 => {
             list[rng.within(used + 1..64)] = rng.within(1..65) as u8;
             "a length after a 0"
-        }
-        2 if used > 0 => {
-            list[4_673 + rng.below(used)] = rng.within(4..256) as u8;
-            "a level above 3"
         }
         _ => {
             list[64] = rng.within(2..256) as u8;

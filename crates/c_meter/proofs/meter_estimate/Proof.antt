@@ -1,6 +1,6 @@
 use borrow.Author.Rules.{rules}
 use mathlib.Core.Path.{ap, ◌∙◌}
-use Rattle.meter_least.specs.declared.Estimate.{Estimate}
+use Rattle.answer.specs.declared.Answer.{Answer}
 use Rattle.c_meter.proofs.meter_estimate.Statement.{statement}
 use Rattle.c_meter.proofs.meter_estimate.Tie as tie
 
@@ -12,16 +12,10 @@ give-requires c κs = search rules
 
 returns : tie.Need-returns
 returns c =
-    let e = c.before.before.before.before.before.estimate.ensures in
+    let a = c.before.before.before.estimate.ensures in
     let g = c.give.ensures in (
-      g.0 ∙ ap (λ (x : Estimate). x.answer.status) e,
-      (
-        g.1.0 ∙ ap (λ (x : Estimate). x.answer.position) e,
-        (
-          g.1.1.0 ∙ ap (λ (x : Estimate). x.answer.value) e,
-          (g.1.1.1.0 ∙ ap (λ (x : Estimate). x.level) e, g.1.1.1.1 ∙ ap (λ (x : Estimate). x.row) e),
-        ),
-      ),
+      g.0 ∙ ap (λ (x : Answer). x.status) a,
+      (g.1.0 ∙ ap (λ (x : Answer). x.position) a, g.1.1 ∙ ap (λ (x : Answer). x.value) a),
     )
 
 pub meter-estimate-spec : {M : Type 1} → statement M

@@ -4,12 +4,11 @@ use lib.ListN.{take}
 use borrow.Author.Rules.{rules}
 use Rattle.answer.specs.declared.Answer.{Answer}
 use Rattle.meter.specs.Meter.{estimated}
-use Rattle.meter_least.specs.declared.Estimate.{Estimate}
 use Rattle.feed.specs.declared.Recorded.{Recorded}
 use Rattle.feed.specs.declared.Recorded.TheVariants as case
 use Rattle.feed_keys.specs.Keys.{key_of}
 use Rattle.feed_records.specs.Words.{query_body}
-use Rattle.feed.specs.Record.{refusal, estimate_outcome, queried}
+use Rattle.feed.specs.Record.{refusal, outcome_of, queried}
 use Rattle.feed_lengths.proofs.Laws.{key_short}
 use Rattle.feed_records.proofs.Laws.{sound_answer}
 use Rattle.feed.proofs.Cases.{outcome_refused, outcome_accepted}
@@ -18,7 +17,7 @@ use Rattle.feed.proofs.query.Statement.{statement}
 use Rattle.feed.proofs.query.Tie as tie
 
 -- the estimate that was called, and what the record makes of it
-abbrev called : tie.After-estimate-checked → Estimate
+abbrev called : tie.After-estimate-checked → Answer
 called k =
     let a = k.before.before.before.before.before.before.before.before.before.before.args in
     estimated a.d a.w a.memory.now (key_of a.n a.words.now)
@@ -44,7 +43,7 @@ called_is k =
     let a = m.before.before.before.before.before.before.args in
     k.estimate-checked.ensures ∙ ap (estimated a.d a.w a.memory.now) (key-is m)
 
-meant_is : (k : tie.After-estimate-checked) → meant k ≡ estimate_outcome (called k)
+meant_is : (k : tie.After-estimate-checked) → meant k ≡ outcome_of (called k) (case.Estimate (called k).value)
 meant_is k =
     let m = k.before.before.before.before in
     let q = m.before.before in
@@ -92,16 +91,16 @@ refusal-requires : tie.Need-refusal-requires
 refusal-requires c κs = search rules
 
 returns-2 : tie.Need-returns-2
-returns-2 c = let k = c.before.before.before.before in
+returns-2 c = let k = c.before.before.before in
     let z = called_is k in
-    let t = outcome_refused (called k).answer _ (λ h. c.before.if1.true (ap (λ (x : Estimate). x.answer.status) z ∙ h)) in
-    c.refusal.ensures ∙ ap (λ (x : Estimate). refusal x.answer) z ∙ sym t ∙ sym (meant_is k)
+    let t = outcome_refused (called k) (case.Estimate (called k).value) (λ h. c.before.if1.true (ap (λ (x : Answer). x.status) z ∙ h)) in
+    c.refusal.ensures ∙ ap refusal z ∙ sym t ∙ sym (meant_is k)
 
 returns-3 : tie.Need-returns-3
-returns-3 c = let k = c.before.before.before in
+returns-3 c = let k = c.before.before in
     let z = called_is k in
-    let t = outcome_accepted (called k).answer _ (ap (λ (x : Estimate). x.answer.status) (sym z) ∙ c.if1.false) in
-    ap (λ (x : Estimate). case.Estimate x.answer.value x.level x.row) z ∙ sym t ∙ sym (meant_is k)
+    let t = outcome_accepted (called k) (case.Estimate (called k).value) (ap (λ (x : Answer). x.status) (sym z) ∙ c.if1.false) in
+    ap (λ (x : Answer). case.Estimate x.value) z ∙ sym t ∙ sym (meant_is k)
 
 pub query-spec : {M : Type 1} → statement M
 query-spec =

@@ -30,32 +30,32 @@ begin-requires c κs = search rules
 enum-known-l-2 : tie.Need-enum-known-l-2
 enum-known-l-2 c = search rules
 
-slice-aggregate-triple : tie.Need-slice-aggregate-triple
-slice-aggregate-triple c = search rules
-
-triple-requires : tie.Need-triple-requires
-triple-requires c κs = search rules
-
-enum-known-l-3 : tie.Need-enum-known-l-3
-enum-known-l-3 c = search rules
-
 slice-aggregate-single : tie.Need-slice-aggregate-single
 slice-aggregate-single c = search rules
 
 single-requires : tie.Need-single-requires
 single-requires c κs = search rules
 
-enum-known-l-4 : tie.Need-enum-known-l-4
-enum-known-l-4 c = search rules
+enum-known-l-3 : tie.Need-enum-known-l-3
+enum-known-l-3 c = search rules
 
 slice-aggregate-single-2 : tie.Need-slice-aggregate-single-2
 slice-aggregate-single-2 c = search rules
 
+single-requires-2 : tie.Need-single-requires-2
+single-requires-2 c κs = search rules
+
+enum-known-l-4 : tie.Need-enum-known-l-4
+enum-known-l-4 c = search rules
+
+slice-aggregate-single-3 : tie.Need-slice-aggregate-single-3
+slice-aggregate-single-3 c = search rules
+
 cast-single : tie.Need-overflow-cast-single
 cast-single c = search rules
 
-single-requires-2 : tie.Need-single-requires-2
-single-requires-2 c κs = search rules
+single-requires-3 : tie.Need-single-requires-3
+single-requires-3 c κs = search rules
 
 enum-known-l-5 : tie.Need-enum-known-l-5
 enum-known-l-5 c = search rules
@@ -82,15 +82,15 @@ returns-2 c = let l = c.before.before.before.before.args.l in
 
 returns-3 : tie.Need-returns-3
 unfolding text
-returns-3 c = rw c.before.before.before.l2.given.1 c.triple.ensures
+returns-3 c = rw c.before.before.before.l2.given.1 c.single.ensures
 
 returns-4 : tie.Need-returns-4
 unfolding text
-returns-4 c = rw c.before.before.before.l3.given.1 c.single.ensures
+returns-4 c = rw c.before.before.before.l3.given.1 c.single2.ensures
 
 returns-5 : tie.Need-returns-5
 unfolding text
-returns-5 c = rw c.before.before.before.l4.given.1 c.single2.ensures
+returns-5 c = rw c.before.before.before.l4.given.1 c.single3.ensures
 
 returns-6 : tie.Need-returns-6
 unfolding text
@@ -108,15 +108,15 @@ text-of-spec =
     slice-aggregate-begin
     begin-requires
     enum-known-l-2
-    slice-aggregate-triple
-    triple-requires
-    enum-known-l-3
     slice-aggregate-single
     single-requires
-    enum-known-l-4
+    enum-known-l-3
     slice-aggregate-single-2
-    cast-single
     single-requires-2
+    enum-known-l-4
+    slice-aggregate-single-3
+    cast-single
+    single-requires-3
     enum-known-l-5
     slice-aggregate-pair-3
     cast-pair

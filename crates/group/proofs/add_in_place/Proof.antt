@@ -4,7 +4,6 @@ use Prim.Native.Nat.{ℕ, ◌%◌}
 use native.Mathlib.Omega.{arith}
 use borrow.Author.Tests.{not-true, not-false}
 use Rattle.group_layout.specs.Layout.{valid}
-use Rattle.group_block.specs.declared.Counter.{Counter}
 use Rattle.group_block.specs.Block.{cap}
 use Rattle.group_sums.specs.Sums.{holds_at}
 use Rattle.group.specs.declared.Outcome.{Outcome}
@@ -37,12 +36,10 @@ module _ (d : tie.After-add-in-place) where
   unfolding decode
   sum_is e = added-summed s.args.g s.args.slot s.args.amount _ (is-sane n.before) refl (rw (← n.number_of_lem.ensures) (d.add-in-place.ensures.1 e).0)
 
-  counter-is : d.add-in-place.result.held ≡ true
-      → record { status = 0; value = d.add-in-place.result.counter.value; level = d.add-in-place.result.counter.level }
-      ≡ read (added s.args.g s.args.slot s.args.amount).group s.args.slot
+  value_is : d.add-in-place.result.held ≡ true → d.add-in-place.result.value ≡ (read (added s.args.g s.args.slot s.args.amount).group s.args.slot).value
   unfolding decode cap
-  counter-is e =
-      ap (λ (c : Counter). record { status = 0; value = c.value; level = c.level }) (rw n.number_of_lem.ensures at (d.add-in-place.ensures.1 e).1)
+  value_is e =
+      rw n.number_of_lem.ensures at (d.add-in-place.ensures.1 e).1
       ∙ sym (read_held s.args.g s.args.slot s.args.amount (omega (arith, n.number_of_lem.ensures)) (holds-is ∙ sym d.add-in-place.ensures.0 ∙ e))
 
 is-valid-requires : tie.Need-is-valid-requires
@@ -69,7 +66,7 @@ returns-3 : tie.Need-returns-3
 unfolding stored
 returns-3 c = let d = c.before.before.before in
     let e = not-false _ c.before.if2.false in
-    (sym (holds-is d ∙ sym d.add-in-place.ensures.0 ∙ e), (c.bytes_of.ensures ∙ ap (λ (o : Outcome). o.group.counts) (sum_is d e), counter-is d e))
+    (sym (holds-is d ∙ sym d.add-in-place.ensures.0 ∙ e), (c.bytes_of.ensures ∙ ap (λ (o : Outcome). o.group.counts) (sum_is d e), value_is d e))
 
 pub add-in-place-spec : {M : Type 1} → statement M
 add-in-place-spec =

@@ -98,7 +98,7 @@ returns-2 c = let d = c.before in
       λ e. (
         rw (shifted d fits)
             (in-place-is a.args.word a.args.merge a.args.slot (l d).level-at.result (p d).place.result (word_in d) a.pre.1 (level_is d) (p d).place.ensures.0 a.args.amount (small d fits) a.pre.0),
-        rw (value_is d, level_is d),
+        ap (λ (x : ℕ). x + a.args.amount) (sym (value_is d)),
       ),
     )
 

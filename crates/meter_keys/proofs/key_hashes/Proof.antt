@@ -17,7 +17,7 @@ cast-t9 c = search rules
 
 returns : tie.Need-returns
 returns c = let i = c.before in
-    λ r h. let first : r ≡ 0 = omega arith in rw first i.in-row.ensures
+    λ r h. let first : r ≡ 0 = omega arith in rw first i.in_row.ensures
 
 four-hashes-requires : tie.Need-four-hashes-requires
 four-hashes-requires c κs = search rules

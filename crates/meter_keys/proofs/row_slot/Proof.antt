@@ -15,7 +15,7 @@ scaled-requires c κs = (wide _ c.before.before.requires).shares
 
 returns : tie.Need-returns
 unfolding key_slot
-returns c = (c.scaled.ensures.0 ∙ ap (λ (h : ℕ). slot_of h c.before.before.before.args.w) c.before.in-row.ensures, c.scaled.ensures.1)
+returns c = (c.scaled.ensures.0 ∙ ap (λ (h : ℕ). slot_of h c.before.before.before.args.w) c.before.in_row.ensures, c.scaled.ensures.1)
 
 pub row-slot-spec : {M : Type 1} → statement M
 row-slot-spec = tie.close (tie.spec in-row-requires scaled-requires returns)

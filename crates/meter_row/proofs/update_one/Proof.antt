@@ -5,11 +5,11 @@ use borrow.Author.Rules.{rules}
 use borrow.Author.Tests.{ne_eqb}
 use Rattle.group.specs.declared.Group.{Group}
 use Rattle.group.specs.declared.Outcome.{Outcome}
+use Rattle.group.specs.declared.Reading.{Reading}
 use Rattle.group.specs.Group.{read, added}
 use Rattle.group.proofs.Laws.{added-kept}
 use Rattle.meter_memory.specs.Rows.{with_group}
 use Rattle.geometry.proofs.Widths.{slot_in, group_in}
-use Rattle.meter_least.specs.Least.{in_row}
 use Rattle.meter_row.specs.Row.{added_in}
 use Rattle.meter_row.proofs.update_one.Statement.{statement}
 use Rattle.meter_row.proofs.update_one.Tie as tie
@@ -34,12 +34,12 @@ kept c = let d = c.before in
     let a = (s d).args in
     sym (added-kept (x d) a.slot a.amount d.add-in-place.result c.if1.true d.add-in-place.ensures.0 d.add-in-place.ensures.1.0) ∙ group_is d
 
--- and the counter
-kept-counter : (c : tie.Then1)
+-- and the counter's value
+kept-value : (c : tie.Then1)
     → let a = (s c.before).args in
-    c.before.add-in-place.result.counter ≡ read (added_in a.w a.row.now a.slot a.amount).group a.slot
-kept-counter c = let d = c.before in
-    rw c.if1.true at d.add-in-place.ensures.1.1 ∙ ap (λ (o : Outcome). read o.group (s d).args.slot) (group_is d)
+    c.before.add-in-place.result.value ≡ (read (added_in a.w a.row.now a.slot a.amount).group a.slot).value
+kept-value c = let d = c.before in
+    rw c.if1.true at d.add-in-place.ensures.1.1 ∙ ap (λ (o : Outcome). (read o.group (s d).args.slot).value) (group_is d)
 
 -- and elsewhere
 widened : (c : tie.After-add-widening)
@@ -49,9 +49,9 @@ widened c = c.add-widening.ensures ∙ group_is c.before.before
 
 counter-is : (c : tie.After-counter)
     → let a = (s c.before.before.before.before).args in
-    c.counter.result ≡ read (added_in a.w a.row.now a.slot a.amount).group a.slot
+    c.counter.result.value ≡ (read (added_in a.w a.row.now a.slot a.amount).group a.slot).value
 counter-is c = let o = c.before.before in
-    c.counter.ensures ∙ ap (λ (x : Outcome). read x.group (s o.before.before).args.slot) (widened o)
+    ap (λ (x : Reading). x.value) c.counter.ensures ∙ ap (λ (x : Outcome). (read x.group (s o.before.before).args.slot).value) (widened o)
 
 load-requires : tie.Need-load-requires
 load-requires c κs = let a = c.before.before.args in
@@ -65,18 +65,14 @@ add-in-place-requires c κs = search rules
 update-row-requires : tie.Need-update-row-requires
 update-row-requires c κs = search rules
 
-in-row-requires : tie.Need-in-row-requires
-in-row-requires c κs = search rules
-
 same_length : tie.Need-same-length
 same_length c = search rules
 
 returns : tie.Need-returns
-returns c = let u = c.before.before.before.before in
-    let t = u.before.before.before in
+returns c = let t = c.before.before.before.before.before in
     let a = (s t.before).args in (
       ap (λ (o : Outcome). o.status) (kept t),
-      (c.in-row.ensures ∙ ap (in_row 0) (kept-counter t), u.update-row.ensures ∙ ap (λ (o : Outcome). with_group a.w a.row.now (a.slot / 8) o.group) (kept t)),
+      (kept-value t, c.before.before.update-row.ensures ∙ ap (λ (o : Outcome). with_group a.w a.row.now (a.slot / 8) o.group) (kept t)),
     )
 
 add-widening-requires : tie.Need-add-widening-requires
@@ -85,34 +81,27 @@ add-widening-requires c κs = sym c.before.add-in-place.ensures.0 ∙ c.if1.fals
 counter-requires : tie.Need-counter-requires
 counter-requires c κs = search rules
 
-in-row-requires-2 : tie.Need-in-row-requires-2
-in-row-requires-2 c κs = search rules
-
 same-length-2 : tie.Need-same-length-2
 same-length-2 c = search rules
 
 returns-2 : tie.Need-returns-2
-returns-2 c = let v = c.before.before.before in
+returns-2 c = let v = c.before.before in
     let o = v.before.before in
-    (ap (λ (o : Outcome). o.status) (widened o), (c.in-row2.ensures ∙ ap (in_row 0) (counter-is v), rw (ne_eqb o.add-widening.result.status 0 c.before.if2.true)))
+    (ap (λ (o : Outcome). o.status) (widened o), (counter-is v, rw (ne_eqb o.add-widening.result.status 0 c.if2.true)))
 
 update-row-requires-2 : tie.Need-update-row-requires-2
 update-row-requires-2 c κs = search rules
-
-in-row-requires-3 : tie.Need-in-row-requires-3
-in-row-requires-3 c κs = search rules
 
 same-length-3 : tie.Need-same-length-3
 same-length-3 c = search rules
 
 returns-3 : tie.Need-returns-3
-returns-3 c = let u = c.before.before.before in
-    let e = u.before.before in
+returns-3 c = let e = c.before.before.before.before in
     let v = e.before.before in
     let o = v.before.before in
     let a = (s o.before.before).args in (
       sym e.if2.false ∙ ap (λ (o : Outcome). o.status) (widened o),
-      (c.in-row3.ensures ∙ ap (in_row 0) (counter-is v), u.update-row2.ensures ∙ ap (λ (o : Outcome). with_group a.w a.row.now (a.slot / 8) o.group) (widened o)),
+      (counter-is v, c.before.before.update-row2.ensures ∙ ap (λ (o : Outcome). with_group a.w a.row.now (a.slot / 8) o.group) (widened o)),
     )
 
 pub update-one-spec : {M : Type 1} → statement M
@@ -122,15 +111,12 @@ update-one-spec =
     load-requires
     add-in-place-requires
     update-row-requires
-    in-row-requires
     same_length
     returns
     add-widening-requires
     counter-requires
-    in-row-requires-2
     same-length-2
     returns-2
     update-row-requires-2
-    in-row-requires-3
     same-length-3
     returns-3)

@@ -1,32 +1,28 @@
 use mathlib.Core.Path.{◌≡◌, refl, sym, ap, ◌∙◌}
 use mathlib.Core.Bool.{true}
 use mathlib.Core.Logic.{⊎_elim}
-use Prim.Native.Nat.{ℕ, ◌+◌, ◌-◌, ◌*◌, ◌/◌, ◌≤◌}
+use Prim.Native.Nat.{ℕ, zero, suc, ◌+◌, ◌-◌, ◌*◌, ◌/◌, ◌^◌, ◌<◌, min}
 use native.Mathlib.Omega.{arith}
 use borrow.Author.Rules.{rules}
+use mir.Val.{Fits}
+use mir.Syntax.{w64}
 use mathlib.Core.List.{List}
-use lib.ListN.{length, get_or, drop, set}
-use Rattle.laws.proofs.Lists.{Bytes, bytes_drop, bytes_take}
+use lib.ListN.{get_or, drop, set}
 use Rattle.group.specs.declared.Group.{Group}
 use Rattle.group.specs.declared.Outcome.{Outcome}
+use Rattle.group.specs.declared.Reading.{Reading}
 use Rattle.group.specs.Group.{read, added}
 use Rattle.group.proofs.Laws.{added-kept}
-use Rattle.geometry.specs.Geometry.{stride, RowsIn}
+use Rattle.geometry.specs.Geometry.{stride}
 use Rattle.answer.specs.Order.{earlier}
-use Rattle.meter_memory.specs.Rows.{row_of, group_at, of_rows}
-use Rattle.meter_least.specs.declared.Located.{Located}
-use Rattle.meter_least.specs.Least.{in_row, lesser, least_or}
-use Rattle.meter_least.proofs.Gather.{top, top_first, least-turn, least-end, least_first}
-use Rattle.group.proofs.Outcomes.{added_eight, added_bytes}
+use Rattle.meter_memory.specs.Rows.{row_of, group_at, of_rows, least_or}
 use Rattle.answer.proofs.Order.{earlier_none}
 use Rattle.geometry.proofs.Widths.{slot_in, group_in, one_row}
 use Rattle.meter_row.specs.Row.{added_in}
-use Rattle.meter_memory.proofs.Gather.{rows_start}
+use Rattle.meter_memory.proofs.Gather.{rows_start, least-turn, least-end, least_first}
 use Rattle.meter_memory.proofs.Lists.{rows-read-all}
-use Rattle.meter_memory.proofs.Groups.{eight_at}
-use Rattle.meter_memory.proofs.Written.{rows_long, full-row}
 use Rattle.meter_memory.proofs.Tried.{Tried, tried-more, tried-all}
-use Rattle.meter_row.specs.Slots.{SlotsIn, added_status, added_counter}
+use Rattle.meter_row.specs.Slots.{added_status, added_value}
 use Rattle.meter_update.proofs.try_rows.Statement.{statement}
 use Rattle.meter_update.proofs.try_rows.Tie as tie
 
@@ -34,35 +30,39 @@ use Rattle.meter_update.proofs.try_rows.Tie as tie
 abbrev outcome : ℕ → List ℕ → ℕ → ℕ → List ℕ → Outcome
 outcome w slots amount r row = added_in w row (get_or slots r 0) amount
 
--- the rows before row r are tried, and their counters are in the least
-abbrev Gone : ℕ → ℕ → List ℕ → List ℕ → ℕ → List Group → ℕ → Located → ℕ → Type 0
-Gone d w memory slots amount groups status c r = Tried (outcome w slots amount) d w memory groups status r
-    × (least_or c (of_rows (added_counter w slots amount) (stride w) (d - r) r (drop (r * stride w) memory)) ≡ least_or top (of_rows (added_counter w slots amount) (stride w) d 0 memory))
+-- the rows before row r are tried, and their values are in the least
+abbrev Valued : ℕ → ℕ → List ℕ → List ℕ → ℕ → List Group → ℕ → ℕ → ℕ → Type 0
+Valued d w memory slots amount groups status value r = Tried (outcome w slots amount) d w memory groups status r
+    × (least_or value (of_rows (added_value w slots amount) (stride w) (d - r) r (drop (r * stride w) memory)) ≡ least_or (2 ^ 64 - 1) (of_rows (added_value w slots amount) (stride w) d 0 memory))
+    × (0 < r → added_value w slots amount 0 (row_of w memory 0) < 2 ^ 64)
 
 abbrev invariant-loop : tie.invariant-loop
-invariant-loop d w memory slots amount value level row least₀ t₀ status₀ r₀ c t status r = Gone d w memory slots amount t.groups status c r
+invariant-loop d w memory slots amount t₀ status₀ value₀ r₀ t status value r = Valued d w memory slots amount t.groups status value r
 
 abbrev decreases-loop : tie.decreases-loop
-decreases-loop d w memory slots amount value level row least₀ t₀ status₀ r₀ c t status r = d - r
+decreases-loop d w memory slots amount t₀ status₀ value₀ r₀ t status value r = d - r
 
--- the counter that row 0 is left with is not above the top
-first-counter : (d w : ℕ) (memory slots : List ℕ) (amount : ℕ) → 1 ≤ d → RowsIn d w (length memory) → SlotsIn d w slots → Bytes memory
-    → lesser top (added_counter w slots amount 0 (row_of w memory 0)) ≡ added_counter w slots amount 0 (row_of w memory 0)
-unfolding added_in row_of group_at
-first-counter d w memory slots amount some rows in_row bytes =
-    let slot = get_or slots 0 0 in
-    let row = row_of w memory 0 in
-    let g = group_at w row (slot / 8) in
-    let long = rows_long d w memory rows 0 some in
-    let at = group_in w (slot / 8) rows.0 (slot_in w slot rows.0 (in_row 0 some)) in
-    let eight = eight_at w (slot / 8) row at.0 (full-row w rows.0 row long) in
-    let small : Bytes g.counts = bytes_take 8 (drop (8 * (slot / 8)) row) (bytes_drop (8 * (slot / 8)) row (bytes_take (stride w) (drop (0 * stride w) memory) (bytes_drop (0 * stride w) memory bytes))) in
-    top_first (added g slot amount).group slot (added_eight g slot amount eight) (added_bytes g slot amount small)
+-- one row more, by the group, the status and the value that it is left with
+valued-more : (d w : ℕ) (memory slots : List ℕ) (amount : ℕ) (groups : List Group) (status value r : ℕ)
+    → Valued d w memory slots amount groups status value r → r < d
+    → (o : Outcome) (v : ℕ) → o ≡ added_in w (row_of w memory r) (get_or slots r 0) amount → v ≡ (read o.group (get_or slots r 0)).value → v < 2 ^ 64
+    → Valued d w memory slots amount (set groups r o.group) (earlier status o.status) (min value v) (r + 1)
+valued-more d w memory slots amount groups status value r i h o v is v-is l =
+    let left = v-is ∙ ap (λ (x : Outcome). (read x.group (get_or slots r 0)).value) is in (
+      tried-more (outcome w slots amount) d w memory groups status r i.0 h o is,
+      least-turn (added_value w slots amount) w d memory r value v h left ∙ i.1,
+      λ _. first_in r refl,
+    )
+  where
+    first_in : (n : ℕ) → r ≡ n → added_value w slots amount 0 (row_of w memory 0) < 2 ^ 64
+    first_in zero z = rw z at (rw (v-is ∙ ap (λ (x : Outcome). (read x.group (get_or slots r 0)).value) is) at l)
+    first_in (suc n) z = i.2 (omega (arith, z))
 
 loop-holds : tie.Need-loop-init invariant-loop decreases-loop
 loop-holds c = let a = c.before.args in (
   (omega arith, c.before.requires.1.0.1, rows_start (added_status a.w a.slots.now a.amount) a.w a.d a.memory.now, λ z k h. absurd (omega arith)),
-  ap (least_or top) (rows-read-all (added_counter a.w a.slots.now a.amount) (stride a.w) a.d a.memory.now),
+  ap (least_or (2 ^ 64 - 1)) (rows-read-all (added_value a.w a.slots.now a.amount) (stride a.w) a.d a.memory.now),
+  λ h. absurd (omega arith),
 )
 
 row-at-requires : tie.Need-row-at-requires invariant-loop decreases-loop
@@ -93,21 +93,15 @@ element-copy-out-add-in-place c = let s = c.before.before.before.before.before.b
 add-in-place-requires : tie.Need-add-in-place-requires invariant-loop decreases-loop
 add-in-place-requires c κs = search rules
 
-mul-t33 : tie.Need-overflow-mul-t33 invariant-loop decreases-loop
-mul-t33 c = search rules
+mul-t29 : tie.Need-overflow-mul-t29 invariant-loop decreases-loop
+mul-t29 c = search rules
 
 element-set-from-t : tie.Need-element-set-from-t invariant-loop decreases-loop
 element-set-from-t c = let s = c.before.before.before.before.before.before.before.before.before.before in
     omega (arith, s.requires.1.0.1)
 
-cast-in-row : tie.Need-overflow-cast-in-row invariant-loop decreases-loop
-cast-in-row c = omega (arith, c.before.before.before.before.before.before.before.before.loop-test.true, c.before.before.before.before.before.before.before.before.before.before.before.requires.1.0.1)
-
-in-row-requires : tie.Need-in-row-requires invariant-loop decreases-loop
-in-row-requires c κs = search rules
-
-lesser-requires : tie.Need-lesser-requires invariant-loop decreases-loop
-lesser-requires c κs = search rules
+smaller-requires : tie.Need-smaller-requires invariant-loop decreases-loop
+smaller-requires c κs = search rules
 
 mul-add-widening : tie.Need-overflow-mul-add-widening invariant-loop decreases-loop
 mul-add-widening c = search rules
@@ -120,7 +114,7 @@ add-widening-requires : tie.Need-add-widening-requires invariant-loop decreases-
 add-widening-requires c κs = sym c.before.before.add-in-place.ensures.0 ∙ c.before.if1.false
 
 mul-counter : tie.Need-overflow-mul-counter invariant-loop decreases-loop
-mul-counter c = omega (arith, c.before.before.before.before.before.before.before.before.before.loop-test.true, c.before.before.before.before.before.before.before.before.before.before.before.before.requires.1.0.1)
+mul-counter c = search rules
 
 element-copy-out-counter : tie.Need-element-copy-out-counter invariant-loop decreases-loop
 element-copy-out-counter c = let s = c.before.before.before.before.before.before.before.before.before.before.before.before in
@@ -140,14 +134,8 @@ element-set-from-g c = let s = c.before.before.before.before.before.before.befor
 earlier-requires : tie.Need-earlier-requires invariant-loop decreases-loop
 earlier-requires c κs = search rules
 
-cast-in-row-2 : tie.Need-overflow-cast-in-row-2 invariant-loop decreases-loop
-cast-in-row-2 c = omega (arith, c.before.before.before.before.before.before.before.before.before.before.before.before.loop-test.true, c.before.before.before.before.before.before.before.before.before.before.before.before.before.before.before.requires.1.0.1)
-
-in-row-requires-2 : tie.Need-in-row-requires-2 invariant-loop decreases-loop
-in-row-requires-2 c κs = search rules
-
-lesser-requires-2 : tie.Need-lesser-requires-2 invariant-loop decreases-loop
-lesser-requires-2 c κs = search rules
+smaller-requires-2 : tie.Need-smaller-requires-2 invariant-loop decreases-loop
+smaller-requires-2 c κs = search rules
 
 add_r : tie.Need-overflow-add-r invariant-loop decreases-loop
 add_r c = search rules
@@ -179,55 +167,49 @@ module _ (c : tie.After-add-in-place invariant-loop decreases-loop) where
   kept t = added-kept x slot s.args.amount c.add-in-place.result t c.add-in-place.ensures.0 c.add-in-place.ensures.1.0
 
   -- by which branch the addition was made is the same to what is left
-  row-tried : (groups : List Group) (status : ℕ) (l : Located) (o : Outcome) (y : Located)
-      → o ≡ added x slot s.args.amount
-      → y ≡ in_row turn.before.loop.r (read o.group slot)
+  row-tried : (groups : List Group) (status value : ℕ) (o : Outcome) (v : ℕ) → o ≡ added x slot s.args.amount → v ≡ (read o.group slot).value → v < 2 ^ 64
       → groups ≡ set turn.before.loop.t.groups turn.before.loop.r o.group
       → status ≡ earlier turn.before.loop.status o.status
-      → l ≡ lesser turn.before.loop.least y
-      → Gone s.args.d s.args.w s.args.memory.now s.args.slots.now s.args.amount groups status l (turn.before.loop.r + 1)
-  row-tried groups status l o y is y-is e f g =
+      → value ≡ min turn.before.loop.value v
+      → Valued s.args.d s.args.w s.args.memory.now s.args.slots.now s.args.amount groups status value (turn.before.loop.r + 1)
+  row-tried groups status value o v is v-is lt e f g =
       let a = s.args in
-      let i = turn.before.loop in
-      let left = y-is ∙ ap (λ (z : Outcome). in_row i.r (read z.group slot)) (is ∙ group_is) in
-      rw (e, f, g) (
-        tried-more (outcome a.w a.slots.now a.amount) a.d a.w a.memory.now i.t.groups i.status i.r i.inv.0 turn.loop-test.taken o (is ∙ group_is),
-        least-turn (added_counter a.w a.slots.now a.amount) a.w a.d a.memory.now i.r i.least y turn.loop-test.taken left ∙ i.inv.1,
-      )
+      let l = turn.before.loop in
+      rw (e, f, g)
+      (valued-more a.d a.w a.memory.now a.slots.now a.amount l.t.groups l.status l.value l.r l.inv turn.loop-test.taken o v (is ∙ group_is) v-is lt)
 
 loop-again : tie.Need-loop-preserved invariant-loop decreases-loop
 loop-again c = let b = c.before in
     let k = b.add-in-place in
-    let r = (turn b).before.loop.r in
     ⊎_elim
     (λ w.
-    row-tried b c.if1.t.groups c.if1.status c.if1.least
+    row-tried b c.if1.t.groups c.if1.status c.if1.value
     (record { status = 0; group = record { counts = k.result.counts; merge = (x b).merge } })
-    w.3.result
+    k.result.value
     (sym (kept b w.0.taken))
-    (w.3.ensures ∙ ap (in_row r) (rw w.0.taken at k.ensures.1.1 ∙ ap (λ (o : Outcome). read o.group (slot b)) (kept b w.0.taken)))
-    (ap (λ t. t.groups) w.6)
-    (w.7 ∙ sym (earlier_none (turn b).before.loop.status))
-    (w.5 ∙ w.4.ensures))
+    (rw w.0.taken at k.ensures.1.1 ∙ ap (λ (o : Outcome). (read o.group (slot b)).value) (kept b w.0.taken))
+    (omega arith)
+    (ap (λ t. t.groups) w.3)
+    (w.4 ∙ sym (earlier_none (turn b).before.loop.status))
+    (w.5 ∙ w.2.ensures))
     (λ w.
-    row-tried b c.if1.t.groups c.if1.status c.if1.least w.2.result w.7.result w.2.ensures
-    (w.7.ensures ∙ ap (in_row r) w.5.ensures)
-    (ap (λ t. t.groups) w.10)
-    (w.11 ∙ w.6.ensures)
-    (w.9 ∙ w.8.ensures))
+    row-tried b c.if1.t.groups c.if1.status c.if1.value w.2.result w.5.result.value w.2.ensures
+    (ap (λ (v : Reading). v.value) w.5.ensures)
+    (let fit : Fits w64 w.5.result.value = search (rules, w.5) in fit.fits)
+    (ap (λ t. t.groups) w.8)
+    (w.9 ∙ w.6.ensures)
+    (w.10 ∙ w.7.ensures))
     c.if1.branch
 
 returns : tie.Need-returns invariant-loop decreases-loop
 returns c = let a = c.before.before.before.args in
     let l = c.before.loop in
-    let p = c.before.before.before.requires in
     let all = tried-all (outcome a.w a.slots.now a.amount) a.d a.w a.memory.now l.t.groups l.status l.r l.invariant.0 (omega arith) in (
       all.0,
       (
-        sym (least-end (added_counter a.w a.slots.now a.amount) a.w a.d a.memory.now l.r l.least (omega arith))
+        sym (least-end (added_value a.w a.slots.now a.amount) a.w a.d a.memory.now l.r l.value (omega arith))
             ∙ l.invariant.1
-            ∙ least_first (added_counter a.w a.slots.now a.amount) a.w a.d a.memory.now top p.0
-            (first-counter a.d a.w a.memory.now a.slots.now a.amount p.0 p.1.0 p.1.1 (λ i. (c.before.before.shared-slice-known.given i).fits)),
+            ∙ least_first (added_value a.w a.slots.now a.amount) a.w a.d a.memory.now c.before.before.before.requires.0 (l.invariant.2 (omega (arith, c.before.before.before.requires.0))),
         all.1,
       ),
     )
@@ -246,11 +228,9 @@ try-rows-spec =
     mul-add-in-place
     element-copy-out-add-in-place
     add-in-place-requires
-    mul-t33
+    mul-t29
     element-set-from-t
-    cast-in-row
-    in-row-requires
-    lesser-requires
+    smaller-requires
     mul-add-widening
     element-copy-out-add-widening
     add-widening-requires
@@ -260,9 +240,7 @@ try-rows-spec =
     mul-g
     element-set-from-g
     earlier-requires
-    cast-in-row-2
-    in-row-requires-2
-    lesser-requires-2
+    smaller-requires-2
     add_r
     loop-less
     loop-again

@@ -26,22 +26,22 @@ abbrev stored : ℕ → List ℕ → List Group → ℕ → List ℕ → List �
 stored w slots groups = kept_stored (storedIn w slots) groups none
 
 abbrev invariant-loop : tie.invariant-loop
-invariant-loop d w memory₀ slots amount value level row t stride r₀ memory r = (r ≤ d)
+invariant-loop d w memory₀ slots amount t stride r₀ memory r = (r ≤ d)
     × (rows_from (stored w slots t.groups) stride d r memory ≡ map_rows (stored w slots t.groups) stride d 0 memory₀)
     × (length memory ≡ length memory₀)
 
 abbrev decreases-loop : tie.decreases-loop
-decreases-loop d w memory₀ slots amount value level row t stride r₀ memory r = d - r
+decreases-loop d w memory₀ slots amount t stride r₀ memory r = d - r
 
 -- row r ends in the memory
 row-end : (c : tie.In-loop invariant-loop decreases-loop) → c.before.loop.r * c.before.before.stride.result + c.before.before.stride.result ≤ length c.before.loop.memory
 row-end c =
-    let s = c.before.before.before.before.before.before.before.before.before.before in
+    let s = c.before.before.before.before.before.before.before in
     let i = one_row s.args.d s.args.w c.before.loop.r s.requires.1.0 c.loop-test.true in
     rw c.before.before.stride.ensures (omega (arith, i.2))
 
 try-rows-requires : tie.Need-try-rows-requires invariant-loop decreases-loop
-try-rows-requires c κs = c.before.before.before.before.before.requires
+try-rows-requires c κs = c.before.before.requires
 
 same_length : tie.Need-same-length invariant-loop decreases-loop
 same_length c = search rules
@@ -51,10 +51,10 @@ returns c = let t = c.before.try-rows in
     (t.ensures.0, (t.ensures.1.0, rw (ne_eqb t.result.status 0 c.if1.true)))
 
 stride-requires : tie.Need-stride-requires invariant-loop decreases-loop
-stride-requires c κs = c.before.before.before.before.before.before.before.requires.1.0.0
+stride-requires c κs = c.before.before.before.before.requires.1.0.0
 
 loop-holds : tie.Need-loop-init invariant-loop decreases-loop
-loop-holds c = let a = c.before.before.before.before.before.before.before.before.args in
+loop-holds c = let a = c.before.before.before.before.before.args in
     (omega arith, rows_start (stored a.w a.slots.now c.before.before.try-rows.result.groups) c.stride.result a.d a.memory.now, refl)
 
 mul-a : tie.Need-overflow-mul-a invariant-loop decreases-loop
@@ -76,17 +76,17 @@ mul-update-row : tie.Need-overflow-mul-update-row invariant-loop decreases-loop
 mul-update-row c = search rules
 
 element-copy-out-update-row : tie.Need-element-copy-out-update-row invariant-loop decreases-loop
-element-copy-out-update-row c = omega (arith, c.before.before.before.before.before.before.before.before.before.before.before.requires.1.0.1)
+element-copy-out-update-row c = omega (arith, c.before.before.before.before.before.before.before.before.requires.1.0.1)
 
 mul-update-row-2 : tie.Need-overflow-mul-update-row-2 invariant-loop decreases-loop
 mul-update-row-2 c = search rules
 
 element-copy-out-update-row-2 : tie.Need-element-copy-out-update-row-2 invariant-loop decreases-loop
-element-copy-out-update-row-2 c = omega (arith, c.before.before.before.before.before.before.before.before.before.before.before.before.requires.1.0.1)
+element-copy-out-update-row-2 c = omega (arith, c.before.before.before.before.before.before.before.before.before.requires.1.0.1)
 
 update-row-requires : tie.Need-update-row-requires invariant-loop decreases-loop
 update-row-requires c κs = let l = c.before.before.before in
-    let s = l.before.before.before.before.before.before.before.before.before.before in
+    let s = l.before.before.before.before.before.before.before in
     (s.requires.1.0.0, (omega (arith, row-end l, l.before.before.stride.ensures), s.requires.1.1 l.before.loop.r l.loop-test.true))
 
 add_r : tie.Need-overflow-add-r invariant-loop decreases-loop
@@ -100,7 +100,7 @@ loop-again c = let i = c.before.before.before.before.before.before in
     let l = i.before.loop in
     let stride = i.before.before.stride.result in
     let groups = i.before.before.before.before.try-rows.result.groups in
-    let s = i.before.before.before.before.before.before.before.before.before.before in
+    let s = i.before.before.before.before.before.before.before in
     let a = s.args in
     let back = c.before.before.update-row in
     let fit = row-end i in
@@ -114,7 +114,7 @@ returns-2 : tie.Need-returns-2 invariant-loop decreases-loop
 returns-2 c = let l = c.before.loop in
     let stride = c.before.before.stride in
     let t = c.before.before.before.before.try-rows in
-    let a = c.before.before.before.before.before.before.before.before.before.before.args in (
+    let a = c.before.before.before.before.before.before.before.args in (
       sym c.before.before.before.if1.false ∙ t.ensures.0,
       (
         t.ensures.1.0,

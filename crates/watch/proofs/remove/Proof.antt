@@ -4,7 +4,7 @@ use borrow.Author.Tests.{not-true, not-false}
 use lib.ListN.{length}
 use Rattle.answer.specs.Order.{first_of}
 use Rattle.geometry.specs.Checks.{bad_key}
-use Rattle.watch_sound.proofs.Bounds.{usage_holds}
+use Rattle.watch_sound.proofs.Lengths.{usage_holds}
 use Rattle.watch_checks.specs.Checks.{bad_list}
 use Rattle.watch_checks.proofs.Lines.{list_long, key_long, arguments_none}
 use Rattle.watch.proofs.Calls.{removed-bad, removed-broken, removed-good}

@@ -1,18 +1,16 @@
-use mathlib.Core.Path.{◌≡◌, sym, ap, subst, ◌∙◌}
+use mathlib.Core.Path.{◌≡◌, sym, ap, ◌∙◌}
 use mathlib.Core.Bool.{Bool}
 use mathlib.Core.List.{List}
-use Prim.Native.Nat.{ℕ, ◌≤◌}
-use native.Mathlib.Omega.{arith}
-use Rattle.meter_least.specs.declared.Estimate.{Estimate}
+use Prim.Native.Nat.{ℕ}
 use Rattle.meter.specs.Meter.{estimated}
-use Rattle.meter.proofs.Reading.{estimate_level}
+use Rattle.answer.specs.declared.Answer.{Answer}
 use Rattle.answer.specs.Numbers.{invalid_content}
 use Rattle.answer.specs.Answers.{answer_of}
 use Rattle.answer.specs.Order.{unless, earlier}
 use Rattle.answer.proofs.Order.{none_earlier}
 use Rattle.watch_list.specs.List.{noted}
 use Rattle.watch_list.specs.Layout.{encode, decode}
-use Rattle.watch_sound.proofs.Bounds.{usage_holds}
+use Rattle.watch_sound.proofs.Lengths.{usage_holds}
 use Rattle.watch_checks.specs.Checks.{broken_list, bad_threshold, bad_lines}
 use Rattle.watch.specs.Watch.{noted_in}
 use Rattle.watch_checks.proofs.Lines.{list_sound}
@@ -84,7 +82,7 @@ returns-2 c = let u = c.before.before in
     let l = t.before in
     let e = l.before.before.before in
     let a = e.before.before.before.before.before.before.before.args in
-    let p = watched-line a.d a.w a.memory.now a.list.now a.key.now a.amount a.threshold (passed e) l.bad-content.result u.estimate-checked.result.answer.status (own_line l) t.if2.true (ap (λ (x : Estimate). x.answer.status) u.estimate-checked.ensures) in
+    let p = watched-line a.d a.w a.memory.now a.list.now a.key.now a.amount a.threshold (passed e) l.bad-content.result u.estimate-checked.result.status (own_line l) t.if2.true (ap (λ (x : Answer). x.status) u.estimate-checked.ensures) in
     (c.answer-of2.ensures ∙ ap (λ (s : ℕ). answer_of s 0) c.before.earlier.ensures ∙ p.0, p.1)
 
 update-reading-requires : tie.Need-update-reading-requires
@@ -107,21 +105,18 @@ returns-3 c = let u = c.before.before.before.before.before in
     let l = o.before in
     let e = l.before.before.before in
     let a = e.before.before.before.before.before.before.before.args in
-    let p = watched-full a.d a.w a.memory.now a.list.now a.key.now a.amount a.threshold (passed e) (sym (own_line l) ∙ o.if2.false) u.update-reading.result.answer.status u.update-reading.ensures.0 c.before.if3.true in
+    let p = watched-full a.d a.w a.memory.now a.list.now a.key.now a.amount a.threshold (passed e) (sym (own_line l) ∙ o.if2.false) u.update-reading.result.status u.update-reading.ensures.0 c.before.if3.true in
     (c.answer-of3.ensures ∙ p.0, (u.update-reading.ensures.1.0 ∙ p.1.0, p.1.1))
 
 note-requires : tie.Need-note-requires
-note-requires c κs = let t = c.before in
-    let r = t.before.before.before.before in
-    let o = r.before.before in
+note-requires c κs = let o = c.before.before.before.before.before.before.before in
     let l = o.before in
     let u = l.before in
     let e = u.before.before in
     let a = e.before.before.before.before.before.before.before.args in
     let g = lines-good a.d a.w a.memory.now a.list.now a.key.now (passed e) in
     let clean = none_earlier (broken_list a.list.now) (bad_threshold a.threshold) (sym (own_line l) ∙ o.if2.false) in
-    let level = subst (λ (x : Estimate). x.level ≤ 3) (sym (r.update-reading.ensures.1.1 t.if3.false)) (estimate_level a.d a.w _ a.key.now) in
-    (usage_holds g.1 (list_sound a.list.now clean.0) u.usage-of.ensures.1, (g.2, omega (arith, level)))
+    (usage_holds g.1 (list_sound a.list.now clean.0) u.usage-of.ensures.1, g.2)
 
 answer-of-requires-4 : tie.Need-answer-of-requires-4
 answer-of-requires-4 c κs = search rules
@@ -144,9 +139,9 @@ returns-4 c = let n = c.before.before.before in
     let left = u.update-reading in
     let p = watched-done a.d a.w a.memory.now a.list.now a.key.now a.amount a.threshold (passed e) (sym (own_line l) ∙ o.if2.false) (sym left.ensures.0 ∙ t.if3.false) in
     let is = left.ensures.1.0 in
-    let estimate = left.ensures.1.1 t.if3.false ∙ ap (λ (m : List ℕ). estimated a.d a.w m a.key.now) is in (
+    let estimate = left.ensures.1.1 t.if3.false ∙ ap (λ (m : List ℕ). (estimated a.d a.w m a.key.now).value) is in (
       c.answer-of4.ensures ∙ p.0,
-      (is ∙ p.1.0, n.note.ensures ∙ ap (λ (x : Estimate). encode (noted a.key.now x.answer.value x.level a.threshold (decode a.list.now))) estimate ∙ p.1.1),
+      (is ∙ p.1.0, n.note.ensures ∙ ap (λ (v : ℕ). encode (noted a.key.now v a.threshold (decode a.list.now))) estimate ∙ p.1.1),
     )
 
 pub update-spec : {M : Type 1} → statement M

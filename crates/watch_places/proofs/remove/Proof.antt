@@ -1,7 +1,7 @@
 use mathlib.Core.Path.{ap, ◌∙◌}
 use mathlib.Core.List.{List}
 use Prim.Native.Nat.{ℕ, ◌+◌, ◌*◌}
-use Rattle.watch_list.specs.Layout.{keys_at, estimates_at, levels_at}
+use Rattle.watch_list.specs.Layout.{keys_at, estimates_at}
 use Rattle.watch_list.specs.Parts.{closed, closed_place}
 use borrow.Author.Rules.{rules}
 use Rattle.watch_places.proofs.remove.Statement.{statement}
@@ -40,28 +40,18 @@ add-close-4 c = search rules
 close-requires-3 : tie.Need-close-requires-3
 close-requires-3 c κs = search rules
 
-add-close-5 : tie.Need-overflow-add-close-5
-add-close-5 c = search rules
-
-add-close-6 : tie.Need-overflow-add-close-6
-add-close-6 c = search rules
-
-close-requires-4 : tie.Need-close-requires-4
-close-requires-4 c κs = search rules
-
 same_length : tie.Need-same-length
 same_length c = search rules
 
 returns : tie.Need-returns
 unfolding closed_place
-returns c = let fourth = c.before.before in
-    let third = fourth.before.before.before.before in
+returns c = let third = c.before.before in
     let second = third.before.before.before.before in
     let first = second.before.before.before.before in
     let a = first.before.before.before.args in
-    let keys = second.close2.ensures ∙ ap (λ (xs : List ℕ). closed xs (keys_at + a.i * 64) (keys_at + a.n * 64) 64) first.close.ensures in
-    let estimates = third.close3.ensures ∙ ap (λ (xs : List ℕ). closed xs (estimates_at + a.i * 8) (estimates_at + a.n * 8) 8) keys in
-    fourth.close4.ensures ∙ ap (λ (xs : List ℕ). closed xs (levels_at + a.i) (levels_at + a.n) 1) estimates
+    third.close3.ensures
+    ∙ ap (λ (xs : List ℕ). closed xs (estimates_at + a.i * 8) (estimates_at + a.n * 8) 8)
+    (second.close2.ensures ∙ ap (λ (xs : List ℕ). closed xs (keys_at + a.i * 64) (keys_at + a.n * 64) 64) first.close.ensures)
 
 pub remove-spec : {M : Type 1} → statement M
 remove-spec =
@@ -78,8 +68,5 @@ remove-spec =
     mul-close-4
     add-close-4
     close-requires-3
-    add-close-5
-    add-close-6
-    close-requires-4
     same_length
     returns)

@@ -1,6 +1,6 @@
 use mathlib.Core.Path.{sym}
 use native.Mathlib.Omega.{arith}
-use Rattle.watch_sound.proofs.Bounds.{above_yes, above_no}
+use Rattle.watch_sound.proofs.Lengths.{above_yes, above_no}
 use Rattle.watch_sound.proofs.above.Statement.{statement}
 use Rattle.watch_sound.proofs.above.Tie as tie
 

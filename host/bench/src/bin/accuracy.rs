@@ -50,9 +50,8 @@ impl Traffic {
         }
         let off = |&(key, total): &(usize, u64)| {
             let answer = meter::estimate(d, w, &memory, &self.keys[key]);
-            let figure = answer.figure.figure;
-            assert!(answer.number == 0 && figure >= total, "no figure is below");
-            (figure - total) * 10 > total
+            assert!(answer.number == 0 && answer.figure >= total, "no figure is below");
+            (answer.figure - total) * 10 > total
         };
         self.totals.iter().map(off).collect()
     }

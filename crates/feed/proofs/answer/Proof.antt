@@ -1,6 +1,6 @@
 use borrow.Author.Rules.{rules}
-use Rattle.feed.proofs.estimate.Statement.{statement}
-use Rattle.feed.proofs.estimate.Tie as tie
+use Rattle.feed.proofs.answer.Statement.{statement}
+use Rattle.feed.proofs.answer.Tie as tie
 
 enum_told : tie.Need-enum-told
 enum_told c = search rules
@@ -8,17 +8,11 @@ enum_told c = search rules
 accepted-requires : tie.Need-accepted-requires
 accepted-requires c κs = search rules
 
-answered-requires : tie.Need-answered-requires
-answered-requires c κs = search rules
-
 enum-known-r : tie.Need-enum-known-r
 enum-known-r c = search rules
 
 accepted-requires-2 : tie.Need-accepted-requires-2
 accepted-requires-2 c κs = search rules
-
-answered-requires-2 : tie.Need-answered-requires-2
-answered-requires-2 c κs = search rules
 
 enum-told-2 : tie.Need-enum-told-2
 enum-told-2 c = search rules
@@ -26,17 +20,11 @@ enum-told-2 c = search rules
 accepted-requires-3 : tie.Need-accepted-requires-3
 accepted-requires-3 c κs = search rules
 
-answered-requires-3 : tie.Need-answered-requires-3
-answered-requires-3 c κs = search rules
-
 enum-known-r-2 : tie.Need-enum-known-r-2
 enum-known-r-2 c = search rules
 
 refused-at-requires : tie.Need-refused-at-requires
 refused-at-requires c κs = search rules
-
-answered-requires-4 : tie.Need-answered-requires-4
-answered-requires-4 c κs = search rules
 
 returns : tie.Need-returns
 returns c = cc
@@ -50,22 +38,18 @@ returns-3 c = cc
 returns-4 : tie.Need-returns-4
 returns-4 c = cc
 
-pub estimate-spec : {M : Type 1} → statement M
-estimate-spec =
+pub answer-spec : {M : Type 1} → statement M
+answer-spec =
     tie.close
     (tie.spec
     enum_told
     accepted-requires
-    answered-requires
     enum-known-r
     accepted-requires-2
-    answered-requires-2
     enum-told-2
     accepted-requires-3
-    answered-requires-3
     enum-known-r-2
     refused-at-requires
-    answered-requires-4
     returns
     returns-2
     returns-3

@@ -1,8 +1,8 @@
 use native.Mathlib.Omega.{arith}
 use borrow.Author.Tests.{lt-ltb, le-ltb}
 use borrow.Author.Rules.{rules}
-use Rattle.watch_sound.proofs.bound_at.Statement.{statement}
-use Rattle.watch_sound.proofs.bound_at.Tie as tie
+use Rattle.watch_sound.proofs.longest_key.Statement.{statement}
+use Rattle.watch_sound.proofs.longest_key.Tie as tie
 
 sub-if1 : tie.Need-overflow-sub-if1
 sub-if1 c = search rules
@@ -18,5 +18,5 @@ returns-2 : tie.Need-returns-2
 returns-2 c = let a = c.before.args in
     rw (le-ltb a.k a.n (omega arith))
 
-pub bound-at-spec : {M : Type 1} → statement M
-bound-at-spec = tie.close (tie.spec sub-if1 add-if1 returns returns-2)
+pub longest-key-spec : {M : Type 1} → statement M
+longest-key-spec = tie.close (tie.spec sub-if1 add-if1 returns returns-2)
