@@ -1,4 +1,6 @@
 // Document 01's numbers of refusals, and answers made of them.
+#![tactic(auto)]
+
 ghost use Rattle.std.specs.Prelude.{◌≡◌};
 ghost use Rattle.answer.specs.Answers as spec;
 ghost use Rattle.answer.specs.Answers.{answer_of};

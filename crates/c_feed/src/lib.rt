@@ -1,4 +1,6 @@
 // Feeds for C and Rust. Each function passes its arguments to the proved call and hands its answer out; include/meter.h declares it.
+#![tactic(auto)]
+
 ghost use Rattle.std.specs.Prelude.{◌≡◌};
 ghost use Rattle.feed.specs.Answers.{record_answer};
 ghost use Rattle.feed.specs.Head.{headed};

@@ -1,4 +1,6 @@
 // Images for C and Rust. Each function passes its arguments to the proved call and hands its answer out; include/meter.h declares it.
+#![tactic(auto)]
+
 ghost use Rattle.std.specs.Prelude.{◌≡◌};
 ghost use Rattle.image_format.specs.Write.{written};
 ghost use Rattle.image_format.specs.Read.{taken};

@@ -1,5 +1,7 @@
 // A signed meter's calls for C and Rust. Each function passes its arguments to the proved call and hands its answer out; include/meter.h
 // declares it.
+#![tactic(auto)]
+
 ghost use Rattle.std.specs.Prelude.{◌≡◌};
 ghost use Rattle.signed.specs.Signed.{cleared, updated, estimated, united, subtracted};
 

@@ -1,4 +1,6 @@
 // Watch lists for C and Rust. Each function passes its arguments to the proved call and hands its answer out; include/meter.h declares it.
+#![tactic(auto)]
+
 ghost use Rattle.std.specs.Prelude.{◌≡◌};
 ghost use Rattle.watch.specs.Watch.{list_cleared, watched, removed};
 

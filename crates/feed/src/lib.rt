@@ -1,4 +1,6 @@
 // Feeds: one call for the head, and one for each record and for the end. Both take any words, and look at none past the record.
+#![tactic(auto)]
+
 ghost use Rattle.std.specs.Prelude.{◌≡◌, ◌≤◌, length};
 ghost use Rattle.geometry.specs.Checks.{bad_shape, bad_key};
 ghost use Rattle.feed_records.specs.Answers.{body_answer};

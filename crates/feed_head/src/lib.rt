@@ -1,4 +1,6 @@
 // The head of a feed: the depth and the width of the meter that its records are for.
+#![tactic(auto)]
+
 ghost use Rattle.std.specs.Prelude.{◌≡◌};
 ghost use Rattle.feed_head.specs.Head.{head_depth, head_width, bad_geometry, headed};
 

@@ -1,4 +1,6 @@
 // The program's buffers: standard input read in pieces, and lines gathered for standard output.
+#![tactic(auto)]
+
 mod input;
 mod output;
 

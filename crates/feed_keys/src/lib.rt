@@ -1,4 +1,6 @@
 // The key words of a record: tested, and their bytes taken.
+#![tactic(auto)]
+
 ghost use Rattle.std.specs.Prelude.{◌≡◌, true, ◌+◌, ◌*◌, ◌^◌, ◌<◌, ◌≤◌, length, take};
 ghost use Rattle.word.specs.Word as spec;
 ghost use Rattle.feed_keys.specs.Keys.{key_words, key_payload, key_word, check_key, key_of};

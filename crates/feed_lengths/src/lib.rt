@@ -1,4 +1,6 @@
 // How many words a record or the end takes and how many must be at hand for it, by its first word.
+#![tactic(auto)]
+
 ghost use Rattle.std.specs.Prelude.{◌≡◌, ◌≤◌};
 ghost use Rattle.feed_lengths.specs.Lengths.{words_taken, words_needed};
 

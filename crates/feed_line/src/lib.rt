@@ -1,4 +1,6 @@
 // The program's lines: what follows each, and the line of a refused call.
+#![tactic(auto)]
+
 ghost use Rattle.std.specs.Prelude.{◌≡◌};
 ghost use Rattle.feed_line.specs.Line as spec;
 ghost use Rattle.feed_line.specs.Line.{is_end};

@@ -1,4 +1,6 @@
 // A feed's run without its input and output: the head's line, a cleared meter, and one step for each record and the end.
+#![tactic(auto)]
+
 ghost use Rattle.std.specs.Prelude.{◌≡◌, ◌+◌, ◌^◌, ◌<◌, ◌≤◌, length, replicate};
 ghost use Rattle.geometry.specs.Geometry as geometry;
 ghost use Rattle.geometry.specs.Checks.{bad_shape};

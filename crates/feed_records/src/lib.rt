@@ -1,4 +1,6 @@
 // The words of a record. Its key words are looked at only after its kind and key length pass.
+#![tactic(auto)]
+
 ghost use Rattle.std.specs.Prelude.{◌≡◌, ◌^◌, ◌<◌, ◌≤◌, length, take};
 ghost use Rattle.feed_records.specs.Answers.{body_answer};
 ghost use Rattle.feed_keys.specs.Keys.{key_of};

@@ -1,4 +1,6 @@
 // Where a run is, and the bytes that it receives.
+#![tactic(auto)]
+
 ghost use Rattle.std.specs.Prelude.{◌≤◌, length};
 ghost use Rattle.feed_io.specs.Buffers.{Within};
 ghost use Rattle.feed_state.specs.State.{Received};

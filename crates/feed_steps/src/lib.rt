@@ -1,4 +1,6 @@
 // One step of a run: bytes are received, a record is carried out, and its line is put behind those to be written.
+#![tactic(auto)]
+
 ghost use Rattle.std.specs.Prelude.{◌≡◌, true, false, ◌+◌, ◌*◌, ◌^◌, ◌≤◌, ◌<◌, length, take};
 ghost use Rattle.geometry.specs.Checks.{bad_shape};
 ghost use Rattle.feed.specs.Record.{recorded};

@@ -1,4 +1,6 @@
 // The text of the program's lines, put together by value. No input or output.
+#![tactic(auto)]
+
 mod text;
 
 ghost use Rattle.std.specs.Prelude.{◌≡◌, ◌≤◌};

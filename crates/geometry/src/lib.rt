@@ -1,4 +1,6 @@
 // The geometry of a meter, and the tests of a call's own arguments.
+#![tactic(auto)]
+
 ghost use Rattle.std.specs.Prelude.{◌≡◌, true};
 ghost use Rattle.geometry.specs.Geometry.{valid_depth, valid_width};
 ghost use Rattle.geometry.specs.Geometry as geometry;

@@ -1,4 +1,6 @@
 // A group of eight slots: its counters, its merge byte and its layout code.
+#![tactic(auto)]
+
 ghost use Rattle.std.specs.Prelude.{◌≡◌, false, cond};
 ghost use Rattle.group_layout.specs.Layout.{valid};
 ghost use Rattle.group.specs.Group.{read, holds, added, united_groups, widest_of, changed};

@@ -1,5 +1,7 @@
 // The counters of a block. Each function takes the block's level, its count bytes as one number, the lowest slot least significant,
 // and its merge bits. It recurses on the level.
+#![tactic(auto)]
+
 ghost use Rattle.std.specs.Prelude.{◌≡◌, ℕ, ◌+◌, ◌-◌, ◌*◌, ◌/◌, ◌%◌, ◌^◌, ◌<◌, ◌≤◌, ltb};
 ghost use Rattle.group_block.specs.Block.{cap, block};
 ghost use Rattle.group_block.specs.Block as spec;

@@ -1,4 +1,6 @@
 // Layout codes of a group and of four groups.
+#![tactic(auto)]
+
 ghost use Rattle.std.specs.Prelude.{◌≡◌, ◌&&◌};
 ghost use Rattle.group.specs.Group.{valid_merge};
 ghost use Rattle.group_codes.specs.Pack.{group_code, packed, unpacked};

@@ -1,5 +1,7 @@
 // A group's counters in slot order as bit fields of its count bytes, taken as one number: the counter that starts at slot k has its lowest
 // bit at place 8 * k. Which fields are whose, the laws of this crate say by what is read of a group's slots.
+#![tactic(auto)]
+
 ghost use Rattle.std.specs.Prelude.{◌≡◌, ◌+◌, ◌^◌, ◌<◌, ◌≤◌};
 ghost use Rattle.group_fields.specs.Fields.{no_fields, fields_of, counts_of, bits_at, put};
 

@@ -1,5 +1,7 @@
 // The merge bits of a block and its layout code. Each function takes the block's level and its merge bits as a number; those that
 // take a block apart recurse on the level.
+#![tactic(auto)]
+
 ghost use Rattle.std.specs.Prelude.{◌≡◌, ◌+◌, ◌-◌, ◌*◌, ◌/◌, ◌%◌, ◌^◌, ◌<◌, ◌≤◌};
 ghost use Rattle.group_layout.specs.Layout as spec;
 ghost use Rattle.group_layout.specs.Layout.{bit, layout, marks};

@@ -1,4 +1,6 @@
 // The merge byte of a group, the levels of its counters, and their places in the count bytes taken as one number.
+#![tactic(auto)]
+
 ghost use Rattle.std.specs.Prelude.{◌≡◌, true, ◌+◌, ◌-◌, ◌*◌, ◌/◌, ◌%◌, ◌^◌, ◌<◌, ◌≤◌};
 ghost use Rattle.group_layout.specs.Layout.{layout, valid, level_of};
 ghost use Rattle.group_layout.specs.Layout as layout_spec;

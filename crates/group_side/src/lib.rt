@@ -1,5 +1,7 @@
 // Unmerged groups side by side: the count bytes of eight of them united at once, and merge bytes tested together. Of loops with no test
 // on the way, and of 64 turns where they go over count bytes, the compiler makes vector code.
+#![tactic(auto)]
+
 ghost use Rattle.std.specs.Prelude.{◌≡◌, ◌+◌, ◌/◌, not, ◌&&◌, length, if◌then◌else◌, ◌==◌};
 ghost use Rattle.little_endian.specs.Bytes.{number};
 ghost use Rattle.group.specs.Group.{united_groups};

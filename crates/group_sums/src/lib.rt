@@ -1,5 +1,7 @@
 // What a group's calls compute of its count bytes, taken as one number, and its merge byte: the counter of a slot, additions, another
 // value in a counter, and whether the counters of two groups fit one.
+#![tactic(auto)]
+
 ghost use Rattle.std.specs.Prelude.{◌≡◌, true, false, not, ◌+◌, ◌-◌, ◌/◌, ◌%◌, ◌^◌, ◌<◌, ◌≤◌, ltb};
 ghost use Rattle.group_layout.specs.Layout.{layout, valid, level_of};
 ghost use Rattle.group_block.specs.Block.{cap, block, counter_at};

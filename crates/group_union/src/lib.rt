@@ -1,5 +1,7 @@
 // Two blocks united. Blocks come as in group_block: the level, the count bytes as one number, the lowest slot least significant, and
 // the merge bits. The union recurses on the level.
+#![tactic(auto)]
+
 ghost use Rattle.std.specs.Prelude.{◌≡◌, ℕ, ◌+◌, ◌/◌, ◌%◌, ◌<◌, ◌≤◌};
 ghost use Rattle.group_layout.specs.Layout.{merged, halves, marks};
 ghost use Rattle.group_block.specs.Block.{cap, block};

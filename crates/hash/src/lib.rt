@@ -1,4 +1,6 @@
 // FNV-1a of 32 bits, and the slot and the sign of a hash.
+#![tactic(auto)]
+
 ghost use Rattle.std.specs.Prelude.{◌≡◌, ◌%◌, ◌^◌, ◌<◌};
 ghost use Rattle.hash.specs.Hash.{basis, fnv_step, fnv, row_hash, slot_of, sign_of};
 

@@ -1,4 +1,6 @@
 // The image of a meter: 32-bit words that hold its depth, its width, and every counter at its layout.
+#![tactic(auto)]
+
 ghost use Rattle.std.specs.Prelude.{◌≡◌, ◌≤◌, length};
 ghost use Rattle.image_format.specs.Write.{written};
 ghost use Rattle.image_format.specs.Read.{taken};

@@ -1,4 +1,6 @@
 // Checking the words of an image, before anything is read from them.
+#![tactic(auto)]
+
 ghost use Rattle.std.specs.Prelude.{◌≡◌, true, ◌≤◌};
 ghost use Rattle.group_codes.specs.Codes.{AllCodes, merges_of};
 ghost use Rattle.geometry.specs.Geometry.{largest_width};

@@ -1,4 +1,6 @@
 // The words of a group's counters in an image. Each function takes the position of its first word and gives the position after its last.
+#![tactic(auto)]
+
 ghost use Rattle.std.specs.Prelude.{◌≡◌, true, ◌+◌, ◌≤◌, length};
 ghost use Rattle.std.proofs.lemmas.List.Edits.{sets};
 ghost use Rattle.group.specs.Group.{valid_merge};

@@ -1,4 +1,6 @@
 // What an image's words are: words, the counters that they hold, and tables by merge byte.
+#![tactic(auto)]
+
 ghost use Rattle.std.specs.Prelude.{◌≡◌, ◌+◌, ◌^◌, ◌<◌, ◌≤◌, length, take};
 ghost use Rattle.geometry.specs.Geometry.{largest_log};
 ghost use Rattle.group_codes.specs.Pack.{layouts_of};

@@ -1,4 +1,6 @@
 // Checking the words of one group's counters.
+#![tactic(auto)]
+
 ghost use Rattle.std.specs.Prelude.{◌≡◌, true, ◌<◌};
 ghost use Rattle.group_codes.specs.Pack.{layouts_of, code_merge};
 ghost use Rattle.image_format.specs.Read.{check_parts, check_slots};

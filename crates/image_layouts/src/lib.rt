@@ -1,4 +1,6 @@
 // The layouts of an image's groups, from their codes.
+#![tactic(auto)]
+
 ghost use Rattle.std.specs.Prelude.{◌≡◌, ℕ, ◌≤◌, ◌<◌};
 ghost use Rattle.group_codes.specs.Pack.{layouts_of, code_merge};
 ghost use Rattle.group_codes.specs.Codes.{AllCodes, merges_of};

@@ -1,4 +1,6 @@
 // Before an image is written: whether every merge byte is valid, and how many words the image has.
+#![tactic(auto)]
+
 ghost use Rattle.std.specs.Prelude.{◌≡◌, true, false, ◌+◌, ◌*◌, ◌/◌, ◌<◌, ◌≤◌, length, drop};
 ghost use Rattle.geometry.specs.Geometry.{largest_width, RowsIn};
 ghost use Rattle.image_format.specs.Image.{groups_words, row_words, rows_words};

@@ -1,4 +1,6 @@
 // Writing an image. Each function that writes takes the position of its first word and gives the position after its last.
+#![tactic(auto)]
+
 ghost use Rattle.std.specs.Prelude.{◌≡◌, ◌++◌, ◌+◌, ◌*◌, ◌/◌, ◌<◌, ◌≤◌, length, drop};
 ghost use Rattle.std.proofs.lemmas.List.Edits.{sets};
 ghost use Rattle.group_codes.specs.Pack.{layouts_of};

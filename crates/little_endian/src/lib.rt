@@ -1,4 +1,6 @@
 // Eight bytes and the number that they make.
+#![tactic(auto)]
+
 ghost use Rattle.std.specs.Prelude.{◌≡◌, ◌+◌, ◌*◌};
 ghost use Rattle.little_endian.specs.Bytes.{number, bytes};
 

@@ -1,6 +1,8 @@
 // A meter in lent memory: clearing, updates, estimates, the widest level and unions. Every call takes any depth, width, memory and
 // key, and answers by document 01's number, place and figure. A refused call leaves the memory as it was. `update_checked`, `update_reading`
 // and `estimate_checked` are for callers that have made the tests before them.
+#![tactic(auto)]
+
 ghost use Rattle.std.specs.Prelude.{◌≡◌, length, replicate};
 ghost use Rattle.meter.specs.Meter.{cleared, bad_call, updated, estimated};
 ghost use Rattle.meter.specs.Meter as spec;

@@ -1,4 +1,6 @@
 // The slots of a key, in one row and in several, and its hashes there. The hashes of four rows advance side by side: none waits for another.
+#![tactic(auto)]
+
 ghost use Rattle.std.specs.Prelude.{◌≡◌, true, ℕ, ◌+◌, ◌<◌, ◌≤◌, get_or};
 ghost use Rattle.hash.specs.Hash.{fnv_step, fnv, row_hash};
 ghost use Rattle.geometry.specs.Geometry.{valid_width};

@@ -1,4 +1,6 @@
 // Where rows and groups lie in a meter's memory.
+#![tactic(auto)]
+
 ghost use Rattle.std.specs.Prelude.{◌≡◌, ◌++◌, ◌+◌, ◌*◌, ◌<◌, ◌≤◌, length, take, drop};
 ghost use Rattle.geometry.specs.Geometry.{RowIn};
 ghost use Rattle.geometry.specs.Geometry as geometry;

@@ -1,4 +1,6 @@
 // One row of a meter: what an estimate and the widest level read of it, and an update in it.
+#![tactic(auto)]
+
 ghost use Rattle.std.specs.Prelude.{◌≡◌, true, cond, ◌/◌, ◌<◌, min, max, eqb, length};
 ghost use Rattle.geometry.specs.Geometry.{valid_width};
 ghost use Rattle.geometry.specs.Geometry as geometry;

@@ -1,4 +1,6 @@
 // The rows of a meter one after another: reading counters by the slots of the rows, the widest level and unions.
+#![tactic(auto)]
+
 ghost use Rattle.std.specs.Prelude.{◌≡◌, ◌≤◌, length};
 ghost use Rattle.geometry.specs.Geometry.{RowsIn};
 ghost use Rattle.geometry.specs.Geometry as geometry;

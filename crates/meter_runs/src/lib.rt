@@ -1,4 +1,6 @@
 // Runs of groups in a row and in a source row: whether some of them is merged, by their merge bytes.
+#![tactic(auto)]
+
 ghost use Rattle.std.specs.Prelude.{◌≡◌};
 ghost use Rattle.meter_runs.specs.Runs.{InRows, none_merged};
 

@@ -1,5 +1,7 @@
 // An update in the rows of a meter by the slots of the rows, and the least value of the counters that it leaves. Every row is tried before any
 // is written.
+#![tactic(auto)]
+
 ghost use Rattle.std.specs.Prelude.{◌≡◌, cond, ◌≤◌, eqb, length};
 ghost use Rattle.geometry.specs.Geometry.{RowsIn};
 ghost use Rattle.geometry.specs.Geometry as geometry;

@@ -1,4 +1,6 @@
 // Runs a feed from standard input into a cleared meter, and prints a line for its head, each record and its end.
+#![tactic(auto)]
+
 ghost use Rattle.std.specs.Prelude.{◌≡◌, true, false, ◌+◌, ◌^◌, ◌≤◌, ◌<◌, length, take};
 ghost use Rattle.geometry.specs.Checks.{bad_shape};
 ghost use Rattle.feed.specs.Head.{headed};

@@ -1,5 +1,7 @@
 // A signed meter in lent memory: clearing, updates, estimates, and sources added and taken away. Every call takes any depth, width, memory
 // and key, and answers by document 01's number, place and figure. A refused call leaves the memory as it was.
+#![tactic(auto)]
+
 ghost use Rattle.std.specs.Prelude.{◌≡◌};
 ghost use Rattle.signed.specs.Signed.{bad_parity, bad_shape, bad_call, cleared, updated, estimated, signed_answer, combined_meters, united, subtracted};
 

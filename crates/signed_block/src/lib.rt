@@ -1,5 +1,7 @@
 // The counters of a block of a signed meter: sign and magnitude. Blocks come as in group_block: the level, the count bytes as one
 // number, the lowest slot least significant, and the merge bits. Each function that takes a block apart recurses on the level.
+#![tactic(auto)]
+
 ghost use Rattle.std.specs.Prelude.{◌≡◌, true, cond, ℕ, ◌+◌, ◌≤◌, ◌<◌, ◌^◌, ◌+ℤ◌};
 ghost use Rattle.group_block.specs.Block.{cap};
 ghost use Rattle.group_block.specs.Block as block_spec;

@@ -1,1 +1,2 @@
 // Claims over lists of calls of a signed meter: proofs only.
+#![tactic(auto)]

@@ -1,4 +1,6 @@
 // A group of a signed meter: eight slots whose counters are sign and magnitude, and their merge byte.
+#![tactic(auto)]
+
 ghost use Rattle.std.specs.Prelude.{◌≡◌, true, ◌<◌, ◌^◌};
 ghost use Rattle.group.specs.Group.{settle};
 ghost use Rattle.group_block.specs.Sum.{SumOf};

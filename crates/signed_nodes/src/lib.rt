@@ -1,5 +1,7 @@
 // The union of two blocks of a signed meter by the unions of their halves, level by level, without branches on what counters hold. Totals
 // are raised by a bias, so that none is below 0 and signs, which are as good as random, are part of the numbers.
+#![tactic(auto)]
+
 ghost use Rattle.std.specs.Prelude.{◌≡◌, cond, ◌+◌, ◌*◌, ◌≤◌, ◌<◌, ◌^◌};
 ghost use Rattle.std.proofs.Math.IntN.{sub_ℕ};
 ghost use Rattle.group_block.specs.Block.{cap};

@@ -1,4 +1,6 @@
 // Integers as sign and magnitude, as the counters of a signed meter hold them.
+#![tactic(auto)]
+
 ghost use Rattle.std.specs.Prelude.{◌≡◌, cond, ℕ, ◌+◌, ◌≤◌, ◌<◌, ◌^◌, ltb, ◌+ℤ◌, nat_abs};
 ghost use Rattle.std.specs.Bool.{beq};
 ghost use Rattle.std.proofs.Math.IntN.{sub_ℕ};

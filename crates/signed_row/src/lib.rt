@@ -1,5 +1,7 @@
 // One row of a signed meter: what an estimate reads of it, what an update leaves in a group of it, and a source's row added to it or
 // taken away.
+#![tactic(auto)]
+
 ghost use Rattle.std.specs.Prelude.{◌≡◌, Bool, true, cond, ◌/◌, ◌<◌, ◌^◌, length};
 ghost use Rattle.geometry.specs.Geometry.{valid_width};
 ghost use Rattle.geometry.specs.Geometry as geometry;

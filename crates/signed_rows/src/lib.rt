@@ -1,5 +1,7 @@
 // The rows of a signed meter one after another: the median of their figures by the hashes of the key there, and a source's rows added or
 // taken away.
+#![tactic(auto)]
+
 ghost use Rattle.std.specs.Prelude.{◌≡◌, ◌≤◌, ◌<◌, ◌^◌, length};
 ghost use Rattle.answer.specs.Order.{earliest};
 ghost use Rattle.answer.specs.Order as order;

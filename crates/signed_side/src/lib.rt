@@ -1,5 +1,7 @@
 // Unmerged groups of a signed meter side by side: the count bytes of eight of them combined with those of a source at once. Of loops
 // of 64 turns with no test on the way the compiler makes vector code.
+#![tactic(auto)]
+
 ghost use Rattle.std.specs.Prelude.{◌≡◌, ◌<◌, true, false, length, if◌then◌else◌};
 ghost use Rattle.signed_side.specs.Side.{Accepted, Combined, InSlot, HoldsSum, HoldSums};
 ghost use Rattle.signed_side.specs.Side as spec;

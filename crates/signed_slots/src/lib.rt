@@ -1,5 +1,7 @@
 // Sums of the slots of two signed groups, taken as unmerged, all eight at once: a word of 64 bits has a slot in each of its bytes,
 // no sum of two magnitudes passes its byte, and signs, which are as good as random, are bits and no branches.
+#![tactic(auto)]
+
 ghost use Rattle.std.specs.Prelude.{◌≡◌, ◌<◌, ◌^◌};
 ghost use Rattle.signed_slots.specs.Slots.{ones, lows};
 ghost use Rattle.signed_slots.specs.Slots as spec;

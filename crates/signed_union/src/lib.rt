@@ -1,4 +1,6 @@
 // Two groups of a signed meter united without recursion and without branches on what counters hold, from the slots up.
+#![tactic(auto)]
+
 ghost use Rattle.std.specs.Prelude.{◌≡◌, false, cond, ◌+◌, ◌/◌, ◌%◌, ◌≤◌, ◌<◌, ◌^◌, eqb, ◌+ℤ◌};
 ghost use Rattle.group_layout.specs.Layout.{layout};
 ghost use Rattle.group_layout.specs.Merged.{is_merged};

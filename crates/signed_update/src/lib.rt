@@ -1,4 +1,6 @@
 // An update in the rows of a signed meter, by the hashes of the key there. Every row is tried before any is written.
+#![tactic(auto)]
+
 ghost use Rattle.std.specs.Prelude.{◌≡◌, true, ◌<◌, ◌^◌, length};
 ghost use Rattle.geometry.specs.Geometry.{valid_width, RowIn, RowsIn};
 ghost use Rattle.geometry.specs.Geometry as geometry;

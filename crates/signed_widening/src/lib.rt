@@ -1,4 +1,6 @@
 // An amount added to a counter of a signed group that does not hold the sum.
+#![tactic(auto)]
+
 ghost use Rattle.std.specs.Prelude.{◌≡◌, true, false, ◌^◌, ◌<◌, ◌≤◌};
 ghost use Rattle.group_block.specs.Sum as sum_spec;
 ghost use Rattle.signed_number.specs.Number.{integer_of, signed_of};

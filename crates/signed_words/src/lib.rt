@@ -1,5 +1,7 @@
 // What a signed group's calls compute of its count bytes, taken as one number, and its merge byte: whether a counter is minus zero,
 // every counter with the other sign, the counter of a slot, and an addition that its counter holds.
+#![tactic(auto)]
+
 ghost use Rattle.std.specs.Prelude.{◌≡◌, true, ◌+◌, ◌-◌, ◌<◌, ◌≤◌, ◌^◌, ltb, ◌+ℤ◌, nat_abs};
 ghost use Rattle.group_layout.specs.Layout.{layout, valid, level_of};
 ghost use Rattle.group_block.specs.Block.{cap, number_of, all_clean, counter_value};

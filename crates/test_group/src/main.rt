@@ -1,4 +1,6 @@
 // Cases run by the compiled code; what they print is compared with `stdout` beside src/.
+#![tactic(auto)]
+
 ghost use Rattle.std.specs.Prelude.{◌≡◌, true};
 ghost use Rattle.geometry.specs.Geometry.{valid_width};
 

@@ -1,4 +1,6 @@
 // Images written and read by the compiled code; what is printed is compared with `stdout` beside src/.
+#![tactic(auto)]
+
 ghost use Rattle.std.specs.Prelude.{◌≤◌, ◌<◌};
 
 use answer::Answer;

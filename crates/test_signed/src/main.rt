@@ -1,4 +1,6 @@
 // A signed meter's calls run by the compiled code; what they print is compared with `stdout` beside src/.
+#![tactic(auto)]
+
 use answer::Answer;
 use hash::Hash;
 use libc::STDOUT_FILENO;

@@ -1,5 +1,7 @@
 // One key is sent in packets of 64 bytes, past four gibibytes. The estimate is printed at every 2^28 bytes, and compared with the true
 // sum in `stdout` beside src/.
+#![tactic(auto)]
+
 use answer::Answer;
 use libc::STDOUT_FILENO;
 

@@ -1,4 +1,6 @@
 // A watch list's calls run by the compiled code; what they print is compared with `stdout` beside src/.
+#![tactic(auto)]
+
 use answer::Answer;
 use hash::Hash;
 use libc::STDOUT_FILENO;

@@ -1,5 +1,7 @@
 // A watch list of heavy keys beside a meter: clearing it, updates through it, taking a key off. Every call takes any bytes, and answers by
 // number, place and figure. A refused call leaves the memory and the list as they were.
+#![tactic(auto)]
+
 ghost use Rattle.std.specs.Prelude.{◌≡◌};
 ghost use Rattle.watch.specs.Watch.{list_cleared, watched, removed};
 

@@ -1,4 +1,6 @@
 // What the calls of a watch list test of their arguments and of a list's content: numbers 1 to 5 and 11.
+#![tactic(auto)]
+
 ghost use Rattle.std.specs.Prelude.{◌≡◌, [], ◌∷◌, length};
 ghost use Rattle.answer.specs.Numbers.{invalid_content};
 ghost use Rattle.answer.specs.Order as order;

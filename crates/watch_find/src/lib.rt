@@ -1,4 +1,6 @@
 // Where a key is in a watch list.
+#![tactic(auto)]
+
 ghost use Rattle.std.specs.Prelude.{◌≡◌, true, ◌+◌, ◌<◌, ◌≤◌};
 ghost use Rattle.watch_list.specs.Layout.{places_from};
 ghost use Rattle.watch_list.specs.Parts.{index_of, Holds, KeyLong};

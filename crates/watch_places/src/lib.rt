@@ -1,4 +1,6 @@
 // Changes of a watch list in its bytes: renewing, joining, the mark, taking off.
+#![tactic(auto)]
+
 ghost use Rattle.std.specs.Prelude.{◌≡◌, ◌++◌, ◌+◌, ◌-◌, ◌<◌, ◌≤◌, length, get_or, replicate};
 ghost use Rattle.watch_list.specs.List.{joining, noted, taken_off};
 ghost use Rattle.watch_list.specs.Layout.{list_size, encode, decode};

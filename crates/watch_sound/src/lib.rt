@@ -1,4 +1,6 @@
 // Whether a watch list's bytes are sound, and how many of its places are in use.
+#![tactic(auto)]
+
 ghost use Rattle.std.specs.Prelude.{◌≡◌, ◌<◌, ◌≤◌, length, take};
 ghost use Rattle.watch_list.specs.Layout.{list_size, sound};
 ghost use Rattle.watch_sound.specs.Lengths.{longest_key, above_at, too_long};

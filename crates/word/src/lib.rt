@@ -1,5 +1,7 @@
 // Words of images and feeds: the top four bits of a word are its kind and the low 28 its payload. A reader goes from word to word and
 // stops at the first that is faulty.
+#![tactic(auto)]
+
 ghost use Rattle.std.specs.Prelude.{◌≡◌, ◌*◌, ◌^◌, ◌<◌};
 ghost use Rattle.std.specs.Int.Bits.{bit_xor};
 ghost use Rattle.word.specs.Word as spec;

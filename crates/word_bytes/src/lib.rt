@@ -1,4 +1,6 @@
 // Words from bytes, high byte first. No input or output.
+#![tactic(auto)]
+
 ghost use Rattle.std.specs.Prelude.{◌≡◌, ◌++◌, ◌+◌, ◌*◌, ◌≤◌, ◌<◌, min, length, get_or, take, drop};
 ghost use Rattle.word_bytes.specs.Words.{word_of, whole_words};
 

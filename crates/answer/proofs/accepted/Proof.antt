@@ -1,9 +1,0 @@
-use mathlib.Core.Path.{refl}
-use Rattle.answer.proofs.accepted.Statement.{statement}
-use Rattle.answer.proofs.accepted.Tie as tie
-
-returns : tie.Need-returns
-returns c = refl
-
-pub accepted-spec : {M : Type 1} → statement M
-accepted-spec = tie.close (tie.spec returns)

@@ -1,0 +1,43 @@
+use mathlib.Core.Path.{◌≡◌, sym, ◌∙◌}
+use mathlib.Core.Bool.{true, false}
+use native.Mathlib.Omega.{arith}
+use borrow.Author.Tests.{eq-eqb, ne_eqb, not-true, not-false}
+use Rattle.geometry.specs.Geometry.{valid_depth, valid_width, size}
+use Rattle.answer.specs.Order.{first_of}
+use Rattle.geometry.proofs.Widths.{size_in}
+use borrow.Author.Rules.{rules}
+use Rattle.geometry.proofs.bad_shape.Goals as goal
+use Rattle.geometry.proofs.bad_shape.Goals.{Else-not-valid_depth, Else-not-valid_width, Then-not-valid_depth, Then-not-valid_width}
+
+depth-bad : (c : Then-not-valid_depth) → valid_depth c.args.d ≡ false
+depth-bad c = sym c.valid_depth.ensures ∙ not-true _ c.if-not-valid_depth.true
+
+depth-good : (c : Else-not-valid_depth) → valid_depth c.args.d ≡ true
+depth-good c = sym c.valid_depth.ensures ∙ not-false _ c.if-not-valid_depth.false
+
+width-bad : (c : Then-not-valid_width) → valid_width c.args.w ≡ false
+width-bad c = sym c.valid_width.ensures ∙ not-true _ c.if-not-valid_width.true
+
+width-good : (c : Else-not-valid_width) → valid_width c.args.w ≡ true
+width-good c = sym c.valid_width.ensures ∙ not-false _ c.if-not-valid_width.false
+
+pub returns-then-not-valid_depth : goal.returns-then-not-valid_depth
+unfolding first_of
+returns-then-not-valid_depth c = rw (depth-bad c)
+
+pub returns-then-not-valid_width : goal.returns-then-not-valid_width
+unfolding first_of
+returns-then-not-valid_width c = rw (depth-good (goal.at.returns-then-not-valid_width c).Else-not-valid_depth, width-bad c)
+
+pub stride-requires : goal.stride-requires
+stride-requires c = width-good c
+
+pub returns-then-bytes-d : goal.returns-then-bytes-d
+unfolding first_of size
+returns-then-bytes-d c = let a = c.args in
+    rw (depth-good (goal.at.returns-then-bytes-d c).Else-not-valid_depth, width-good (goal.at.returns-then-bytes-d c).Else-not-valid_width, ne_eqb a.bytes (size a.d a.w) (λ e. c.if-bytes-d.true (rw c.stride.ensures e)))
+
+pub returns : goal.returns
+unfolding first_of size
+returns c = let a = c.args in
+    rw (depth-good (goal.at.returns c).Else-not-valid_depth, width-good (goal.at.returns c).Else-not-valid_width, eq-eqb a.bytes (size a.d a.w) (rw c.stride.ensures at c.if-bytes-d.false))

@@ -1,0 +1,12 @@
+use mathlib.Core.Path.{ap}
+use Prim.Native.Nat.{ℕ, ◌%◌, ◌^◌}
+use native.Mathlib.Omega.{arith}
+use Rattle.laws.proofs.Shifts.{one_shl}
+use lib.Bits.{and_mask}
+use lib.Pow.{pow_pos}
+use borrow.Author.Rules.{rules}
+use Rattle.group_layout.proofs.low.Goals as goal
+
+pub returns : goal.returns
+returns c = rw (one_shl 8 c.slots.result (omega arith), and_mask c.args.merge c.slots.result)
+    (ap (λ (k : ℕ). c.args.merge % 2 ^ k) c.slots.ensures.value)

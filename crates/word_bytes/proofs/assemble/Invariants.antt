@@ -1,0 +1,15 @@
+use lib.Seq.{length-take-le}
+use mathlib.Core.Path.{◌≡◌, refl, sym, ap, ◌∙◌}
+use mathlib.Core.List.{◌++◌}
+use Prim.Native.Nat.{◌-◌, ◌/◌, ◌≤◌, min}
+use native.Mathlib.Omega.{arith}
+use lib.ListN.{length, take, drop, length-set}
+use borrow.Author.Rules.{rules}
+use Rattle.word_bytes.specs.Words.{whole_words}
+use Rattle.laws.proofs.Lists.{copy_more}
+use Rattle.word_bytes.proofs.Laws.{words_length, lent_words}
+use Rattle.word_bytes.proofs.assemble.Given as goal
+
+abbrev pub invariant-loop-i : goal.invariant-loop-i
+invariant-loop-i l = (l.i ≤ l.n) × (l.n ≡ min (length l.initial.words) (length l.bytes / 4)) × (length l.words ≡ length l.initial.words)
+    × (l.words ≡ take l.i (whole_words l.bytes) ++ drop l.i l.initial.words)
