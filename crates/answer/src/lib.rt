@@ -54,7 +54,7 @@ const ORDER: [u8; 13] = [
 ];
 
 // What a call answers: document 01's number, place and figure.
-#[derive(Drop)]
+#[derive(Clone, Copy)]
 pub struct Answer {
     pub status: u8,
     pub position: u64,

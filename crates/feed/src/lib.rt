@@ -15,7 +15,7 @@ pub use feed_lengths::{words_needed, words_taken};
 use feed_records::{Body, Opening};
 
 // What a record or the end did.
-#[derive(Drop)]
+#[derive(Clone, Copy)]
 pub enum Recorded {
     Updated,
     Estimate { value: u64 },

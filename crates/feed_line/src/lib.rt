@@ -5,7 +5,7 @@ ghost use Rattle.std.specs.Prelude.{◌≡◌};
 ghost use Rattle.feed_line.specs.Line as spec;
 ghost use Rattle.feed_line.specs.Line.{is_end};
 
-#[derive(Drop)]
+#[derive(Clone, Copy)]
 pub enum Line {
     Geometry { d: usize, w: usize },
     Updated,

@@ -20,7 +20,7 @@ use feed_line::Line;
 pub const MOST_SLOTS: usize = 4096;
 
 // What a record or the end did: its line and the words that it took, with the words and records before the next.
-#[derive(Drop)]
+#[derive(Clone, Copy)]
 pub struct Progress {
     pub line: Line,
     pub taken: usize,

@@ -17,7 +17,7 @@ const AMOUNT: u32 = 8;
 const PAYLOADS: u64 = word::PAYLOADS as u64;
 
 // What a first word opens.
-#[derive(Drop)]
+#[derive(Clone, Copy)]
 pub enum Opening {
     Update { length: usize },
     Query { length: usize },
@@ -26,7 +26,7 @@ pub enum Opening {
 }
 
 // The words after the first: the amount of an update, 0 for a query.
-#[derive(Drop)]
+#[derive(Clone, Copy)]
 pub enum Body {
     Sound { amount: u32 },
     Refused { status: u8, position: u64 },

@@ -4,14 +4,14 @@ ghost use Rattle.feed_text.specs.Text as spec;
 ghost use Rattle.feed_text.specs.Text.{content, newline};
 ghost use Rattle.feed_text.specs.Buffers.{digits_of};
 
-#[derive(Drop)]
+#[derive(Clone, Copy)]
 pub struct Text {
     pub bytes: [u8; 64],
     pub length: usize,
 }
 
 // A number's digits stand at the end, from `start` on.
-#[derive(Drop)]
+#[derive(Clone, Copy)]
 pub struct Digits {
     pub bytes: [u8; 20],
     pub start: usize,

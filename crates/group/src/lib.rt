@@ -13,14 +13,14 @@ use group_levels::{level_at, widest_level};
 use group_sums::{sum_fits, with_value};
 
 // Eight count bytes and their merge byte.
-#[derive(Drop)]
+#[derive(Clone, Copy)]
 pub struct Group {
     pub counts: [u8; 8],
     pub merge: u8,
 }
 
 // A counter that was read, or why not.
-#[derive(Drop)]
+#[derive(Clone, Copy)]
 pub struct Reading {
     pub status: u8,
     pub value: u64,
@@ -28,7 +28,7 @@ pub struct Reading {
 }
 
 // A group after an addition or a union; if refused, as it was before.
-#[derive(Drop)]
+#[derive(Clone, Copy)]
 pub struct Outcome {
     pub status: u8,
     pub group: Group,
@@ -82,7 +82,7 @@ pub fn unchanged(status: u8, g: Group) -> Outcome
 }
 
 // The count bytes after an addition that its counter holds, and the counter's value then; if it does not, the bytes as they were, and 0.
-#[derive(Drop)]
+#[derive(Clone, Copy)]
 pub struct Kept {
     pub held: bool,
     pub counts: [u8; 8],

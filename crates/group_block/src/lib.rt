@@ -12,7 +12,7 @@ ghost use Rattle.group_block.specs.Passed.{summed, sum_of, left_half, right_half
 use group_layout::{beside, high, is_merged, low, ones, slots};
 
 // A counter that was read.
-#[derive(Drop)]
+#[derive(Clone, Copy)]
 pub struct Counter {
     pub value: u64,
     pub level: u32,
@@ -20,7 +20,7 @@ pub struct Counter {
 
 // What an addition or a union leaves of a block: its count bytes as one number and its merge bits or, if `over`, the sum, which no
 // counter of the block's level holds: its magnitude, and in `merge` 1 where it is below 0.
-#[derive(Drop)]
+#[derive(Clone, Copy)]
 pub struct Summed {
     pub over: bool,
     pub word: u64,

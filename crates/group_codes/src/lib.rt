@@ -18,7 +18,7 @@ const THREE_LAYOUTS: u32 = LAYOUTS * TWO_LAYOUTS;
 pub const FOUR_LAYOUTS: u32 = LAYOUTS * THREE_LAYOUTS;
 
 // The merge bytes of four groups; all 0 if refused.
-#[derive(Drop)]
+#[derive(Clone, Copy)]
 pub struct Unpacked {
     pub answer: Answer,
     pub merges: [u8; 4],

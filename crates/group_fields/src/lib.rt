@@ -6,7 +6,7 @@ ghost use Rattle.std.specs.Prelude.{◌≡◌, ◌+◌, ◌^◌, ◌<◌, ◌≤
 ghost use Rattle.group_fields.specs.Fields.{no_fields, fields_of, counts_of, bits_at, put};
 
 // The bits of eight count bytes.
-#[derive(Drop)]
+#[derive(Clone, Copy)]
 pub struct Fields {
     pub word: u64,
 }

@@ -49,7 +49,7 @@ fn carry(a: u8, b: u8) -> u8
 }
 
 // The sums of 64 bytes and those of a source modulo 256, and 0 where no sum passes 255.
-#[derive(Drop)]
+#[derive(Clone, Copy)]
 struct Sums {
     bytes: [u8; 64],
     carries: u8,

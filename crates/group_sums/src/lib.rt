@@ -29,7 +29,7 @@ pub fn counter_at(word: u64, merge: u8, slot: usize) -> Counter
 }
 
 // The count bytes, taken as one number, after an addition that its counter holds, and the counter's value then. Both 0 elsewhere.
-#[derive(Drop)]
+#[derive(Clone, Copy)]
 pub struct InPlace {
     pub held: bool,
     pub word: u64,

@@ -5,7 +5,7 @@ ghost use Rattle.std.specs.Prelude.{◌≡◌, ◌%◌, ◌^◌, ◌<◌};
 ghost use Rattle.hash.specs.Hash.{basis, fnv_step, fnv, row_hash, slot_of, sign_of};
 
 // The running hash.
-#[derive(Drop)]
+#[derive(Clone, Copy)]
 pub struct Hash {
     pub state: u32,
 }

@@ -38,7 +38,7 @@ fn value_at(words: &[u32], p: usize, n: u32) -> u64
 }
 
 // A group read, and the position after its words.
-#[derive(Drop)]
+#[derive(Clone, Copy)]
 struct Taken {
     group: Group,
     position: usize,

@@ -9,7 +9,7 @@ ghost use Rattle.meter_keys.specs.Keys.{key_slot};
 use hash::Hash;
 
 // The running hashes of four rows.
-#[derive(Drop)]
+#[derive(Clone, Copy)]
 struct Four {
     a: Hash,
     b: Hash,

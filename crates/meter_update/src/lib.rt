@@ -15,7 +15,7 @@ use meter_memory::{load, row_at};
 use meter_row::{smaller, update_row};
 
 // The groups that an update leaves in the rows, the first status and the least value of the counters that are left.
-#[derive(Drop)]
+#[derive(Clone, Copy)]
 struct Trial {
     groups: [Group; 8],
     status: u8,

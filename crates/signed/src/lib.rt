@@ -12,7 +12,7 @@ use meter::whole;
 use meter_keys::key_hashes;
 
 // What an estimate answers: document 01's number, place and figure.
-#[derive(Drop)]
+#[derive(Clone, Copy)]
 pub struct SignedAnswer {
     pub status: u8,
     pub position: u64,

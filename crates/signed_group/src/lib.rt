@@ -18,7 +18,7 @@ use signed_widening::add_widening;
 use signed_words::{add_in_place, counter_at, no_minus_zero, sum_fits, times_sign};
 
 // A counter that was read, or why not.
-#[derive(Drop)]
+#[derive(Clone, Copy)]
 pub struct Reading {
     pub status: u8,
     pub value: Signed,

@@ -19,7 +19,7 @@ use signed_number::distance;
 
 // What is known of two blocks: their totals, raised, and of their union whether it is over and, where it is not, its count bytes as one
 // number and its merge bits.
-#[derive(Drop)]
+#[derive(Clone, Copy)]
 pub struct Node {
     pub a: u64,
     pub b: u64,

@@ -6,7 +6,7 @@ ghost use Rattle.std.specs.Bool.{beq};
 ghost use Rattle.std.proofs.Math.IntN.{sub_ℕ};
 ghost use Rattle.signed_number.specs.Number.{times_sign, integer, integer_of, signed_of};
 
-#[derive(Drop)]
+#[derive(Clone, Copy)]
 pub struct Signed {
     pub minus: bool,
     pub magnitude: u64,

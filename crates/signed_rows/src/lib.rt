@@ -18,7 +18,7 @@ use meter_memory::row_at;
 use signed_median::median;
 
 // What was read, or why not.
-#[derive(Drop)]
+#[derive(Clone, Copy)]
 pub struct Figure {
     pub status: u8,
     pub value: i64,

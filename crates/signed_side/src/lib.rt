@@ -48,7 +48,7 @@ fn over(a: u8, b: u8) -> u8
 }
 
 // A slot's sum with a source's times a sign; `bad` is below 128 only where the slot holds it and neither was minus zero.
-#[derive(Drop)]
+#[derive(Clone, Copy)]
 struct Slot {
     byte: u8,
     bad: u8,
@@ -66,7 +66,7 @@ fn sum(minus: bool, slot: u8, source: u8) -> Slot
 }
 
 // Those of 64 slots.
-#[derive(Drop)]
+#[derive(Clone, Copy)]
 struct Slots {
     bytes: [u8; 64],
     bad: u8,

@@ -18,7 +18,7 @@ use signed_nodes::{Node, beside, formed, held, raised};
 use signed_slots::{over, sums};
 
 // Two blocks by their count bytes as numbers and their merge bits; and of their slots, taken as unmerged, the sums and which are over.
-#[derive(Drop)]
+#[derive(Clone, Copy)]
 struct Blocks {
     word: u64,
     merge: u8,

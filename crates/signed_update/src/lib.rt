@@ -25,7 +25,7 @@ fn add_at(w: usize, memory: &[u8], r: usize, hash: usize, minus: bool, magnitude
 }
 
 // The groups that an update leaves in the rows, and the first status.
-#[derive(Drop)]
+#[derive(Clone, Copy)]
 struct Trial {
     groups: [Group; 8],
     status: u8,

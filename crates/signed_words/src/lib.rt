@@ -79,7 +79,7 @@ pub fn sum_fits(minus: bool, word: u64, merge: u8, other_word: u64, other_merge:
 }
 
 // A counter's value and level.
-#[derive(Drop)]
+#[derive(Clone, Copy)]
 pub struct Counter {
     pub value: Signed,
     pub level: u32,
@@ -127,7 +127,7 @@ fn lowered(top: u64, raised: u64) -> u64
 }
 
 // A counter's bits after an addition that it holds; 0 elsewhere.
-#[derive(Drop)]
+#[derive(Clone, Copy)]
 struct Kept {
     held: bool,
     bits: u64,
@@ -175,7 +175,7 @@ fn add_to(level: u32, bits: u64, amount: Signed) -> Kept
 }
 
 // The count bytes, taken as one number, after an addition that its counter holds; 0 elsewhere.
-#[derive(Drop)]
+#[derive(Clone, Copy)]
 pub struct InPlace {
     pub held: bool,
     pub word: u64,

@@ -36,7 +36,7 @@ fn too_long(lengths: &[u8], n: u8) -> u8
 }
 
 // Whether a list is sound, and how many of its places have a key; in a sound list these come first.
-#[derive(Drop)]
+#[derive(Clone, Copy)]
 pub struct Usage {
     pub sound: bool,
     pub places: usize,

@@ -15,7 +15,7 @@ pub const END: u32 = 4;
 pub const PAYLOADS: usize = 1 << 28;
 
 // A fault and its position; or status 0 and the position to read on from.
-#[derive(Drop)]
+#[derive(Clone, Copy)]
 pub struct Step {
     pub status: u8,
     pub position: usize,

@@ -10,16 +10,16 @@ use Rattle.geometry.proofs.bad_shape.Goals as goal
 use Rattle.geometry.proofs.bad_shape.Goals.{Else-not-valid_depth, Else-not-valid_width, Then-not-valid_depth, Then-not-valid_width}
 
 depth-bad : (c : Then-not-valid_depth) → valid_depth c.args.d ≡ false
-depth-bad c = sym c.valid_depth.ensures ∙ not-true _ c.if-not-valid_depth.true
+depth-bad c = sym c.valid_depth.ensures ∙ c.if-not-valid_depth.true
 
 depth-good : (c : Else-not-valid_depth) → valid_depth c.args.d ≡ true
-depth-good c = sym c.valid_depth.ensures ∙ not-false _ c.if-not-valid_depth.false
+depth-good c = sym c.valid_depth.ensures ∙ c.if-not-valid_depth.false
 
 width-bad : (c : Then-not-valid_width) → valid_width c.args.w ≡ false
-width-bad c = sym c.valid_width.ensures ∙ not-true _ c.if-not-valid_width.true
+width-bad c = sym c.valid_width.ensures ∙ c.if-not-valid_width.true
 
 width-good : (c : Else-not-valid_width) → valid_width c.args.w ≡ true
-width-good c = sym c.valid_width.ensures ∙ not-false _ c.if-not-valid_width.false
+width-good c = sym c.valid_width.ensures ∙ c.if-not-valid_width.false
 
 pub returns-then-not-valid_depth : goal.returns-then-not-valid_depth
 unfolding first_of
@@ -31,6 +31,9 @@ returns-then-not-valid_width c = rw (depth-good (goal.at.returns-then-not-valid_
 
 pub stride-requires : goal.stride-requires
 stride-requires c = width-good c
+
+pub overflow_mul-d : goal.overflow_mul-d
+overflow_mul-d c = rw c.stride.ensures (omega (arith, size_in c.args.d c.args.w (depth-good (goal.at.overflow_mul-d c).Else-not-valid_depth) (width-good (goal.at.overflow_mul-d c).Else-not-valid_width)))
 
 pub returns-then-bytes-d : goal.returns-then-bytes-d
 unfolding first_of size

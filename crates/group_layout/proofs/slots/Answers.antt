@@ -6,5 +6,4 @@ use borrow.Author.Rules.{rules}
 use Rattle.group_layout.proofs.slots.Goals as goal
 
 pub returns : goal.returns
-returns c = let h = c.args.half in
-    rw (one_shl 8 h (omega arith)) (refl, (pow_pos h, pow_mono {i = h} {j = 2} c.requires))
+returns c = let h = c.args.half in rw (one_shl 8 h (omega arith)) (record { value = refl; lower_bound = (pow_pos h, pow_mono {i = h} {j = 2} c.requires) })

@@ -8,6 +8,6 @@ use Rattle.little_endian.proofs.number_of.Goals as goal
 
 pub returns : goal.returns
 unfolding number elements
-returns c = let xs = c.args.t1 in
+returns c = let xs = c.args.counts in
     let long : length xs ≡ 8 = search rules in
     omega (arith, c.eight.ensures, number_eight xs long)

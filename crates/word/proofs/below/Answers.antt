@@ -8,7 +8,7 @@ use Rattle.word.proofs.below.Goals as goal
 pub returns-then-not-is_due : goal.returns-then-not-is_due
 unfolding below
 returns-then-not-is_due c = let a = c.args in
-    c.stop.ensures ∙ sym (not_due a.words.now a.p a.kind _ _ (sym c.is_due.ensures ∙ not-true _ c.if-not-is_due.true))
+    c.stop.ensures ∙ sym (not_due a.words.now a.p a.kind _ _ (sym c.is_due.ensures ∙ c.if-not-is_due.true))
 
 pub returns : goal.returns
 unfolding below

@@ -10,10 +10,8 @@ use mir.Syntax.{w32, w64}
 use mir.Val.{SFits, to_z, of_z}
 use mir.Facts.{sfits_widen, to_z-of_z, to_z_pos}
 use Rattle.signed_number.specs.Number.{signed_of}
-use Rattle.signed_number.proofs.of_int.Statement.{statement}
-use Rattle.signed_number.proofs.of_int.Tie as tie
-use Rattle.signed_number.proofs.of_int.Reads as reads
-use Rattle.signed_number.proofs.of_int.Lts as lts
+use Rattle.signed_number.proofs.of_int.Goals as goal
+use Rattle.signed_number.proofs.of_int.Goals.{Else-wide-lt0, Then-wide-lt0}
 
 -- what the machine reads back from the amount's bits, widened
 abbrev wide : ℤ → ℤ
@@ -38,36 +36,33 @@ small : (z : ℤ) → SFits w32 z → nat_abs z ≤ 2 ^ 31
 small (pos m) f = omega (arith, f.sfits)
 small (negsuc m) f = f.sfits
 
-cast-wide : tie.Need-overflow-cast-wide
-cast-wide c = let a = c.args.amount in rw (to_z-of_z {w = w32} {z = a} c.ranges.amount) (sfits_widen {w = w32} {w' = w64} tt c.ranges.amount)
+pub overflow_cast-wide : goal.overflow_cast-wide
+overflow_cast-wide c = let a = c.args.amount in rw (to_z-of_z {w = w32} {z = a} c.ranges.amount) (sfits_widen {w = w32} {w' = w64} tt c.ranges.amount)
 
-module _ (c : lts.Then1 reads.Pre reads.Post) where
-  is_wide : let a = c.before.args.amount in wide a ≡ a
-  is_wide = wide_is c.before.args.amount c.before.ranges.amount
+module _ (c : Then-wide-lt0) where
+  is_wide : let a = c.args.amount in wide a ≡ a
+  is_wide = wide_is c.args.amount c.ranges.amount
 
   below : let a = c.before.args.amount in SFits w64 (pos 0 -ℤ a) × ((to_z w64 (of_z w64 (pos 0 -ℤ a)) ≡ pos (nat_abs a)) × (record { minus = true; magnitude = nat_abs a } ≡ signed_of a))
   below = negation c.before.args.amount c.before.ranges.amount (ap (λ (z : ℤ). lt_z z (pos 0)) (sym is_wide) ∙ c.if1.true)
 
-sub-t4 : tie.Need-overflow-sub-t4
-sub-t4 c = rw (is_wide c) (below c).0
+pub overflow_sub-result : goal.overflow_sub-result
+overflow_sub-result c = rw (is_wide c) (below c).0
 
-cast-t5 : tie.Need-overflow-cast-t5
-cast-t5 c = rw (is_wide c, (below c).1.0) (tt, record { fits = omega (arith, small c.before.args.amount c.before.ranges.amount) })
+pub overflow_cast-result : goal.overflow_cast-result
+overflow_cast-result c = rw (is_wide c, (below c).1.0) (tt, record { fits = omega (arith, small c.args.amount c.ranges.amount) })
 
-returns : tie.Need-returns
-returns c = rw (is_wide c, (below c).1.0) ((below c).1.1, small c.before.args.amount c.before.ranges.amount)
+pub returns-then-wide-lt0 : goal.returns-then-wide-lt0
+returns-then-wide-lt0 c = rw (is_wide c, (below c).1.0) (record { value = (below c).1.1; magnitude_bound = small c.args.amount c.ranges.amount })
 
-above : (c : lts.Else1 reads.Pre reads.Post) → let a = c.before.args.amount in (wide a ≡ pos (nat_abs a)) × (record { minus = false; magnitude = nat_abs a } ≡ signed_of a)
-above c = let a = c.before.args.amount in
-    let w = wide_is a c.before.ranges.amount in
-    let p = itself a (ap (λ (z : ℤ). lt_z z (pos 0)) (sym w) ∙ c.if1.false) in
+above : (c : Else-wide-lt0) → let a = c.args.amount in (wide a ≡ pos (nat_abs a)) × (record { minus = false; magnitude = nat_abs a } ≡ signed_of a)
+above c = let a = c.args.amount in
+    let w = wide_is a c.ranges.amount in
+    let p = itself a (ap (λ (z : ℤ). lt_z z (pos 0)) (sym w) ∙ c.if-wide-lt0.false) in
     (w ∙ p.0, p.1)
 
-cast-t6 : tie.Need-overflow-cast-t6
-cast-t6 c = rw (above c).0 (tt, record { fits = omega (arith, small c.before.args.amount c.before.ranges.amount) })
+pub overflow_cast-result-2 : goal.overflow_cast-result-2
+overflow_cast-result-2 c = rw (above c).0 (tt, record { fits = omega (arith, small c.args.amount c.ranges.amount) })
 
-returns-2 : tie.Need-returns-2
-returns-2 c = rw (above c).0 ((above c).1, small c.before.args.amount c.before.ranges.amount)
-
-pub of-int-spec : {M : Type 1} → statement M
-of-int-spec = tie.close (tie.spec cast-wide sub-t4 cast-t5 returns cast-t6 returns-2)
+pub returns : goal.returns
+returns c = rw (above c).0 (record { value = (above c).1; magnitude_bound = small c.args.amount c.ranges.amount })

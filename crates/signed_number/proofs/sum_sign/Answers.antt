@@ -1,8 +1,7 @@
 use mathlib.Core.Path.{◌≡◌, refl}
 use mathlib.Core.Bool.{Bool, true, false, cond, not, beq, ◌&&◌}
 use lib.Dec.{ltb}
-use Rattle.signed_number.proofs.sum_sign.Statement.{statement}
-use Rattle.signed_number.proofs.sum_sign.Tie as tie
+use Rattle.signed_number.proofs.sum_sign.Goals as goal
 
 -- the one sign turned where they differ is the other
 turned : (a b less : Bool) → not (beq a (not (beq a b) && less)) ≡ cond less b a
@@ -15,8 +14,5 @@ turned false true false = refl
 turned false false true = refl
 turned false false false = refl
 
-returns : tie.Need-returns
-returns c = let s = c.before.before.before.before.before.args in turned s.a.minus s.b.minus (ltb s.a.magnitude s.b.magnitude)
-
-pub sum-sign-spec : {M : Type 1} → statement M
-sum-sign-spec = tie.close (tie.spec returns)
+pub returns : goal.returns
+returns c = let s = c.args in turned s.a.minus s.b.minus (ltb s.a.magnitude s.b.magnitude)

@@ -3,8 +3,7 @@ use mathlib.Core.Bool.{Bool, true, false, not, beq}
 use Prim.Native.Nat.{ℕ}
 use lib.IntN.{pos, neg_ℤ-neg_ℤ}
 use Rattle.signed_number.specs.Number.{times_sign, integer}
-use Rattle.signed_number.proofs.times.Statement.{statement}
-use Rattle.signed_number.proofs.times.Tie as tie
+use Rattle.signed_number.proofs.times.Goals as goal
 
 -- signs that differ make minus
 signs : (sign minus : Bool) (m : ℕ) → integer (not (beq sign minus)) m ≡ times_sign sign (integer minus m)
@@ -14,8 +13,5 @@ signs true false m = refl
 signs false true m = refl
 signs false false m = refl
 
-returns : tie.Need-returns
+pub returns : goal.returns
 returns c = signs c.args.sign c.args.minus
-
-pub times-spec : {M : Type 1} → statement M
-times-spec = tie.close (tie.spec returns)

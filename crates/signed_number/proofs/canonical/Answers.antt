@@ -3,8 +3,7 @@ use mathlib.Core.Bool.{Bool, true, false}
 use Prim.Native.Nat.{ℕ, zero, suc}
 use Rattle.signed_number.specs.Number.{times_sign, integer, signed_of}
 use Rattle.signed_number.proofs.Integers.{times_zero}
-use Rattle.signed_number.proofs.canonical.Statement.{statement}
-use Rattle.signed_number.proofs.canonical.Tie as tie
+use Rattle.signed_number.proofs.canonical.Goals as goal
 
 nonzero : (minus : Bool) (m : ℕ) → (m ≡ 0 → ⊥) → record { minus = minus; magnitude = m } ≡ signed_of (integer minus m)
 unfolding times_sign signed_of
@@ -12,12 +11,9 @@ nonzero minus zero h = absurd (h refl)
 nonzero true (suc m) h = refl
 nonzero false (suc m) h = refl
 
-returns : tie.Need-returns
+pub returns-then-magnitude-eq0 : goal.returns-then-magnitude-eq0
 unfolding signed_of
-returns c = rw (c.if1.true, times_zero c.before.args.minus)
+returns-then-magnitude-eq0 c = rw (c.if-magnitude-eq0.true, times_zero c.args.minus)
 
-returns-2 : tie.Need-returns-2
-returns-2 c = let a = c.before.args in nonzero a.minus a.magnitude c.if1.false
-
-pub canonical-spec : {M : Type 1} → statement M
-canonical-spec = tie.close (tie.spec returns returns-2)
+pub returns-else-magnitude-eq0 : goal.returns-else-magnitude-eq0
+returns-else-magnitude-eq0 c = let a = c.args in nonzero a.minus a.magnitude c.if-magnitude-eq0.false

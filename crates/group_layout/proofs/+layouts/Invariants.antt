@@ -1,0 +1,5 @@
+use Prim.Native.Nat.{◌+◌, ◌-◌, ◌*◌, ◌≤◌, ℕ, ◌<◌}
+use Rattle.group_layout.proofs.+layouts.Given as goal
+
+abbrev pub decreases-layouts : goal.decreases-layouts
+decreases-layouts l = l.level

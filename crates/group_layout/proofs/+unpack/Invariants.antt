@@ -1,0 +1,5 @@
+use Prim.Native.Nat.{◌-◌, ◌*◌, ◌/◌, ◌%◌, ℕ, ◌<◌}
+use Rattle.group_layout.proofs.+unpack.Given as goal
+
+abbrev pub decreases-unpack : goal.decreases-unpack
+decreases-unpack l = l.level
