@@ -109,7 +109,7 @@ pub both_apart : (K : Kind) {n w m w' m' : ℕ} {l r l' r' : Summed} → Apart n
     ≡ f (suc (n - 1)) (split (block_as K (n - 1) l.word l.merge) (block_as K (n - 1) r.word r.merge))
     (split (block_as K (n - 1) l'.word l'.merge) (block_as K (n - 1) r'.word r'.merge))
 unfolding left_half right_half
-both_apart K {n} {w} {m} {w'} {m'} p q f = rw (p.l-is, p.r-is, q.l-is, q.r-is) (go n p.apart q.apart)
+both_apart K {n} {w} {m} {w'} {m'} p q f = rw (p.l_is, p.r_is, q.l_is, q.r_is) (go n p.apart q.apart)
   where
     go : (n : ℕ) → is_merged (layout n m) ≡ false → is_merged (layout n m') ≡ false
         → f n (block_as K n w m) (block_as K n w' m')
@@ -125,33 +125,33 @@ module _ {n w m : ℕ} {l r : Summed} (p : Apart n w m l r) where
 
   pub words-in : w < cap n → (l.word < cap (n - 1)) × (r.word < cap (n - 1))
   unfolding left_half right_half
-  words-in h = rw (p.l-is, p.r-is) (halves_in n w (above_slot n m p.apart) h)
+  words-in h = rw (p.l_is, p.r_is) (halves_in n w (above_slot n m p.apart) h)
 
   pub left-sane : Sane n w m → Sane (n - 1) l.word l.merge
   unfolding left_half
-  left-sane h = ((words-in h.0).0, rw p.l-is (valid_apart n m p.apart h.1).0)
+  left-sane h = ((words-in h.0).0, rw p.l_is (valid_apart n m p.apart h.1).0)
 
   pub right-sane : Sane n w m → Sane (n - 1) r.word r.merge
   unfolding right_half
-  right-sane h = ((words-in h.0).1, rw p.r-is (valid_apart n m p.apart h.1).1)
+  right-sane h = ((words-in h.0).1, rw p.r_is (valid_apart n m p.apart h.1).1)
 
   module _ {K : Kind} (D : Coded K) where
     pub left-clean : all_clean K (layout n m) w ≡ true → all_clean K (layout (n - 1) l.merge) l.word ≡ true
     unfolding left_half
-    left-clean c = rw p.l-is (halves_clean K n w m p.apart c).0
+    left-clean c = rw p.l_is (halves_clean K n w m p.apart c).0
 
     pub right-clean : all_clean K (layout n m) w ≡ true → all_clean K (layout (n - 1) r.merge) r.word ≡ true
     unfolding right_half
-    right-clean c = rw p.r-is (halves_clean K n w m p.apart c).1
+    right-clean c = rw p.r_is (halves_clean K n w m p.apart c).1
 
     -- the halves as sound Sums
     pub left_is : Sane n w m → all_clean K (layout n m) w ≡ true → l ≡ summed_as D.passing (fits (block_as K (n - 1) l.word l.merge))
     unfolding left_half
-    left_is h c = block-summed D (n - 1) l (ap (λ (s : Summed). s.over) p.l-is) (left-sane h) (left-clean c)
+    left_is h c = block-summed D (n - 1) l (ap (λ (s : Summed). s.over) p.l_is) (left-sane h) (left-clean c)
 
     pub right_is : Sane n w m → all_clean K (layout n m) w ≡ true → r ≡ summed_as D.passing (fits (block_as K (n - 1) r.word r.merge))
     unfolding right_half
-    right_is h c = block-summed D (n - 1) r (ap (λ (s : Summed). s.over) p.r-is) (right-sane h) (right-clean c)
+    right_is h c = block-summed D (n - 1) r (ap (λ (s : Summed). s.over) p.r_is) (right-sane h) (right-clean c)
 
     pub left-fits : w < cap n → Fits (block_as K (n - 1) l.word l.merge)
     left-fits h = block_fits_of D.codes (n - 1) l.word l.merge (words-in h).0

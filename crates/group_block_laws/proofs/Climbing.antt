@@ -111,14 +111,14 @@ module _ {K : Kind} {m : ℕ} (d : ℕ) (joined : SumOf K m → SumOf K (suc m))
       let ej : j ≡ d = omega (arith, q) in
       let side : total_at b n (sibling j) ≡ total y = rw (en, ej) h.beside in
       try (ltb (K.size s) (K.bound n)) _ _ _ _
-      (ap fits (h.form_in n 0 i j s e k q) ∙ sym (h.joined-fits (form_at x n i s)))
-      (ap (λ (z : K.Value). climb b 0 (suc n) (j / 2) (K.plus s z)) side ∙ rw en (climb_whole b (j / 2) (K.plus s (total y))) ∙ sym (h.joined-over s))
+      (ap fits (h.form_in n 0 i j s e k q) ∙ sym (h.joined_fits (form_at x n i s)))
+      (ap (λ (z : K.Value). climb b 0 (suc n) (j / 2) (K.plus s z)) side ∙ rw en (climb_whole b (j / 2) (K.plus s (total y))) ∙ sym (h.joined_over s))
   climb-in (suc f) n i j s e k q =
       let sib : sibling j ≡ d * 2 ^ suc f + sibling i = ap sibling q ∙ sibling_in d f i in
       let up : j / 2 ≡ d * 2 ^ f + i / 2 = ap (λ (z : ℕ). z / 2) q ∙ parent_in d f i in
-      let side : total_at b n (sibling j) ≡ total_at x n (sibling i) = h.total-in n (suc f) (sibling i) (sibling j) e (sibling_lt f i k) sib in
+      let side : total_at b n (sibling j) ≡ total_at x n (sibling i) = h.total_in n (suc f) (sibling i) (sibling j) e (sibling_lt f i k) sib in
       try (ltb (K.size s) (K.bound n)) _ _ _ _
-      (ap fits (h.form_in n (suc f) i j s e k q) ∙ sym (h.joined-fits (form_at x n i s)))
+      (ap fits (h.form_in n (suc f) i j s e k q) ∙ sym (h.joined_fits (form_at x n i s)))
       (ap (λ (z : K.Value). climb b (suc f) (suc n) (j / 2) (K.plus s z)) side
       ∙ climb-in f (suc n) (i / 2) (j / 2) (K.plus s (total_at x n (sibling i))) (omega (arith, e)) (parent_lt f i k) up)
 

@@ -103,9 +103,9 @@ widen_top : {K : Kind} (S : Sums K) {n : ℕ} (l r : BlockOf K n) (k : ℕ) (a u
     → Widened (split l r) k a n 0 u v
 widen_top S {n} l r k a u v t h i =
     let e : 0 + 2 ^ n - 2 ^ n ≡ 0 = omega arith in
-    let p : l ≡ counter u = is_whole l 0 u (sym (value-left l r 0 (pow_pos n)) ∙ t.first) (sym (level_left l r 0 (pow_pos n)) ∙ t.first-level) in
+    let p : l ≡ counter u = is_whole l 0 u (sym (value-left l r 0 (pow_pos n)) ∙ t.first) (sym (level_left l r 0 (pow_pos n)) ∙ t.first_level) in
     let m : 2 ^ n ≤ 0 + 2 ^ n = omega arith in
-    let q : r ≡ counter v = is_whole r (0 + 2 ^ n - 2 ^ n) v (sym (value-right l r (0 + 2 ^ n) m) ∙ t.second) (sym (level_right l r (0 + 2 ^ n) m) ∙ t.second-level) in
+    let q : r ≡ counter v = is_whole r (0 + 2 ^ n - 2 ^ n) v (sym (value-right l r (0 + 2 ^ n) m) ∙ t.second) (sym (level_right l r (0 + 2 ^ n) m) ∙ t.second_level) in
     rw (p, q) (widened-whole S k a u v i (rw (p, q) at h))
 
 -- the bits of the right half
@@ -121,9 +121,9 @@ module _ {K : Kind} {n : ℕ} (l r : BlockOf K n) (k : ℕ) (a : K.Value) (L p :
       let g : p < 2 ^ n = omega arith in
       record {
         first = sym (value-left l r p g) ∙ t.first;
-        first_level = sym (level_left l r p g) ∙ t.first-level;
+        first_level = sym (level_left l r p g) ∙ t.first_level;
         second = sym (value-left l r (p + 2 ^ L) h) ∙ t.second;
-        second_level = sym (level_left l r (p + 2 ^ L) h) ∙ t.second-level;
+        second_level = sym (level_left l r (p + 2 ^ L) h) ∙ t.second_level;
       }
 
   twins-right : Twins (split l r) L (2 ^ n + p) u v → Twins r L p u v
@@ -134,9 +134,9 @@ module _ {K : Kind} {n : ℕ} (l r : BlockOf K n) (k : ℕ) (a : K.Value) (L p :
       let h : 2 ^ n ≤ 2 ^ n + p + 2 ^ L = omega arith in
       record {
         first = ap (counter_value r) (sym e) ∙ sym (value-right l r (2 ^ n + p) g) ∙ t.first;
-        first_level = ap (level_of (shape r)) (sym e) ∙ sym (level_right l r (2 ^ n + p) g) ∙ t.first-level;
+        first_level = ap (level_of (shape r)) (sym e) ∙ sym (level_right l r (2 ^ n + p) g) ∙ t.first_level;
         second = ap (counter_value r) (sym f) ∙ sym (value-right l r (2 ^ n + p + 2 ^ L) h) ∙ t.second;
-        second_level = ap (level_of (shape r)) (sym f) ∙ sym (level_right l r (2 ^ n + p + 2 ^ L) h) ∙ t.second-level;
+        second_level = ap (level_of (shape r)) (sym f) ∙ sym (level_right l r (2 ^ n + p + 2 ^ L) h) ∙ t.second_level;
       }
 
   abbrev old : ℕ
@@ -217,7 +217,7 @@ module _ {K : Kind} (S : Sums K) where
 
   pub widens : {n : ℕ} (b : BlockOf K n) (k : ℕ) (a : K.Value) (L i : ℕ) (u v : K.Value) → Widens b k a L i u v
   unfolding level_of shape
-  widens {n} (counter w) k a L i u v = λ h kn lo hi t o s. absurd (omega (arith, t.first-level))
+  widens {n} (counter w) k a L i u v = λ h kn lo hi t o s. absurd (omega (arith, t.first_level))
   widens (split {n} l r) k a L i u v = λ h. elim (dec_lt L n) [
     | no g ↦ widens-top l r k a L i u v (omega arith) h
     | yes g ↦ elim (dec_lt k (2 ^ n)) [

@@ -73,7 +73,7 @@ module _ {K : Kind} (D : Coded K) (w m k : ℕ) (a : K.Value) (L p : ℕ) (h : w
   bits-at : (j x : ℕ) → counter_at (block 3 w m) j ≡ record { value = x; level = L } → x < cap L → K.bits L (K.read L x) ≡ x
   unfolding block_as
   bits-at j x e l =
-      D.codes.bits-read L x l
+      D.codes.bits_read L x l
       (ap (λ (r : Counter). K.clean L r.value) (sym e)
       ∙ ap (λ (n : ℕ). K.clean n (bits_at (layout 3 m) w j)) (sym (ap (λ (r : Counter). r.level) e) ∙ level_block 3 w m j)
       ∙ clean_at K (layout 3 m) w j c)

@@ -29,10 +29,10 @@ pub record Left (x : SumOf signed 3) (g : Group) : Type 0 where
 
 -- which stands for the block and is refused by no line
 pub left_block : {x : SumOf signed 3} {g : Group} (l : Left x g) → decode g ≡ l.block
-left_block l = ap decode l.group-is ∙ decode_encode l.block l.holds
+left_block l = ap decode l.group_is ∙ decode_encode l.block l.holds
 
 pub left_good : {x : SumOf signed 3} {g : Group} → Left x g → bad_group g ≡ 0
-left_good l = ap bad_group l.group-is ∙ encode_good l.block l.holds
+left_good l = ap bad_group l.group_is ∙ encode_good l.block l.holds
 
 -- a call's outcome, by the line that refuses it and by the sum
 abbrev call : ℕ → Group → SumOf signed 3 → Outcome

@@ -61,8 +61,8 @@ kept s (over v) f t e = absurd (true≢false (sym t.whether ∙ e))
 join_kept : {n : ℕ} (l r s : Summed) (x y : SumOf signed n) → Kept l x → Kept r y → BesideAs n l r s → s.over ≡ false → s ≡ signed_summed (join x y)
 unfolding join summed_as number_of shape marks
 join_kept {n} l r s x y p q b e =
-    let w : s.word ≡ number_of q.block * cap n + number_of p.block = rw (← q.word-is, ← p.word-is) (b.words p.word_in q.word_in) in
-    let m : s.merge ≡ marks (shape q.block) * 2 ^ (2 ^ n) + marks (shape p.block) = rw (← q.merge-is, ← p.merge-is) (b.merges p.merge_in q.merge_in) in
+    let w : s.word ≡ number_of q.block * cap n + number_of p.block = rw (← q.word_is, ← p.word_is) (b.words p.word_in q.word_in) in
+    let m : s.merge ≡ marks (shape q.block) * 2 ^ (2 ^ n) + marks (shape p.block) = rw (← q.merge_is, ← p.merge_is) (b.merges p.merge_in q.merge_in) in
     rw (p.is, q.is, ← w, ← m) (ap (λ (o : Bool). record { over = o; word = s.word; merge = s.merge }) e)
 
 pub or_false : (a b : Bool) → (a || b) ≡ false → (a ≡ false) × (b ≡ false)

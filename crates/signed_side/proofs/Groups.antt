@@ -57,15 +57,15 @@ module _ (minus : Bool) where
   module _ (b : ℕ) (h : b < 256) where
     turned-holds : nat_abs (times_sign minus (sign_read 0 b)) < top 0
     unfolding cap
-    turned-holds = rw (abs_times minus (sign_read 0 b)) (signed_codes.read-holds 0 b h)
+    turned-holds = rw (abs_times minus (sign_read 0 b)) (signed_codes.read_holds 0 b h)
 
     turned_lt : turned minus b < 256
     unfolding cap turned
-    turned_lt = signed_codes.bits-lt 0 (times_sign minus (sign_read 0 b)) turned-holds
+    turned_lt = signed_codes.bits_lt 0 (times_sign minus (sign_read 0 b)) turned-holds
 
     turned-read : sign_read 0 (turned minus b) ≡ times_sign minus (sign_read 0 b)
     unfolding turned
-    turned-read = signed_codes.read-bits 0 (times_sign minus (sign_read 0 b)) turned-holds
+    turned-read = signed_codes.read_bits 0 (times_sign minus (sign_read 0 b)) turned-holds
 
 -- eight count bytes
 slots_of : (xs : List ℕ) → Eight xs → Slots 3 xs

@@ -90,7 +90,7 @@ next : {t t' : Totals signed} {g : ℕ} {x y : Group} (h : Holds t g x) (z : Sum
     → Left z y → SumCounts t' g z → Grows (shape h.block) z → Next t' g x y
 unfolding SumCounts Grows
 next {t} {t'} {g} {x} {y} h z l c i =
-    let now : Holds t' g y = record { block = l.block; sound = l.holds; counts = subst (SumCounts t' g) l.sum_is c; is = l.group-is } in
+    let now : Holds t' g y = record { block = l.block; sound = l.holds; counts = subst (SumCounts t' g) l.sum_is c; is = l.group_is } in
     record {
       holds = now;
       grows = λ slot.

@@ -75,10 +75,10 @@ unfolding block_as layout fill total
 two_sides b a a' h p q =
     let w = b.word in
     let v = b.other_word in
-    sides-are 0 w b.merge v b.other_merge h.word_in h.other-in _ p q _ _
+    sides-are 0 w b.merge v b.other_merge h.word_in h.other_in _ p q _ _
     (slot_tells (w % cap 0) (v % cap 0) (mod-lt w (cap_pos 0)) (mod-lt v (cap_pos 0)))
-    (slot_tells (w / cap 0) (v / cap 0) (high_lt 0 w h.word_in) (high_lt 0 v h.other-in))
-    (slots_beside w v b.sums b.overs h.sums-are h.overs-are)
+    (slot_tells (w / cap 0) (v / cap 0) (high_lt 0 w h.word_in) (high_lt 0 v h.other_in))
+    (slots_beside w v b.sums b.overs h.sums_are h.overs_are)
 
 -- the halves of blocks
 module _ (n : ℕ) (b : Blocks) (h : Slotted (suc n) b) where
@@ -89,10 +89,10 @@ module _ (n : ℕ) (b : Blocks) (h : Slotted (suc n) b) where
   v = b.other_word
 
   pub sums-in : b.sums < cap (suc n)
-  sums-in = rw h.sums-are (sums_lt (suc n) w v h.word_in h.other-in)
+  sums-in = rw h.sums_are (sums_lt (suc n) w v h.word_in h.other_in)
 
   pub overs-in : b.overs < cap (suc n)
-  overs-in = rw h.overs-are (over-lt (suc n) w v h.word_in h.other-in)
+  overs-in = rw h.overs_are (over-lt (suc n) w v h.word_in h.other_in)
 
   merge-high : (m : ℕ) → m < 2 ^ (2 ^ suc n) → m / 2 ^ (2 ^ n) < 2 ^ (2 ^ n)
   merge-high m k = let e : 2 ^ suc n ≡ 2 ^ n + 2 ^ n = omega arith in shr_lt (2 ^ n) (2 ^ n) (rw e at k)
@@ -104,19 +104,19 @@ module _ (n : ℕ) (b : Blocks) (h : Slotted (suc n) b) where
     other_in = mod-lt v (cap_pos n);
     merge_in = mod-lt b.merge (pow_pos (2 ^ n));
     other_merge_in = mod-lt b.other_merge (pow_pos (2 ^ n));
-    sums_are = ap (λ (s : ℕ). s % cap n) h.sums-are ∙ (sums-parts n w v).1;
-    overs_are = ap (λ (s : ℕ). s % cap n) h.overs-are ∙ (over-parts n w v).1;
+    sums_are = ap (λ (s : ℕ). s % cap n) h.sums_are ∙ (sums-parts n w v).1;
+    overs_are = ap (λ (s : ℕ). s % cap n) h.overs_are ∙ (over-parts n w v).1;
   }
 
   rights-slotted : Slotted n (rights_of n b)
   unfolding rights_of
   rights-slotted = record {
     word_in = high_lt n w h.word_in;
-    other_in = high_lt n v h.other-in;
+    other_in = high_lt n v h.other_in;
     merge_in = merge-high b.merge h.merge_in;
-    other_merge_in = merge-high b.other_merge h.other-merge-in;
-    sums_are = ap (λ (s : ℕ). s / cap n) h.sums-are ∙ (sums-parts n w v).0;
-    overs_are = ap (λ (s : ℕ). s / cap n) h.overs-are ∙ (over-parts n w v).0;
+    other_merge_in = merge-high b.other_merge h.other_merge_in;
+    sums_are = ap (λ (s : ℕ). s / cap n) h.sums_are ∙ (sums-parts n w v).0;
+    overs_are = ap (λ (s : ℕ). s / cap n) h.overs_are ∙ (over-parts n w v).0;
   }
 
   pub halves-slotted : (k : ℕ) → Slotted n (halves_of n k b)
@@ -134,15 +134,15 @@ module _ (n : ℕ) (b : Blocks) (h : Slotted (suc n) b) where
         let p = halves-slotted 0 in
         let q = halves-slotted 1 in
         let la = raised_in n l.a _ _ k p.word_in l_is.first in
-        let lb = raised_in n l.b _ _ k p.other-in l_is.second in
+        let lb = raised_in n l.b _ _ k p.other_in l_is.second in
         let ra = raised_in n r.a _ _ k q.word_in r_is.first in
-        let rb = raised_in n r.b _ _ k q.other-in r_is.second in
+        let rb = raised_in n r.b _ _ k q.other_in r_is.second in
         (omega arith, omega arith)
 
     pub nodes-beside : (s : Node) → (s.a ≡ l.a + r.a) × (s.b ≡ l.b + r.b) → BesideAs n (passed l) (passed r) (passed s) → SidesOf (suc n) s b
     unfolding halves_of lefts_of rights_of
     nodes-beside s e k =
-        sides-are n b.word b.merge b.other_word b.other_merge h.word_in h.other-in s
+        sides-are n b.word b.merge b.other_word b.other_merge h.word_in h.other_in s
         (rw e.0 (raised_sum n l.a r.a _ _ l_is.first r_is.first))
         (rw e.1 (raised_sum n l.b r.b _ _ l_is.second r_is.second))
         (passed l) (passed r) l_is.union r_is.union k

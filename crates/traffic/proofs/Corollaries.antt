@@ -42,7 +42,7 @@ module _ (d w : ℕ) (vd : valid_depth d ≡ true) (vw : valid_width w ≡ true)
     answered calls c clear l e = tt
     answered calls c (update key amount) l e = tt
     answered calls c (estimate key) l e = c.estimates key e
-    answered calls c widest l e = ap (λ (x : Answer). x.value) c.widest-level
+    answered calls c widest l e = ap (λ (x : Answer). x.value) c.widest_level
     answered calls c (unite source) l e = every-behind source l
     answered calls c (write words) l e = tt
     answered calls c (read source) l e = every-behind source l

@@ -60,7 +60,7 @@ full_total =
 full_run : Faithful 1 32 full × (run 1 32 full ≡ whole)
 unfolding Faithful Listed run done
 full_run =
-    let d = doubles 32 (none ▸ update at_10 4294967295) first computed.start-faithful computed.starts computed.fit in
+    let d = doubles 32 (none ▸ update at_10 4294967295) first computed.start_faithful computed.starts computed.fit in
     let m : run 1 32 (doubled 32 (none ▸ update at_10 4294967295)) ≡ nearly = d.1 ∙ computed.doubles in (
       (d.0, rw m (ap (λ (x : Done). eqb x.answer.status 0) computed.last), λ z. (refl, refl, tt)),
       ap (λ (x : List ℕ). (updated 1 32 x at_10 4294967295).memory) m ∙ ap (λ (x : Done). x.memory) computed.last,
@@ -84,6 +84,6 @@ full_meets =
       nothing = gives (update at_10 0) 0 computed.nothing;
       one = gives (update at_10 1) 6 computed.one;
       near = gives (update at_11 1) 6 computed.near;
-      by_record = gives (feed 1 update_words) 6 computed.by-record;
+      by_record = gives (feed 1 update_words) 6 computed.by_record;
       union = twice_status full whole full_run.1 ∙ computed.union;
     }

@@ -33,4 +33,4 @@ all_unmoved (r ∷ rs) calls f h =
     record { gives = h; faithful = t.faithful; memory = t.memory ∙ k; pairs = t.pairs }
 
 pub refusals_meet : Unmoved holding refusals
-refusals_meet = all_unmoved refusals holding computed.holding-faithful (rw computed.holds (by_test held refusals computed.refuse))
+refusals_meet = all_unmoved refusals holding computed.holding_faithful (rw computed.holds (by_test held refusals computed.refuse))

@@ -100,7 +100,7 @@ abbrev pub Meets : Case → Type 0
 Meets c =
     Faithful c.d c.w c.calls
     × (numbers c.d c.w c.calls ≡ c.refused)
-    × (level c.d c.w (traffic c.calls) ≡ c.widest-level)
+    × (level c.d c.w (traffic c.calls) ≡ c.widest_level)
     × (lower (traffic c.calls) c.key ≡ c.low)
     × (answer_to c.d c.w c.calls (estimate c.key) ≡ accepted c.value)
     × (upper c.d c.w (traffic c.calls) c.key ≡ c.high)

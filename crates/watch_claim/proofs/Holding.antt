@@ -124,7 +124,7 @@ module _ (t : ℕ) (watch : Watch) (total : List ℕ → ℕ) (Right : List ℕ 
         heavy = λ m k l s. h.heavy m k (rw (← p k) l) (sym (q k) ∙ s);
         estimates = λ k l. r k (estimate_in k watch.entries) (h.estimates k l);
         order_is = same_order key watch.entries watch.entries order refl h.order_is;
-        mark_is = h.mark-is;
+        mark_is = h.mark_is;
       }
 
   -- an accepted update of a key, by its estimate after it
@@ -153,7 +153,7 @@ module _ (t : ℕ) (watch : Watch) (total : List ℕ → ℕ) (Right : List ℕ 
         record {
           good =
               record {
-                mark_le = h.good.mark-le;
+                mark_le = h.good.mark_le;
                 places = rw n h.good.places;
                 used = renewed-each key v Used (λ e u. record { some = u.some; most = u.most; zeros = u.zeros; small = small }) es h.good.used;
                 clear = h.good.clear;
@@ -164,7 +164,7 @@ module _ (t : ℕ) (watch : Watch) (total : List ℕ → ℕ) (Right : List ℕ 
               same_or_not key k (λ p. rw (← p, renewed_same key v es l) right)
               (λ p. rw (renewed_other key v k p es) (estimate-other k p (sym (same k) ∙ r)));
           order_is = same_order key es (renewed key v es) order ks h.order_is;
-          mark_is = rw l h.mark-is;
+          mark_is = rw l h.mark_is;
         }
 
     enters : listed key watch.entries ≡ false → leb t v ≡ true → (place : Entry) (places : List Entry) → watch.free ≡ place ∷ places
@@ -181,7 +181,7 @@ module _ (t : ℕ) (watch : Watch) (total : List ℕ → ℕ) (Right : List ℕ 
         record {
           good =
               record {
-                mark_le = h.good.mark-le;
+                mark_le = h.good.mark_le;
                 places = omega (arith, long, room);
                 used = each_append Used es (joining key v ∷ []) h.good.used (record { some = some; most = most; zeros = refl; small = small }, tt);
                 clear = clear.1;
@@ -194,7 +194,7 @@ module _ (t : ℕ) (watch : Watch) (total : List ℕ → ℕ) (Right : List ℕ 
           order_is =
               map_append (λ (e : Entry). e.key) es (joining key v ∷ [])
               ∙ rw (← h.order_is, all_pass (λ k. listed k now) es more, here, l);
-          mark_is = rw (l, q, ne_eqb (length es) 64 (λ z. omega (arith, room))) h.mark-is;
+          mark_is = rw (l, q, ne_eqb (length es) 64 (λ z. omega (arith, room))) h.mark_is;
         }
 
     fills : listed key watch.entries ≡ false → leb t v ≡ true → watch.free ≡ [] → Now (record { mark = 1; entries = watch.entries; free = [] })
@@ -219,7 +219,7 @@ module _ (t : ℕ) (watch : Watch) (total : List ℕ → ℕ) (Right : List ℕ 
               same_or_not key k (λ p. absurd (true≢false (sym (le-leb t v (omega (arith, above, rw (← p) at r))) ∙ q))) (λ p. heavy-other m k p r s);
           estimates = λ k r. same_or_not key k (λ p. absurd (true≢false (sym r ∙ rw (← p) l))) (λ p. estimate-other k p r);
           order_is = same_order key es es order refl h.order_is;
-          mark_is = rw (l, q) h.mark-is;
+          mark_is = rw (l, q) h.mark_is;
         }
 
     pub noted-holding : Now (noted key v t watch)
@@ -239,7 +239,7 @@ module _ (t : ℕ) (watch : Watch) (total : List ℕ → ℕ) (Right : List ℕ 
         record {
           good =
               record {
-                mark_le = h.good.mark-le;
+                mark_le = h.good.mark_le;
                 places = omega (arith, without-length key es l, h.good.places);
                 used = without-each key Used es h.good.used;
                 clear = (refl, h.good.clear);
@@ -253,7 +253,7 @@ module _ (t : ℕ) (watch : Watch) (total : List ℕ → ℕ) (Right : List ℕ 
               same_or_not key k (λ p. absurd (true≢false (sym r ∙ rw (← p) gone)))
               (λ p. rw (without_estimate key k p es) (h.estimates k (sym (without_other key k p es) ∙ r)));
           order_is = rw (← h.order_is, without_passes key es h.good.once, gone) (sym (append-nil (keys_of (without key es))));
-          mark_is = h.mark-is;
+          mark_is = h.mark_is;
         }
 
     absent : Off watch
@@ -263,7 +263,7 @@ module _ (t : ℕ) (watch : Watch) (total : List ℕ → ℕ) (Right : List ℕ 
           heavy = λ m k r s. h.heavy m k r (neither (same_key key k && listed k watch.entries) (since k) s).1;
           estimates = h.estimates;
           order_is = same_order key watch.entries watch.entries order refl h.order_is;
-          mark_is = h.mark-is;
+          mark_is = h.mark_is;
         }
 
     pub off-holding : Off (taken_off key watch)

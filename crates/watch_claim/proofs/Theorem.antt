@@ -71,7 +71,7 @@ module _ (d w t : ℕ) (vd : valid_depth d ≡ true) (vw : valid_width w ≡ tru
   inv-unbroken steps i =
       let watch = decode (after d w steps).list in
       let good = good_formed watch i.holding.good in
-      rw i.list-is (encode-long watch good, encode-sound watch good i.holding.good.mark-le)
+      rw i.list-is (encode-long watch good, encode-sound watch good i.holding.good.mark_le)
 
   inv-passes : (steps : List Step) → Inv steps → (step : Step) → passes step (entered d w steps) ≡ accepted d w steps step
   unfolding accepted
@@ -278,7 +278,7 @@ module _ (d w t : ℕ) (vd : valid_depth d ≡ true) (vw : valid_width w ≡ tru
         once = h.good.once;
         order = h.order_is;
         bytes = i.list-is ∙ ap encode (good_canonical (decode (after d w steps).list) h.good);
-        mark = h.mark-is;
+        mark = h.mark_is;
         unbroken = inv-unbroken steps i;
       }
 

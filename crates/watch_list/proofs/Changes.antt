@@ -117,7 +117,7 @@ module _ (xs : List ℕ) (n : ℕ) (holds : Holds xs n) (small : Bytes xs) (key 
 
       -- the bytes are those of the places around it
       whole-list : laid_out mark (es ++ (place_at xs i ∷ (fs ++ free))) ≡ xs
-      whole-list = rw (after, ← around xs 64 i (omega (arith, most))) (laid-places xs holds.long small holds.is-sound)
+      whole-list = rw (after, ← around xs 64 i (omega (arith, most))) (laid-places xs holds.long small holds.is_sound)
 
       es-whole : AllWhole es
       es-whole = places-whole xs holds.long i 0 (omega (arith, most))
@@ -157,18 +157,18 @@ module _ (xs : List ℕ) (n : ℕ) (holds : Holds xs n) (small : Bytes xs) (key 
 
       pub below_is : (estimate threshold : ℕ) → estimate < threshold → encode (noted key estimate threshold (decode xs)) ≡ xs
       unfolding noted
-      below_is estimate threshold l = rw (not_listed, lt-leb threshold estimate l) (encode_decode xs holds.long small holds.is-sound)
+      below_is estimate threshold l = rw (not_listed, lt-leb threshold estimate l) (encode_decode xs holds.long small holds.is_sound)
 
       pub off-none-is : encode (taken_off key (decode xs)) ≡ xs
       unfolding taken_off
-      off-none-is = rw not_listed (encode_decode xs holds.long small holds.is-sound)
+      off-none-is = rw not_listed (encode_decode xs holds.long small holds.is_sound)
 
       pub full_is : (estimate threshold : ℕ) → threshold ≤ estimate → n ≡ 64 → encode (noted key estimate threshold (decode xs)) ≡ set xs 64 1
       unfolding noted encode joined places_from
       full_is estimate threshold l f =
           rw (not_listed, le-leb threshold estimate l, is-list, f, append-nil (places_from xs 64 0))
           (laid_mark mark 1 (places_from xs 64 0) (places-whole xs holds.long 64 0 (omega arith)) (places_length xs 64 0)
-          ∙ ap (λ (l : List ℕ). set l 64 1) (laid-places xs holds.long small holds.is-sound))
+          ∙ ap (λ (l : List ℕ). set l 64 1) (laid-places xs holds.long small holds.is_sound))
 
       pub joined_is : (estimate threshold : ℕ) → threshold ≤ estimate → n < 64 → KeyLong key → encode (noted key estimate threshold (decode xs)) ≡ put_place xs n (joining key estimate)
       unfolding noted encode joined places_from
@@ -179,4 +179,4 @@ module _ (xs : List ℕ) (n : ℕ) (holds : Holds xs n) (small : Bytes xs) (key 
           rw (not_listed, le-leb threshold estimate l, is-list, e, append_assoc (places_from xs n 0) (joining key estimate ∷ []) rest)
           (laid-put mark (places_from xs n 0) rest (place_at xs n) (joining key estimate) n (places-whole xs holds.long n 0 (omega arith)) (places-whole xs holds.long (64 - suc n) (suc n) (omega arith))
           (place-whole xs holds.long n f) new-whole (places_length xs n 0) (omega (arith, places_length xs (64 - suc n) (suc n)))
-          ∙ ap (λ (l : List ℕ). put_place l n (joining key estimate)) (ap (laid_out mark) (sym (around xs 64 n f)) ∙ laid-places xs holds.long small holds.is-sound))
+          ∙ ap (λ (l : List ℕ). put_place l n (joining key estimate)) (ap (laid_out mark) (sym (around xs 64 n f)) ∙ laid-places xs holds.long small holds.is_sound))

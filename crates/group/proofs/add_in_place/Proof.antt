@@ -25,22 +25,22 @@ module _ (d : tie.After-add-in-place) where
   abbrev s : tie.Start
   s = n.before.before.before.before
 
-  holds-is : holds s.args.g s.args.slot s.args.amount ≡ holds_at n.number_of_lem.result s.args.g.merge (s.args.slot % 8) s.args.amount
+  holds-is : holds s.args.g s.args.slot s.args.amount ≡ holds_at n.number_of.result s.args.g.merge (s.args.slot % 8) s.args.amount
   unfolding decode
   holds-is =
       holds_valid s.args.g s.args.slot s.args.amount (is-sane n.before)
-      ∙ ap (λ (x : ℕ). holds_at x s.args.g.merge (s.args.slot % 8) s.args.amount) (sym n.number_of_lem.ensures)
+      ∙ ap (λ (x : ℕ). holds_at x s.args.g.merge (s.args.slot % 8) s.args.amount) (sym n.number_of.ensures)
 
   sum_is : d.add-in-place.result.held ≡ true
       → stored (record { over = false; word = d.add-in-place.result.word; merge = s.args.g.merge }) ≡ added s.args.g s.args.slot s.args.amount
   unfolding decode
-  sum_is e = added-summed s.args.g s.args.slot s.args.amount _ (is-sane n.before) refl (rw (← n.number_of_lem.ensures) (d.add-in-place.ensures.1 e).0)
+  sum_is e = added-summed s.args.g s.args.slot s.args.amount _ (is-sane n.before) refl (rw (← n.number_of.ensures) (d.add-in-place.ensures.1 e).0)
 
   value_is : d.add-in-place.result.held ≡ true → d.add-in-place.result.value ≡ (read (added s.args.g s.args.slot s.args.amount).group s.args.slot).value
   unfolding decode cap
   value_is e =
-      rw n.number_of_lem.ensures at (d.add-in-place.ensures.1 e).1
-      ∙ sym (read_held s.args.g s.args.slot s.args.amount (omega (arith, n.number_of_lem.ensures)) (holds-is ∙ sym d.add-in-place.ensures.0 ∙ e))
+      rw n.number_of.ensures at (d.add-in-place.ensures.1 e).1
+      ∙ sym (read_held s.args.g s.args.slot s.args.amount (omega (arith, n.number_of.ensures)) (holds-is ∙ sym d.add-in-place.ensures.0 ∙ e))
 
 is-valid-requires : tie.Need-is-valid-requires
 is-valid-requires c κs = search rules

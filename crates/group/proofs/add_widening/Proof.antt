@@ -26,13 +26,13 @@ module _ (l : tie.After-level-at) where
 
   number_in : number s.args.g.counts < cap 3
   unfolding cap
-  number_in = rw (← n.number_of_lem.ensures) (omega arith)
+  number_in = rw (← n.number_of.ensures) (omega arith)
 
   -- the counter does not hold the sum
-  not-holds : holds_at n.number_of_lem.result s.args.g.merge (s.args.slot % 8) s.args.amount ≡ false
+  not-holds : holds_at n.number_of.result s.args.g.merge (s.args.slot % 8) s.args.amount ≡ false
   unfolding decode
   not-holds =
-      ap (λ (x : ℕ). holds_at x s.args.g.merge (s.args.slot % 8) s.args.amount) n.number_of_lem.ensures
+      ap (λ (x : ℕ). holds_at x s.args.g.merge (s.args.slot % 8) s.args.amount) n.number_of.ensures
       ∙ sym (holds_valid s.args.g s.args.slot s.args.amount (is-sane n.before))
       ∙ s.pre
 
@@ -83,7 +83,7 @@ returns-3 c = let w = c.before in
     let a = (s l).args in
     c.settled.ensures
     ∙ added-summed a.g a.slot a.amount w.add-widening.result (is-sane (n l).before) w.add-widening.ensures.1
-    (rw (← (n l).number_of_lem.ensures) w.add-widening.ensures.0)
+    (rw (← (n l).number_of.ensures) w.add-widening.ensures.0)
 
 pub add-widening-spec : {M : Type 1} → statement M
 add-widening-spec =

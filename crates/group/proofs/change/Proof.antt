@@ -38,7 +38,7 @@ bytes-of-requires c κs = search rules
 returns-2 : tie.Need-returns-2
 unfolding changed decode
 returns-2 c = let a = c.before.before.before.before.before.before.args in
-    rw (is-sane c.before.before.before, ← c.before.before.number_of_lem.ensures)
+    rw (is-sane c.before.before.before, ← c.before.before.number_of.ensures)
     (ap (λ (l : List ℕ). record { status = 0; group = record { counts = l; merge = a.g.merge } }) (c.bytes_of.ensures ∙ ap (bytes 8) c.before.with_value.ensures))
 
 pub change-spec : {M : Type 1} → statement M

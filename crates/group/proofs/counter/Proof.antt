@@ -32,7 +32,7 @@ returns-2 : tie.Need-returns-2
 unfolding read reading decode
 returns-2 c = let n = c.before in
     let a = n.before.before.before.before.args in
-    rw (is-sane n.before, ← n.number_of_lem.ensures) (ap (λ (x : Counter). record { status = 0; value = x.value; level = x.level }) c.counter_at.ensures)
+    rw (is-sane n.before, ← n.number_of.ensures) (ap (λ (x : Counter). record { status = 0; value = x.value; level = x.level }) c.counter_at.ensures)
 
 pub counter-spec : {M : Type 1} → statement M
 counter-spec = tie.close (tie.spec is-valid-requires returns number-of-requires counter-at-requires returns-2)

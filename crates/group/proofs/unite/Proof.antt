@@ -21,7 +21,7 @@ module _ (c : tie.After-number-of2) where
 
   word_in : number s.args.target.counts < cap 3
   unfolding cap
-  word_in = rw (← c.before.number_of_lem.ensures) (omega arith)
+  word_in = rw (← c.before.number_of.ensures) (omega arith)
 
   source_in : number s.args.source.counts < cap 3
   unfolding cap
@@ -52,7 +52,7 @@ number-of-requires-2 c κs = search rules
 unite-requires : tie.Need-unite-requires
 unfolding decode cap
 unite-requires c κs = let t = taken c in
-    (omega arith, ((omega arith, t.0), ((omega arith, t.1), rw (c.before.number_of_lem.ensures, c.number-of2.ensures) t.2)))
+    (omega arith, ((omega arith, t.0), ((omega arith, t.1), rw (c.before.number_of.ensures, c.number-of2.ensures) t.2)))
 
 settled-requires : tie.Need-settled-requires
 settled-requires c κs = search rules
@@ -63,7 +63,7 @@ returns-2 c = let d = c.before.before in
     let a = (s d).args in
     let t = taken d in
     c.settled.ensures
-    ∙ rw (c.before.unite.ensures, d.before.number_of_lem.ensures, d.number-of2.ensures)
+    ∙ rw (c.before.unite.ensures, d.before.number_of.ensures, d.number-of2.ensures)
     (sym (united-stored a.target a.source (word_in d) (source_in d) t.0 t.1 t.2))
 
 pub unite-spec : {M : Type 1} → statement M

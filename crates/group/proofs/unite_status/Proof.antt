@@ -33,7 +33,7 @@ module _ (c : tie.After-number-of2) where
 
   word_in : number s.args.target.counts < cap 3
   unfolding cap
-  word_in = rw (← c.before.number_of_lem.ensures) (omega arith)
+  word_in = rw (← c.before.number_of.ensures) (omega arith)
 
   source_in : number s.args.source.counts < cap 3
   unfolding cap
@@ -71,7 +71,7 @@ returns-3 c = let f = c.before in
     ap status-of
     (sym
     (united-full a.target a.source (word_in d) (source_in d) (is-sane (e d).before.before) (source-sane d)
-    (rw (← d.before.number_of_lem.ensures, ← d.number-of2.ensures) (ltb-false _ _ (sym f.sum_fits.ensures ∙ not-true _ c.if3.true)))))
+    (rw (← d.before.number_of.ensures, ← d.number-of2.ensures) (ltb-false _ _ (sym f.sum_fits.ensures ∙ not-true _ c.if3.true)))))
 
 returns-4 : tie.Need-returns-4
 unfolding decode stored
@@ -81,7 +81,7 @@ returns-4 c = let f = c.before in
     ap status-of
     (sym
     (united-stored a.target a.source (word_in d) (source_in d) (is-sane (e d).before.before) (source-sane d)
-    (rw (← d.before.number_of_lem.ensures, ← d.number-of2.ensures) (ltb-true _ _ (sym f.sum_fits.ensures ∙ not-false _ c.if3.false)))))
+    (rw (← d.before.number_of.ensures, ← d.number-of2.ensures) (ltb-true _ _ (sym f.sum_fits.ensures ∙ not-false _ c.if3.false)))))
 
 pub unite-status-spec : {M : Type 1} → statement M
 unite-status-spec =

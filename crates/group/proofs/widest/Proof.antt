@@ -33,7 +33,7 @@ accepted-requires c κs = search rules
 
 returns-2 : tie.Need-returns-2
 unfolding widest_of
-returns-2 c = rw (is-sane c.before.before) (c.accepted.ensures ∙ ap accepted c.before.widest-level.ensures)
+returns-2 c = rw (is-sane c.before.before) (c.accepted.ensures ∙ ap accepted c.before.widest_level.ensures)
 
 pub widest-spec : {M : Type 1} → statement M
 widest-spec =

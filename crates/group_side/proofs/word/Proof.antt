@@ -33,7 +33,7 @@ number-of-requires c κs = search rules
 returns : tie.Need-returns
 unfolding elements
 returns c = let s = c.before.before.before.before.before.before.before.before.before.before in
-    c.number_of_lem.ensures ∙ number_eight s.args.merges.now s.requires
+    c.number_of.ensures ∙ number_eight s.args.merges.now s.requires
 
 pub word-spec : {M : Type 1} → statement M
 word-spec =

@@ -19,22 +19,22 @@ module _ (c : tie.After-high-word) where
   both-lt : v.value-at.result < cap (s.args.level + 1)
   both-lt = omega (arith, v.value-at.ensures, mod-lt (s.args.word / 2 ^ s.args.place) (cap_pos (s.args.level + 1)))
 
-  sum_lt : c.before.low_word.result + c.high_word_lem.result < 2 ^ 33
+  sum_lt : c.before.low_word.result + c.high_word.result < 2 ^ 33
   sum_lt =
       omega (
         arith,
         c.before.low_word.ensures,
-        c.high_word_lem.ensures,
+        c.high_word.ensures,
         mod-lt v.value-at.result (cap_pos s.args.level),
         high_lt s.args.level v.value-at.result (rw (add-one s.args.level) at both-lt),
         cap_below s.args.level s.pre.0,
       )
 
-  sum_is : c.before.low_word.result + c.high_word_lem.result
+  sum_is : c.before.low_word.result + c.high_word.result
       ≡ s.args.word / 2 ^ s.args.place % cap (s.args.level + 1) % cap s.args.level + s.args.word / 2 ^ s.args.place % cap (s.args.level + 1) / cap s.args.level
   sum_is =
       ap₂ (λ (x y : ℕ). x + y) (c.before.low_word.ensures ∙ ap (λ (x : ℕ). x % cap s.args.level) v.value-at.ensures)
-      (c.high_word_lem.ensures ∙ ap (λ (x : ℕ). x / cap s.args.level) v.value-at.ensures)
+      (c.high_word.ensures ∙ ap (λ (x : ℕ). x / cap s.args.level) v.value-at.ensures)
 
 add-value-at : tie.Need-overflow-add-value-at
 add-value-at c = search rules

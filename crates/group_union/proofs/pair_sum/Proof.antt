@@ -12,7 +12,7 @@ high-word-requires c κs = search rules
 
 add-result : tie.Need-overflow-add-result
 add-result c = let a = c.before.before.args in
-    omega (arith, halves_le a.half a.word, c.before.low_word.ensures, c.high_word_lem.ensures)
+    omega (arith, halves_le a.half a.word, c.before.low_word.ensures, c.high_word.ensures)
 
 returns : tie.Need-returns
 returns c = search rules

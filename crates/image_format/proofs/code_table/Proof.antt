@@ -32,7 +32,7 @@ loop-less c = search rules
 
 loop-again : tie.Need-loop-preserved invariant-loop decreases-loop
 loop-again c = let l = c.before.before.loop in
-    (omega arith, filling_more 128 code_of l.m c.code_of_lem.result l.t (omega arith) c.code_of_lem.ensures l.invariant.1)
+    (omega arith, filling_more 128 code_of l.m c.code_of.result l.t (omega arith) c.code_of.ensures l.invariant.1)
 
 returns : tie.Need-returns invariant-loop decreases-loop
 returns c = λ k h. c.before.loop.invariant.1.1 k (omega arith)

@@ -32,8 +32,8 @@ module _ (n : tie.After-number-of) where
   clean : Clean s.args.g
   clean = good_clean s.args.g good
 
-  word_clean : all_clean signed (layout 3 s.args.g.merge) n.number_of_lem.result ≡ true
-  word_clean = ap (all_clean signed (layout 3 s.args.g.merge)) n.number_of_lem.ensures ∙ clean.counters
+  word_clean : all_clean signed (layout 3 s.args.g.merge) n.number_of.result ≡ true
+  word_clean = ap (all_clean signed (layout 3 s.args.g.merge)) n.number_of.ensures ∙ clean.counters
 
 bad-group-requires : tie.Need-bad-group-requires
 bad-group-requires c κs = search rules
@@ -64,7 +64,7 @@ returns-2 c = let t = c.before in
     let n = p.before in
     let a = (s n).args in
     c.settled.ensures
-    ∙ stored_is a.g _ (add (decode a.g) (a.slot % 8) (amount n)) (rw (← n.number_of_lem.ensures) (p.add-in-place.ensures.1 t.if2.true)) refl
+    ∙ stored_is a.g _ (add (decode a.g) (a.slot % 8) (amount n)) (rw (← n.number_of.ensures) (p.add-in-place.ensures.1 t.if2.true)) refl
     ∙ sym (added-settled a.g a.slot (amount n) (good n))
 
 add-widening-requires : tie.Need-add-widening-requires
@@ -81,7 +81,7 @@ unfolding decode
 returns-3 c = let d = c.before in
     let n = d.before.before.before in
     let a = (s n).args in
-    c.outcome.ensures (add (decode a.g) (a.slot % 8) (amount n)) (rw (← n.number_of_lem.ensures) d.add-widening.ensures)
+    c.outcome.ensures (add (decode a.g) (a.slot % 8) (amount n)) (rw (← n.number_of.ensures) d.add-widening.ensures)
     ∙ sym (added-settled a.g a.slot (amount n) (good n))
 
 pub add_spec : {M : Type 1} → statement M

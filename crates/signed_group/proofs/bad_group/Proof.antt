@@ -17,7 +17,7 @@ is-sane c = sym c.before.is-valid.ensures ∙ not-false _ c.if1.false
 tested : (c : tie.After-no-minus-zero) → let g = c.before.before.before.before.before.args.g in
     all_clean signed (layout 3 g.merge) (number g.counts) ≡ c.no-minus-zero.result
 tested c = let g = c.before.before.before.before.before.args.g in
-    ap (all_clean signed (layout 3 g.merge)) (sym c.before.number_of_lem.ensures) ∙ sym c.no-minus-zero.ensures
+    ap (all_clean signed (layout 3 g.merge)) (sym c.before.number_of.ensures) ∙ sym c.no-minus-zero.ensures
 
 is-valid-requires : tie.Need-is-valid-requires
 is-valid-requires c κs = search rules

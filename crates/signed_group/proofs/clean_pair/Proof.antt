@@ -38,7 +38,7 @@ returns-3 c = λ h.
     let or = or_add_and a.target.merge a.source.merge in
     let none : a.target.merge ≡ 0 = omega (arith, and_le_r a.target.merge a.source.merge) in
     let none' : a.source.merge ≡ 0 = omega (arith, and_le_l a.target.merge a.source.merge) in
-    let first = ap (all_clean signed (layout 3 0)) (sym f.before.number_of_lem.ensures) ∙ sym f.no-minus-zero.ensures ∙ not-false _ e.if2.false in
+    let first = ap (all_clean signed (layout 3 0)) (sym f.before.number_of.ensures) ∙ sym f.no-minus-zero.ensures ∙ not-false _ e.if2.false in
     let second = ap (all_clean signed (layout 3 0)) (sym n.number-of2.ensures) ∙ sym c.no-minus-zero2.ensures ∙ h in
     clean_pair a.target a.source (unmerged_clean a.target none first) (unmerged_clean a.source none' second)
 

@@ -23,8 +23,8 @@ module _ (n : tie.After-number-of2) where
   clean : Clean s.args.target × Clean s.args.source
   clean = pair_clean s.args.target s.args.source s.pre
 
-  target-clean : all_clean signed (layout 3 s.args.target.merge) n.before.number_of_lem.result ≡ true
-  target-clean = ap (all_clean signed (layout 3 s.args.target.merge)) n.before.number_of_lem.ensures ∙ clean.0.counters
+  target-clean : all_clean signed (layout 3 s.args.target.merge) n.before.number_of.result ≡ true
+  target-clean = ap (all_clean signed (layout 3 s.args.target.merge)) n.before.number_of.ensures ∙ clean.0.counters
 
   source-clean : all_clean signed (layout 3 s.args.source.merge) n.number-of2.result ≡ true
   source-clean = ap (all_clean signed (layout 3 s.args.source.merge)) n.number-of2.ensures ∙ clean.1.counters
@@ -64,8 +64,8 @@ returns c = let o = c.before in
     ∙ ap (λ (w : ℕ). times_block a.minus (signed_block 3 w a.source.merge)) n.number-of2.ensures in
     ap (λ (o : Outcome). o.group)
     (o.outcome.ensures (unite (decode a.target) (times_block a.minus (decode a.source)))
-    (u.unite.ensures ∙ ap (λ (y : BlockOf signed 3). signed_summed (unite (signed_block 3 n.before.number_of_lem.result a.target.merge) y)) source
-    ∙ ap (λ (w : ℕ). signed_summed (unite (signed_block 3 w a.target.merge) (times_block a.minus (decode a.source)))) n.before.number_of_lem.ensures)
+    (u.unite.ensures ∙ ap (λ (y : BlockOf signed 3). signed_summed (unite (signed_block 3 n.before.number_of.result a.target.merge) y)) source
+    ∙ ap (λ (w : ℕ). signed_summed (unite (signed_block 3 w a.target.merge) (times_block a.minus (decode a.source)))) n.before.number_of.ensures)
     ∙ sym (combined-settled a.minus a.target a.source (s n).requires))
 
 pub combine-clean-spec : {M : Type 1} → statement M

@@ -27,7 +27,7 @@ module _ (f : tie.After-sum-fits) where
 
   word_in : number s.args.target.counts < cap 3
   unfolding cap
-  word_in = rw (← n.before.number_of_lem.ensures) (omega arith)
+  word_in = rw (← n.before.number_of.ensures) (omega arith)
 
   source_in : number s.args.source.counts < cap 3
   unfolding cap
@@ -37,8 +37,8 @@ module _ (f : tie.After-sum-fits) where
   tested : sum_fits s.args.minus (number s.args.target.counts) s.args.target.merge (number s.args.source.counts) s.args.source.merge
       ≡ f.sum_fits.result
   tested =
-      ap (λ (w : ℕ). sum_fits s.args.minus w s.args.target.merge (number s.args.source.counts) s.args.source.merge) (sym n.before.number_of_lem.ensures)
-      ∙ ap (λ (w : ℕ). sum_fits s.args.minus n.before.number_of_lem.result s.args.target.merge w s.args.source.merge) (sym n.number-of2.ensures)
+      ap (λ (w : ℕ). sum_fits s.args.minus w s.args.target.merge (number s.args.source.counts) s.args.source.merge) (sym n.before.number_of.ensures)
+      ∙ ap (λ (w : ℕ). sum_fits s.args.minus n.before.number_of.result s.args.target.merge w s.args.source.merge) (sym n.number-of2.ensures)
       ∙ sym f.sum_fits.ensures
 
 bad-pair-requires : tie.Need-bad-pair-requires

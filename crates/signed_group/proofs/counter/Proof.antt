@@ -40,7 +40,7 @@ number-of-requires c κs = search rules
 counter-at-requires : tie.Need-counter-at-requires
 counter-at-requires c κs = let e = c.before in
     let g = e.before.before.before.args.g in
-    ((clean e).merges, (omega arith, ap (all_clean signed (layout 3 g.merge)) c.number_of_lem.ensures ∙ (clean e).counters))
+    ((clean e).merges, (omega arith, ap (all_clean signed (layout 3 g.merge)) c.number_of.ensures ∙ (clean e).counters))
 
 returns-2 : tie.Need-returns-2
 unfolding read decode
@@ -48,7 +48,7 @@ returns-2 c = let d = c.before in
     let n = d.before in
     let a = n.before.before.before.before.args in
     let value : d.counter_at.result.value ≡ signed_of (counter_value (decode a.g) (a.slot % 8)) =
-    d.counter_at.ensures.0 ∙ ap (λ (w : ℕ). signed_of (counter_value (signed_block 3 w a.g.merge) (a.slot % 8))) n.number_of_lem.ensures in
+    d.counter_at.ensures.0 ∙ ap (λ (w : ℕ). signed_of (counter_value (signed_block 3 w a.g.merge) (a.slot % 8))) n.number_of.ensures in
     let most = d.counter_at.ensures.1.1 in (
       rw (eq-eqb (bad_group a.g) 0 (good n.before))
           (ap₂ (λ (v : Signed) (l : ℕ). record { status = 0; value = v; level = l }) value d.counter_at.ensures.1.0),

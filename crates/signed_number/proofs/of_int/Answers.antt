@@ -43,8 +43,8 @@ module _ (c : Then-wide-lt0) where
   is_wide : let a = c.args.amount in wide a ≡ a
   is_wide = wide_is c.args.amount c.ranges.amount
 
-  below : let a = c.before.args.amount in SFits w64 (pos 0 -ℤ a) × ((to_z w64 (of_z w64 (pos 0 -ℤ a)) ≡ pos (nat_abs a)) × (record { minus = true; magnitude = nat_abs a } ≡ signed_of a))
-  below = negation c.before.args.amount c.before.ranges.amount (ap (λ (z : ℤ). lt_z z (pos 0)) (sym is_wide) ∙ c.if1.true)
+  below : let a = c.args.amount in SFits w64 (pos 0 -ℤ a) × ((to_z w64 (of_z w64 (pos 0 -ℤ a)) ≡ pos (nat_abs a)) × (record { minus = true; magnitude = nat_abs a } ≡ signed_of a))
+  below = negation c.args.amount c.ranges.amount (ap (λ (z : ℤ). lt_z z (pos 0)) (sym is_wide) ∙ c.if-wide-lt0.true)
 
 pub overflow_sub-result : goal.overflow_sub-result
 overflow_sub-result c = rw (is_wide c) (below c).0

@@ -35,7 +35,7 @@ beside-requires c κs = let s = start c in
 formed-requires : tie.Need-formed-requires
 formed-requires c κs = let k = c.before in
     let s = start k in
-    (omega arith, (s.pre.word_in, (s.pre.other-in, nodes-beside 1 s.args.b s.pre _ _ (left_is k) (right_is k) c.beside.result c.beside.ensures.0 c.beside.ensures.1)))
+    (omega arith, (s.pre.word_in, (s.pre.other_in, nodes-beside 1 s.args.b s.pre _ _ (left_is k) (right_is k) c.beside.result c.beside.ensures.0 c.beside.ensures.1)))
 
 returns : tie.Need-returns
 returns c = search rules

@@ -12,7 +12,7 @@ slots-total-requires-2 c κs = search rules
 
 formed-requires : tie.Need-formed-requires
 formed-requires c κs = let s = c.before.before.before in
-    (omega arith, (s.requires.word_in, (s.requires.other-in, two_sides s.args.b _ _ s.requires c.before.before.slots-total.ensures c.before.slots-total2.ensures)))
+    (omega arith, (s.requires.word_in, (s.requires.other_in, two_sides s.args.b _ _ s.requires c.before.before.slots-total.ensures c.before.slots-total2.ensures)))
 
 returns : tie.Need-returns
 returns c = search rules

@@ -36,7 +36,7 @@ module _ (c : tie.After-eight-slots) where
   first_in = apart_in 2 _ _ start.pre.0.word_in start.pre.1.0
 
   second_in : nat_abs second < top 2 + top 2
-  second_in = apart_in 2 _ _ start.pre.0.other-in start.pre.1.1
+  second_in = apart_in 2 _ _ start.pre.0.other_in start.pre.1.1
 
 eight-slots-requires : tie.Need-eight-slots-requires
 eight-slots-requires c κs = search rules

@@ -36,7 +36,7 @@ high-word-requires c κs = search rules
 value-requires-2 : tie.Need-value-requires-2
 value-requires-2 c κs = let v = c.before.before.before in
     let n = v.before.args.level in
-    (omega arith, omega (arith, c.high_word_lem.ensures, high_lt n v.value-at.result (rw (add-one n) at (both-lt v))))
+    (omega arith, omega (arith, c.high_word.ensures, high_lt n v.value-at.result (rw (add-one n) at (both-lt v))))
 
 plus-requires : tie.Need-plus-requires
 plus-requires c κs = let l = c.before.before in
@@ -49,7 +49,7 @@ returns c = let r = c.before in
     let v = l.before.before in
     let n = v.before.args.level in
     let left = l.value.ensures.0 ∙ ap (sign_read n) (l.before.low_word.ensures ∙ ap (λ (x : ℕ). x % cap n) v.value-at.ensures) in
-    let right = r.value2.ensures.0 ∙ ap (sign_read n) (r.before.high_word_lem.ensures ∙ ap (λ (x : ℕ). x / cap n) v.value-at.ensures) in (
+    let right = r.value2.ensures.0 ∙ ap (sign_read n) (r.before.high_word.ensures ∙ ap (λ (x : ℕ). x / cap n) v.value-at.ensures) in (
       c.plus.ensures.0 ∙ ap₂ (λ (x y : ℤ). signed_of (x +ℤ y)) left right,
       omega (arith, c.plus.ensures.1, l.value.ensures.1.0, r.value2.ensures.1.0, top_half n v.before.requires.0),
     )

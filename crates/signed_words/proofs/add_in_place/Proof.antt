@@ -75,7 +75,7 @@ module _ (f : tie.Else1) where
   bits = t.add-to.ensures.1 held ∙ ap (sign_bits n) (sum_is t) ∙ ap (λ (x : ℕ). sign_bits x (sum t)) (level_is t)
 
   bits_in : t.add-to.result.bits < cap n
-  bits_in = omega (arith, bits, signed_codes.bits-lt (level t) (sum t) fits, ap cap (level_is t))
+  bits_in = omega (arith, bits, signed_codes.bits_lt (level t) (sum t) fits, ap cap (level_is t))
 
 -- the counter's place
 module _ (p : tie.After-place) where

@@ -25,7 +25,7 @@ loop-holds c = let s = c.before.before.before in
     let e : a.n - 0 ≡ a.n = omega arith in (
       omega arith,
       omega (arith, h.entries, in-use-most a.list.now h.long),
-      record { long = h.long; is_sound = h.is-sound; key_long = s.requires.1; is_digest = c.digest.ensures },
+      record { long = h.long; is_sound = h.is_sound; key_long = s.requires.1; is_digest = c.digest.ensures },
       rw e (omega arith),
     )
 

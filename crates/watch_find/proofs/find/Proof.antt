@@ -28,12 +28,12 @@ has-key-requires : tie.Need-has-key-requires invariant-loop decreases-loop
 has-key-requires c κs = let l = c.before.loop in
     let a = c.before.before.before.before.before.args in
     let holds = l.invariant.2 in
-    (holds.long, ((omega arith, length-short a.list.now holds.long holds.is-sound l.k (omega arith)), l.invariant.3))
+    (holds.long, ((omega arith, length-short a.list.now holds.long holds.is_sound l.k (omega arith)), l.invariant.3))
 
 returns : tie.Need-returns invariant-loop decreases-loop
 returns c = let l = c.before.before.before.loop in
     let a = c.before.before.before.before.before.before.before.args in
-    let same = sym c.before.has_key_lem.ensures ∙ c.if1.true in
+    let same = sym c.before.has_key.ensures ∙ c.if1.true in
     (omega (arith, l.invariant.4, index-here a.key.now a.list.now a.n l.k (omega arith) same), omega arith)
 
 add-k : tie.Need-overflow-add-k invariant-loop decreases-loop
@@ -45,7 +45,7 @@ loop-less c = search rules
 loop-again : tie.Need-loop-preserved invariant-loop decreases-loop
 loop-again c = let l = c.before.before.before.loop in
     let a = c.before.before.before.before.before.before.before.args in
-    let differs = sym c.before.has_key_lem.ensures ∙ c.if1.false in
+    let differs = sym c.before.has_key.ensures ∙ c.if1.false in
     (omega arith, l.invariant.1, l.invariant.2, l.invariant.3, sym (index-past a.key.now a.list.now a.n l.k (omega arith) differs) ∙ l.invariant.4)
 
 returns-2 : tie.Need-returns-2 invariant-loop decreases-loop

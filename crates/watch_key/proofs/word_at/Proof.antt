@@ -11,7 +11,7 @@ number-of-requires : tie.Need-number-of-requires
 number-of-requires c κs = search rules
 
 returns : tie.Need-returns
-returns c = c.number_of_lem.ensures ∙ ap number c.before.eight.ensures
+returns c = c.number_of.ensures ∙ ap number c.before.eight.ensures
 
 pub word-at-spec : {M : Type 1} → statement M
 word-at-spec = tie.close (tie.spec eight-requires number-of-requires returns)

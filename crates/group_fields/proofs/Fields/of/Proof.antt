@@ -10,7 +10,7 @@ number-of-requires c κs = search rules
 
 returns : tie.Need-returns
 unfolding fields_of
-returns c = ap (λ (w : ℕ). record { word = w }) c.number_of_lem.ensures
+returns c = ap (λ (w : ℕ). record { word = w }) c.number_of.ensures
 
 pub of_spec : {M : Type 1} → statement M
 of_spec = tie.close (tie.spec number-of-requires returns)
