@@ -13,7 +13,7 @@ loop-i-preserved c = let l = c.loop-i in
     let a = c.args in
     let xs = c.args.counts.now in
     let ys = c.args.source.now in
-    let sum = c.wrapping_add_u8.ensures ∙ sym (wrapped_at xs ys l.i (omega arith) (omega arith)) in (
+    let sum = c.wrapping_add_u8.ensures.value ∙ sym (wrapped_at xs ys l.i (omega arith) (omega arith)) in (
       omega arith,
       rw (sum, l.invariant.1) (copy_more (wrapped_sums xs ys) (replicate 64 0) l.i (omega (arith, length_wrapped xs ys)) (rw (length-replicate 64) (omega arith))),
       rw c.carry-carries.ensures (fit-turn xs ys l.i (omega arith) (omega arith) l.carries ∙ l.invariant.2),

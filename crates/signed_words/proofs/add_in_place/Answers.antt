@@ -69,39 +69,36 @@ module _ (f : Else-not-k) where
 
 -- the counter's place
 module _ (p : After-place) where
-  abbrev a : tie.Start
-  a = s (goal.at.After-place p).After-add_to-k
-
   abbrev q : ℕ
   q = p.place.result
 
-  word_in : a.args.word < cap 3
+  word_in : p.args.word < cap 3
   unfolding cap
   word_in = omega arith
 
-  at_level : (counter_at (block 3 a.args.word a.args.merge) a.args.slot).level ≡ n (goal.at.After-place p).Else-not-k
-  at_level = ap (λ (c : Counter). c.level) (sym (k (goal.at.After-place p).After-add_to-k).counter_at.ensures)
+  at_level : (counter_at (block 3 p.args.word p.args.merge) p.args.slot).level ≡ n (goal.at.After-place p).Else-not-k
+  at_level = ap (λ (c : Counter). c.level) (sym p.counter_at-c.ensures)
 
   in-word : q + 8 * 2 ^ n (goal.at.After-place p).Else-not-k ≤ 64
   in-word =
-      let b = block 3 a.args.word a.args.merge in
-      omega (arith, p.place.ensures.value, rw (first_is b a.args.slot a.pre.1.0, at_level) at (first_in b a.args.slot))
+      let b = block 3 p.args.word p.args.merge in
+      omega (arith, p.place.ensures.value, rw (first_is b p.args.slot p.requires.fact_2, at_level) at (first_in b p.args.slot))
 
-  old-is : (k (goal.at.After-place p).After-add_to-k).counter_at.result.value ≡ a.args.word / 2 ^ q % cap (n (goal.at.After-place p).Else-not-k)
+  old-is : p.counter_at-c.result.value ≡ p.args.word / 2 ^ q % cap (n (goal.at.After-place p).Else-not-k)
   old-is =
       ap (λ (c : Counter). c.value)
-      ((k (goal.at.After-place p).After-add_to-k).counter_at.ensures ∙ counter_at_lem a.args.word a.args.merge a.args.slot (n (goal.at.After-place p).Else-not-k) q word_in a.pre.1.0 at_level p.place.ensures.value)
+      (p.counter_at-c.ensures ∙ counter_at_lem p.args.word p.args.merge p.args.slot (n (goal.at.After-place p).Else-not-k) q word_in p.requires.fact_2 at_level p.place.ensures.value)
 
 pub place-requires : goal.place-requires
-place-requires c = record { fact_1 = (in-level (k (goal.at.place-requires c).After-add_to-k)).0; fact_2 = (s (goal.at.place-requires c).After-add_to-k).pre.1.0 }
+place-requires c = record { fact_1 = (in-level (goal.at.place-requires c).After-counter_at-c).0; fact_2 = c.requires.fact_2 }
 
 pub exchange-requires : goal.exchange-requires
-exchange-requires c = record { fact_1 = (in-level (k (t (goal.at.exchange-requires c).Else-not-k))).0; fact_2 = in-word c; fact_3 = old-is c; fact_4 = bits_in (goal.at.exchange-requires c).Else-not-k }
+exchange-requires c = record { fact_1 = (in-level (goal.at.exchange-requires c).After-counter_at-c).0; fact_2 = in-word c; fact_3 = old-is c; fact_4 = bits_in (goal.at.exchange-requires c).Else-not-k }
 
 pub returns : goal.returns
 returns c = let b = c.add_to-k.result.bits in
-    let g = (a (goal.at.returns c).After-place).args in
+    let g = c.args in
     let new : c.exchange.result ≡ number_of (change (block 3 g.word g.merge) g.slot (sign_bits (level (goal.at.returns c).After-add_to-k) (sum (goal.at.returns c).After-add_to-k))) =
-    value-put g.word g.merge g.slot (n (goal.at.returns c).Else-not-k) (q (goal.at.returns c).After-place) (word_in (goal.at.returns c).After-place) (a (goal.at.returns c).After-place).requires.1.0 (at_level (goal.at.returns c).After-place) c.place.ensures.value b b
+    value-put g.word g.merge g.slot (n (goal.at.returns c).Else-not-k) (q (goal.at.returns c).After-place) (word_in (goal.at.returns c).After-place) c.requires.fact_2 (at_level (goal.at.returns c).After-place) c.place.ensures.value b b
     (sym (mod-eq_of_lt {n = b} {m = cap (n (goal.at.returns c).Else-not-k)} (bits_in (goal.at.returns c).Else-not-k))) c.exchange.result c.exchange.ensures
-    ∙ ap (λ (x : ℕ). number_of (change (block 3 g.word g.merge) g.slot x)) (bits (goal.at.returns c).Else-not-k) in record { held_value = sym (sym (held_is (goal.at.returns c).After-add_to-k) ∙ held (goal.at.returns c).Else-not-k); stays = λ y. rw new (stays g.word g.merge g.slot (integer_of g.amount) (word_in (goal.at.returns c).After-place) (a (goal.at.returns c).After-place).requires.0 (a (goal.at.returns c).After-place).requires.1.1 (fits (goal.at.returns c).Else-not-k)) }
+    ∙ ap (λ (x : ℕ). number_of (change (block 3 g.word g.merge) g.slot x)) (bits (goal.at.returns c).Else-not-k) in record { held_value = sym (sym (held_is (goal.at.returns c).After-add_to-k) ∙ held (goal.at.returns c).Else-not-k); stays = λ y. rw new (stays g.word g.merge g.slot (integer_of g.amount) (word_in (goal.at.returns c).After-place) c.requires.fact_1 c.requires.fact_3 (fits (goal.at.returns c).Else-not-k)) }

@@ -14,7 +14,7 @@ use Rattle.signed_words.specs.Words as words
 use Rattle.signed_words.proofs.Raising.{raised_is, holds, lowered_is, moved-is, no_room, room_more}
 use borrow.Author.Rules.{rules}
 use Rattle.signed_words.proofs.add_to.Goals as goal
-use Rattle.signed_words.proofs.add_to.Goals.{After-moved, After-raised-before, After-room, Else-room-amount}
+use Rattle.signed_words.proofs.add_to.Goals.{After-moved, After-raised-before, After-room, After-top-sign, Else-room-amount}
 
 -- the raised value
 module _ (c : After-raised-before) where
@@ -51,37 +51,32 @@ returns-then-room-amount c = let a = c.args.amount in
 
 -- the sum
 module _ (c : Else-room-amount) where
-  enough : (s (goal.at.Else-room-amount c).After-raised-before).args.amount.magnitude ≤ words.room c.raised-before.result (cap (n (goal.at.Else-room-amount c).After-raised-before) - 1) (s (goal.at.Else-room-amount c).After-raised-before).args.amount.minus
+  enough : c.args.amount.magnitude ≤ words.room c.raised-before.result (cap (n (goal.at.Else-room-amount c).After-raised-before) - 1) c.args.amount.minus
   enough = rw (room-is (goal.at.Else-room-amount c).After-room) at c.if-room-amount.false
 
   small : cap (n (goal.at.Else-room-amount c).After-raised-before) ≤ 2 ^ 64
-  small = omega (arith, top_twice (n (goal.at.Else-room-amount c).After-raised-before), top_most (n (goal.at.Else-room-amount c).After-raised-before) (s (goal.at.Else-room-amount c).After-raised-before).pre.0)
+  small = omega (arith, top_twice (n (goal.at.Else-room-amount c).After-raised-before), top_most (n (goal.at.Else-room-amount c).After-raised-before) c.requires.fact_1)
 
 pub moved-requires : goal.moved-requires
-moved-requires c = let e = o (goal.at.moved-requires c).After-room in
-    let a = (s e).args.amount in
-    let more = room_more e.raised.result (cap (n e) - 1) (2 ^ 64 - 1) a.minus (omega (arith, small c)) in
+moved-requires c = let a = c.args.amount in
+    let more = room_more c.raised-before.result (cap (n (goal.at.moved-requires c).After-raised-before) - 1) (2 ^ 64 - 1) a.minus (omega (arith, small c)) in
     omega (arith, enough c, more)
 
 -- it is the sum of the raised value and the amount
 module _ (c : After-moved) where
-  abbrev g : tie.After-raised
-  g = o (goal.at.After-moved c).After-room
-
-  moved : Raised (top (n g)) c.moved.result (sum g) × (0 < c.moved.result) × (c.moved.result < cap (n g))
-  moved = let r = is g in
-      let a = (s g).args.amount in
-      moved-is (n g) g.raised.result (v g) r.0 r.1 r.2 a.minus a.magnitude c.moved.result (enough (goal.at.After-moved c).Else-room-amount) c.moved.ensures
+  moved : Raised (top (n (goal.at.After-moved c).After-raised-before)) c.moved.result (sum (goal.at.After-moved c).After-raised-before) × (0 < c.moved.result) × (c.moved.result < cap (n (goal.at.After-moved c).After-raised-before))
+  moved = let r = is (goal.at.After-moved c).After-raised-before in
+      let a = c.args.amount in
+      moved-is (n (goal.at.After-moved c).After-raised-before) c.raised-before.result (v (goal.at.After-moved c).After-raised-before) r.0 r.1 r.2 a.minus a.magnitude c.moved.result (enough (goal.at.After-moved c).Else-room-amount) c.moved.ensures
 
 pub lowered-requires : goal.lowered-requires
-lowered-requires c = let t = (g c).before in record { fact_1 = (moved c).1; fact_2 = omega (arith, t.top.ensures, top_most (n (g c)) (s (g c)).pre.0) }
+lowered-requires c = let t = (goal.at.lowered-requires c).After-top-sign in record { fact_1 = (moved c).1; fact_2 = omega (arith, c.top-sign.ensures, top_most (n (goal.at.lowered-requires c).After-raised-before) c.requires.fact_1) }
 
 pub returns : goal.returns
-returns c = let e = g (goal.at.returns c).After-moved in
-    let r = moved (goal.at.returns c).After-moved in record {
-      held_value = sym (lt-ltb (nat_abs (sum e)) (top (n e)) (holds (n e) c.moved.result (sum e) r.0 r.1 r.2));
-      bits_value = λ y.
-          c.lowered.ensures
-          ∙ ap (λ (t : ℕ). words.lowered t c.moved.result) e.before.top.ensures
-          ∙ lowered_is (n e) c.moved.result (sum e) r.0;
-    }
+returns c = let r = moved (goal.at.returns c).After-moved in record {
+  held_value = sym (lt-ltb (nat_abs (sum (goal.at.returns c).After-raised-before)) (top (n (goal.at.returns c).After-raised-before)) (holds (n (goal.at.returns c).After-raised-before) c.moved.result (sum (goal.at.returns c).After-raised-before) r.0 r.1 r.2));
+  bits_value = λ y.
+      c.lowered.ensures
+      ∙ ap (λ (t : ℕ). words.lowered t c.moved.result) c.top-sign.ensures
+      ∙ lowered_is (n (goal.at.returns c).After-raised-before) c.moved.result (sum (goal.at.returns c).After-raised-before) r.0;
+}
