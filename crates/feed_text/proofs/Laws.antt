@@ -9,12 +9,6 @@ use native.Mathlib.Decide.{dec_lt}
 use borrow.Author.Tests.{lt-ltb, le-ltb}
 use lib.ListN.{length, get_or, take, drop, set}
 use lib.Seq.{take-suc, take-suc-set}
-use types.Run.{OneOf}
-use denote.Enum.Declared.{tag_of}
-use Rattle.feed_line.specs.declared.Line.{Line}
-use Rattle.feed_line.specs.declared.Line.TheVariants as line
-use Rattle.feed_line.specs.contracts.Line as the-line
-use Rattle.feed_text.specs.Line.{updated_label, text}
 use Rattle.feed_text.specs.Text.{digits_before, decimal, number_after}
 
 -- a turn of a copy behind the first bytes of a buffer
@@ -69,13 +63,3 @@ after_digits (suc k) n text h p = elim (dec_lt n 10) [
 pub decimal_value : (n : ℕ) → n < 2 ^ 64 → number_after 0 (decimal n) ≡ n
 unfolding decimal number_after
 decimal_value n h = after_digits 20 n [] (omega arith) (omega arith)
-
--- the second of the cases of a line
-pub text_updated : (l : Line) → OneOf (1 ∷ []) (tag_of the-line.the_type l) → text l ≡ updated_label
-unfolding text
-text_updated (line.Geometry d w) h = absurd (omega arith)
-text_updated line.Updated h = refl
-text_updated (line.Estimate v) h = absurd (omega arith)
-text_updated (line.End n) h = absurd (omega arith)
-text_updated (line.Refused s) h = absurd (omega arith)
-text_updated (line.Stopped s i) h = absurd (omega arith)

@@ -1,21 +1,27 @@
-use Rattle.feed_line.proofs.Laws.{tag_continues}
-use borrow.Author.Rules.{rules}
+use Rattle.feed_line.specs.Line.{continues}
+use Rattle.std.proofs.Common.{refl}
 use Rattle.feed_line.proofs.continues.Goals as goal
 
 pub returns-in-Geometry : goal.returns-in-Geometry
-returns-in-Geometry c = tag_continues c.args.l 0 c.in-Geometry.in-Geometry-own.keys1
+unfolding continues
+returns-in-Geometry c = rw c.in-Geometry.is refl
 
 pub returns-in-Updated : goal.returns-in-Updated
-returns-in-Updated c = tag_continues c.args.l 1 c.in-Updated.in-Updated-own.keys2
+unfolding continues
+returns-in-Updated c = rw c.in-Updated.is refl
 
 pub returns-in-Estimate : goal.returns-in-Estimate
-returns-in-Estimate c = tag_continues c.args.l 2 c.in-Estimate.in-Estimate-own.keys3
+unfolding continues
+returns-in-Estimate c = rw c.in-Estimate.is refl
 
 pub returns-in-End : goal.returns-in-End
-returns-in-End c = tag_continues c.args.l 3 c.in-End.in-End-own.keys4
+unfolding continues
+returns-in-End c = rw c.in-End.is refl
 
 pub returns-in-Refused : goal.returns-in-Refused
-returns-in-Refused c = tag_continues c.args.l 4 c.in-Refused.in-Refused-own.keys5
+unfolding continues
+returns-in-Refused c = rw c.in-Refused.is refl
 
 pub returns-in-Stopped : goal.returns-in-Stopped
-returns-in-Stopped c = tag_continues c.args.l 5 c.in-Stopped.in-Stopped-own.keys6
+unfolding continues
+returns-in-Stopped c = rw c.in-Stopped.is refl

@@ -1,6 +1,5 @@
 use mathlib.Core.Path.{sym, ◌∙◌}
 use Rattle.feed_line.specs.Line.{refused_line}
-use borrow.Author.Rules.{rules}
 use Rattle.feed_line.proofs.refused_line.Goals as goal
 
 pub returns-then-stops : goal.returns-then-stops

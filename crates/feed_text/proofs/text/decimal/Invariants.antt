@@ -1,0 +1,14 @@
+use Prim.Native.Nat.{suc, ◌-◌, ◌^◌, ◌≤◌, ◌<◌}
+use mathlib.Core.Path.{◌≡◌, refl, sym, ◌∙◌}
+use native.Mathlib.Omega.{arith}
+use lib.ListN.{length, drop, length-set}
+use borrow.Author.Rules.{rules}
+use Rattle.feed_text.specs.Text.{digits_before, decimal}
+use Rattle.feed_text.proofs.Laws.{digits_more, digits_last, two_places, less_places, drop_set_at}
+use Rattle.feed_text.proofs.text.decimal.Given as goal
+
+abbrev pub invariant-loop-rest : goal.invariant-loop-rest
+invariant-loop-rest l = (1 ≤ l.start) × (l.start ≤ 20) × (l.rest < 10 ^ l.start) × (length l.bytes ≡ 20) × (digits_before l.start l.rest (drop l.start l.bytes) ≡ decimal l.n)
+
+abbrev pub decreases-loop-rest : goal.decreases-loop-rest
+decreases-loop-rest l = l.rest
