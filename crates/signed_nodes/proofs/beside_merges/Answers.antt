@@ -5,24 +5,14 @@ use lib.Bits.{or_shifted}
 use native.Mathlib.Nat.{mod-eq_of_lt, mul-le-mul}
 use lib.Pow.{pow_mono}
 use borrow.Author.Rules.{rules}
-use Rattle.signed_nodes.proofs.beside_merges.Statement.{statement}
-use Rattle.signed_nodes.proofs.beside_merges.Tie as tie
+use Rattle.signed_nodes.proofs.beside_merges.Goals as goal
 
-slots-requires : tie.Need-slots-requires
-slots-requires c κs = search rules
-
-shl-result : tie.Need-overflow-shl-result
-shl-result c = search rules
-
-returns : tie.Need-returns
+pub returns : goal.returns
 returns c = λ h k.
-    let a = c.before.args in
+    let a = c.args in
     let p = 2 ^ (2 ^ a.half) in
-    let e : 2 ^ c.slots.result ≡ p = ap (λ (k : ℕ). 2 ^ k) c.slots.ensures.0 in
+    let e : 2 ^ c.slots.result ≡ p = ap (λ (k : ℕ). 2 ^ k) c.slots.ensures.value in
     let small : p ≤ 16 = rw (← e) (pow_mono {i = c.slots.result} {j = 4} (omega arith)) in
     let fits : a.right * p < 256 =
     omega (arith, mul-le-mul {n₁ = a.right} {m₁ = p} {n₂ = 15} {m₂ = 16} (omega arith) small) in
     rw (e, mod-eq_of_lt {n = a.right * p} {m = 256} fits) (or_shifted a.right (2 ^ a.half) a.left h)
-
-pub beside-merges-spec : {M : Type 1} → statement M
-beside-merges-spec = tie.close (tie.spec slots-requires shl-result returns)
