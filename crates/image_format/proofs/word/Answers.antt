@@ -3,13 +3,9 @@ use native.Mathlib.Omega.{arith}
 use Rattle.image_format.specs.Image.{word}
 use native.Mathlib.Nat.{mod-eq_of_lt}
 use lib.Bits.{or_shifted}
-use Rattle.image_format.proofs.word.Statement.{statement}
-use Rattle.image_format.proofs.word.Tie as tie
+use Rattle.image_format.proofs.word.Goals as goal
 
-returns : tie.Need-returns
+pub returns : goal.returns
 unfolding word
 returns c = let a = c.args in
     rw (mod-eq_of_lt {n = a.kind * 2 ^ 28} {m = 2 ^ 32} (omega arith)) (or_shifted a.kind 28 a.payload (omega arith))
-
-pub word-spec : {M : Type 1} → statement M
-word-spec = tie.close (tie.spec returns)
