@@ -1,6 +1,6 @@
 -- Laws of bytes tested and added side by side.
 use Rattle.std.proofs.Common.{◌≡◌, ℕ, zero, suc, ◌+◌, ◌/◌, ◌%◌, ◌<◌, ◌≤◌, Bool, true, false, not, ◌&&◌, ◌||◌, eqb, ltb, List, [], ◌∷◌, length, get_or, take, drop, sym, refl, ap, ◌∙◌, ap₂, true≢false, add-one, arith, drop_of_length-le, drop-cons, ltb-true, le-ltb, lt-ltb, eq-eqb, ne_eqb, eqb-true}
-use mathlib.Core.Bool.{and_assoc, or_assoc, and-true, or_false, and-eq-true_iff}
+use mathlib.Core.Bool.{and_assoc, or_assoc, and-true, or-false, and-eq-true_iff}
 use native.Mathlib.Decide.{dec_lt}
 use borrow.Author.Tests.{not-true}
 use lib.Bits.{bit_or, or_add_and, and_le_l, and_le_r}
@@ -33,7 +33,7 @@ module _ (ms : List ℕ) (i any : ℕ) where
 
   pub any-end : length ms ≤ i → (not (eqb any 0) || any_merged (drop i ms)) ≡ not (eqb any 0)
   unfolding any_merged
-  any-end h = rw (drop_of_length-le ms h) (or_false (not (eqb any 0)))
+  any-end h = rw (drop_of_length-le ms h) (or-false (not (eqb any 0)))
 
 -- none merged: each byte is 0
 pub none_merged_lem : (ms : List ℕ) → any_merged ms ≡ false → (i : ℕ) → get_or ms i 0 ≡ 0

@@ -1,7 +1,7 @@
 -- What holds of a list's entries through each change of it, whatever its bytes: the proof's own terms.
 use mathlib.Core.Path.{◌≡◌, refl, sym, ap, ◌∙◌}
-use mathlib.Core.Bool.{Bool, true, false, cond, not, ◌&&◌, ◌||◌, true≢false, or-true, or_false}
-use mathlib.Core.List.{List, [], ◌∷◌, ◌++◌, map, map_append, append-nil}
+use mathlib.Core.Bool.{Bool, true, false, cond, not, ◌&&◌, ◌||◌, true≢false, or-true, or-false}
+use mathlib.Core.List.{List, [], ◌∷◌, ◌++◌, map, map-append, append-nil}
 use Prim.Native.Nat.{ℕ, suc, ◌+◌, ◌-◌, ◌^◌, ◌≤◌, ◌<◌}
 use native.Mathlib.Omega.{arith}
 use borrow.Author.Tests.{le-leb, eq-eqb, ne_eqb}
@@ -190,9 +190,9 @@ module _ (t : ℕ) (watch : Watch) (total : List ℕ → ℕ) (Right : List ℕ 
           heavy = λ m k r s. same_or_not key k (λ p. rw (← p) here) (λ p. more k (heavy-other m k p r s));
           estimates = λ k r.
               same_or_not key k (λ p. rw (← p, joined_same es (joining key v) l) right)
-              (λ p. rw (joined_other k es (joining key v) p) (estimate-other k p (sym (or_false (listed k es)) ∙ rw (listed_append k es (joining key v ∷ []), p) at r)));
+              (λ p. rw (joined_other k es (joining key v) p) (estimate-other k p (sym (or-false (listed k es)) ∙ rw (listed_append k es (joining key v ∷ []), p) at r)));
           order_is =
-              map_append (λ (e : Entry). e.key) es (joining key v ∷ [])
+              map-append (λ (e : Entry). e.key) es (joining key v ∷ [])
               ∙ rw (← h.order_is, all_pass (λ k. listed k now) es more, here, l);
           mark_is = rw (l, q, ne_eqb (length es) 64 (λ z. omega (arith, room))) h.mark_is;
         }

@@ -1,0 +1,6 @@
+use Rattle.std.proofs.Common.{◌≡◌, ◌-◌, ◌≤◌, ◌++◌, length, get_or, take, drop, refl, ◌∙◌, arith, length-set, take_all, rules}
+use Rattle.laws.proofs.Lists.{copy_more, copy_all}
+use Rattle.group_side.proofs.put.Given as goal
+
+abbrev pub invariant-loop-i : goal.invariant-loop-i
+invariant-loop-i l = (l.i ≤ 64) × (l.counts ≡ take l.i l.bytes ++ drop l.i l.initial.counts) × (length l.counts ≡ 64)

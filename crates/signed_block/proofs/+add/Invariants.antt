@@ -1,0 +1,5 @@
+use Prim.Native.Nat.{ℕ, ◌+◌, ◌-◌, ◌^◌, ◌<◌}
+use Rattle.signed_block.proofs.+add.Given as goal
+
+abbrev pub decreases-add : goal.decreases-add
+decreases-add l = l.level

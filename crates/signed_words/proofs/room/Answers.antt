@@ -1,0 +1,11 @@
+use Rattle.signed_words.specs.Words.{room}
+use borrow.Author.Rules.{rules}
+use Rattle.signed_words.proofs.room.Goals as goal
+
+pub returns-then-minus : goal.returns-then-minus
+unfolding room
+returns-then-minus c = rw c.if-minus.true
+
+pub returns-else-minus : goal.returns-else-minus
+unfolding room
+returns-else-minus c = rw c.if-minus.false
