@@ -1,0 +1,56 @@
+use mathlib.Core.Path.{◌≡◌, refl, sym, ap, ◌∙◌}
+use mathlib.Core.Bool.{true}
+use Prim.Native.Nat.{ℕ, ◌%◌}
+use native.Mathlib.Omega.{arith}
+use lib.IntN.{ℤ}
+use Rattle.group_layout.specs.Layout.{layout}
+use Rattle.group_block.specs.Block.{cap, all_clean}
+use Rattle.group_block.specs.Sum.{add}
+use Rattle.group.specs.Group.{unchanged}
+use Rattle.signed_number.specs.Number.{integer}
+use Rattle.signed_block.specs.Signed.{signed}
+use Rattle.signed_group.specs.Group.{bad_group, decode}
+use Rattle.signed_group.proofs.Laws.{Clean, good_clean, stored_is, added-refused, added-settled}
+use borrow.Author.Rules.{rules}
+use Rattle.signed_group.proofs.add.Goals as goal
+use Rattle.signed_group.proofs.add.Goals.{After-number_of-word}
+
+-- the group is refused by no line, and the number is that of its count bytes
+module _ (n : After-number_of-word) where
+  abbrev amount : ℤ
+  amount = integer n.args.minus n.args.magnitude
+
+  good : bad_group n.args.g ≡ 0
+  good = sym n.bad_group-status.ensures ∙ n.if-status-ne0.false
+
+  clean : Clean n.args.g
+  clean = good_clean n.args.g good
+
+  word_clean : all_clean signed (layout 3 n.args.g.merge) n.number_of-word.result ≡ true
+  word_clean = ap (all_clean signed (layout 3 n.args.g.merge)) n.number_of-word.ensures ∙ clean.counters
+
+pub returns-then-status-ne0 : goal.returns-then-status-ne0
+returns-then-status-ne0 c = let a = c.args in
+    c.unchanged.ensures
+    ∙ ap (λ (x : ℕ). unchanged x a.g) c.bad_group-status.ensures
+    ∙ sym (added-refused a.g a.slot (integer a.minus a.magnitude) (λ z. c.if-status-ne0.true (c.bad_group-status.ensures ∙ z)))
+
+pub add_in_place-sum-requires : goal.add_in_place-sum-requires
+add_in_place-sum-requires c = record { fact_1 = (clean c).merges; fact_2 = omega arith; fact_3 = word_clean c }
+
+pub returns-then-sum : goal.returns-then-sum
+unfolding decode
+returns-then-sum c = let a = c.args in
+    c.settled.ensures
+    ∙ stored_is a.g _ (add (decode a.g) (a.slot % 8) (amount (goal.at.returns-then-sum c).After-number_of-word)) (rw (← c.number_of-word.ensures) (c.add_in_place-sum.ensures.stays c.if-sum.true)) refl
+    ∙ sym (added-settled a.g a.slot (amount (goal.at.returns-then-sum c).After-number_of-word) (good (goal.at.returns-then-sum c).After-number_of-word))
+
+pub add_widening-requires : goal.add_widening-requires
+unfolding cap
+add_widening-requires c = record { fact_1 = ((omega arith, (clean (goal.at.add_widening-requires c).After-number_of-word).merges), word_clean (goal.at.add_widening-requires c).After-number_of-word); fact_2 = omega arith; fact_3 = omega arith; fact_4 = sym c.add_in_place-sum.ensures.held_value ∙ c.if-sum.false }
+
+pub returns : goal.returns
+unfolding decode
+returns c = let a = c.args in
+    c.outcome.ensures (add (decode a.g) (a.slot % 8) (amount (goal.at.returns c).After-number_of-word)) (rw (← c.number_of-word.ensures) c.add_widening.ensures)
+    ∙ sym (added-settled a.g a.slot (amount (goal.at.returns c).After-number_of-word) (good (goal.at.returns c).After-number_of-word))

@@ -1,0 +1,18 @@
+use mathlib.Core.Path.{refl, ◌∙◌, ◌≡◌}
+use native.Mathlib.Omega.{arith}
+use lib.ListN.{set, length-set, length, get_or}
+use lib.Seq.{get_or-set_same, get_or-set_other}
+use Rattle.signed_union.proofs.Slots.{halves-slotted, nodes-small, nodes-beside}
+use mathlib.Core.Bool.{false}
+use Prim.Native.Nat.{ℕ, ◌-◌, ◌≤◌, ◌<◌}
+use borrow.Author.Rules.{rules}
+use borrow.Author.Count.{below_more}
+use Rattle.signed_nodes.specs.declared.Node.{Node}
+use Rattle.signed_union.specs.Slotted.{NodeOf, halves_of}
+use Rattle.signed_union.proofs.eight_slots.Given as goal
+
+abbrev pub none : Node
+none = record { a = 0; b = 0; over = false; word = 0; merge = 0 }
+
+abbrev pub invariant-loop-h : goal.invariant-loop-h
+invariant-loop-h l = (l.h ≤ 2) × (length l.nodes ≡ 2) × ((k : ℕ) → k < l.h → NodeOf 2 (get_or l.nodes k none) (halves_of 2 k l.b))
