@@ -1,5 +1,4 @@
 -- Document 01's number, place and figure for each case of a record's words. Cited by contracts.
-use Rattle.std.specs.Prelude.{ℕ}
 use Rattle.answer.specs.declared.Answer.{Answer}
 use Rattle.answer.specs.Answers.{accepted, refused, refused_at}
 use Rattle.feed_records.specs.declared.Opening.{Opening}

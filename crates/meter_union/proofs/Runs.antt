@@ -85,7 +85,7 @@ side_left (suc n) counts source l e =
     let eight : length x.counts ≡ 8 = united_eight (unmerged (take 8 counts)) (unmerged (take 8 source)) (length-take-le 8 counts (omega arith)) in
     let first : x ≡ unmerged x.counts = ap (λ (m : ℕ). record { counts = x.counts; merge = m }) (eqb-true x.merge 0 both.0) in
     let s = side_left n (drop 8 counts) (drop 8 source) (rw (length-drop 8 counts) (omega arith)) both.1 in
-    let each : (i : ℕ) → i < suc n → (united_groups (unmerged (part i counts)) (unmerged (part i source))).group ≡ unmerged (part i (x.counts ++ rest)) = λ i. elim i [
+    let each : (i : ℕ) → i < suc n → (united_groups (unmerged (part i counts)) (unmerged (part i source))).group ≡ unmerged (part i (x.counts ++ rest)) = λ i. elim i as (λ k. k < suc n → (united_groups (unmerged (part k counts)) (unmerged (part k source))).group ≡ unmerged (part k (x.counts ++ rest))) [
       | zero ↦ λ p. first ∙ ap unmerged (sym (take_at x.counts rest 8 eight))
       | suc j ↦ λ p. rw (part_next j counts, part_next j source, part_next j (x.counts ++ rest), drop_at x.counts rest 8 eight) (s.1 j (omega arith))
     ] in

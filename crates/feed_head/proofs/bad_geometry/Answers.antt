@@ -1,10 +1,8 @@
 use mathlib.Core.Path.{◌≡◌, sym, ap, ◌∙◌}
 use mathlib.Core.Bool.{true, false}
-use borrow.Author.Tests.{not-true, not-false}
 use Rattle.geometry.specs.Geometry.{valid_depth, valid_width}
 use Rattle.answer.specs.Order.{first_of}
 use Rattle.feed_head.specs.Head.{head_depth, head_width, bad_geometry}
-use borrow.Author.Rules.{rules}
 use Rattle.feed_head.proofs.bad_geometry.Goals as goal
 
 pub returns-then-not-valid_depth : goal.returns-then-not-valid_depth

@@ -6,7 +6,6 @@ use borrow.Author.Tests.{eq-eqb, ne_eqb}
 use Rattle.answer.specs.Answers.{answer_of}
 use Rattle.word.proofs.Laws.{turn, halt}
 use Rattle.feed_head.specs.Head.{head_step, headed, bad_geometry}
-use borrow.Author.Rules.{rules}
 use Rattle.feed_head.proofs.head.Goals as goal
 
 pub returns-then-s-ne0 : goal.returns-then-s-ne0

@@ -2,7 +2,6 @@ use Prim.Native.Nat.{◌/◌, ◌%◌}
 use native.Mathlib.Omega.{arith}
 use Rattle.feed_head.specs.Head.{head_width}
 use Rattle.laws.proofs.Shifts.{one_shl}
-use borrow.Author.Rules.{rules}
 use Rattle.feed_head.proofs.head_width.Goals as goal
 
 pub returns : goal.returns

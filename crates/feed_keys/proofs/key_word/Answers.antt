@@ -1,7 +1,4 @@
 use mathlib.Core.Path.{sym, ap, ◌∙◌}
-use borrow.Author.Tests.{not-true}
-use borrow.Author.Rules.{rules}
-use Rattle.word.specs.Word.{tested}
 use Rattle.word.proofs.Laws.{not_due}
 use Rattle.feed_keys.specs.Keys.{key_kind, key_word, key_payload}
 use Rattle.feed_keys.proofs.key_word.Goals as goal

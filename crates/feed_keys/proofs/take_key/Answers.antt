@@ -1,13 +1,12 @@
 use mathlib.Core.Path.{◌≡◌, refl, sym, ap, ap₂, ◌∙◌}
-use Prim.Native.Nat.{ℕ, ◌+◌, ◌-◌, ◌*◌, ◌≤◌}
+use Prim.Native.Nat.{ℕ, ◌+◌, ◌-◌, ◌*◌}
 use native.Mathlib.Nat.{sub-zero, mod-eq_of_lt}
 use native.Mathlib.Omega.{arith}
-use borrow.Author.Rules.{rules}
 use lib.ListN.{length, take}
 use Rattle.word.specs.declared.Step.{Step}
 use Rattle.word.specs.Word.{go}
 use Rattle.word.proofs.Laws.{turn, halt, one_on}
-use Rattle.feed_keys.specs.Keys.{key_kind, key_words, key_word, check_key, key_from, key_of}
+use Rattle.feed_keys.specs.Keys.{key_kind, key_words, key_word, check_key, key_from}
 use Rattle.feed_keys.proofs.Laws.{key_step, key_none, key_taken, word_more, stored_length}
 use Rattle.feed_keys.proofs.take_key.Goals as goal
 

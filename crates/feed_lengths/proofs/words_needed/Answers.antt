@@ -8,7 +8,6 @@ use Rattle.geometry.specs.Checks.{bad_key}
 use Rattle.word.specs.Word.{payload}
 use Rattle.feed_lengths.specs.Lengths.{words_needed}
 use Rattle.feed_lengths.proofs.Laws.{some_needed, needed_most}
-use borrow.Author.Rules.{rules}
 use Rattle.feed_lengths.proofs.words_needed.Goals as goal
 use Rattle.feed_lengths.proofs.words_needed.Goals.{After-words_taken, Else-bad_key-ne0, Then-bad_key-ne0}
 

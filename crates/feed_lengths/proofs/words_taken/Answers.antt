@@ -1,10 +1,9 @@
 use Prim.Native.Nat.{ℕ, ◌+◌}
 use mathlib.Core.Bool.{true, false}
 use mathlib.Core.Path.{◌≡◌, sym, ap, ◌∙◌}
-use Rattle.word.specs.Word.{payload, is_due}
+use Rattle.word.specs.Word.{is_due}
 use Rattle.feed_keys.specs.Keys.{key_words}
 use Rattle.feed_lengths.specs.Lengths.{words_taken, update_kind, query_kind}
-use borrow.Author.Rules.{rules}
 use Rattle.feed_lengths.proofs.words_taken.Goals as goal
 
 pub returns-then-is_due : goal.returns-then-is_due

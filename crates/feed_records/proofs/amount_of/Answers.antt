@@ -1,5 +1,4 @@
 use Rattle.feed_records.specs.Words.{amount_of}
-use borrow.Author.Rules.{rules}
 use Rattle.feed_records.proofs.amount_of.Goals as goal
 
 pub returns : goal.returns

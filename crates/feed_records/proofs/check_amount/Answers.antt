@@ -1,7 +1,6 @@
 use mathlib.Core.Path.{◌≡◌, sym, ap, ◌∙◌}
 use Prim.Native.Nat.{ℕ, ◌+◌, ◌^◌}
 use native.Mathlib.Omega.{arith}
-use borrow.Author.Rules.{rules}
 use Rattle.word.specs.Word.{below}
 use Rattle.word.proofs.Laws.{turn, halt, one_on}
 use Rattle.feed_records.specs.Words.{amount_kind, check_amount}

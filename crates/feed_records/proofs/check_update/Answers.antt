@@ -1,6 +1,5 @@
 use mathlib.Core.Path.{refl, sym, ap, ◌∙◌}
 use Prim.Native.Nat.{ℕ, ◌+◌}
-use lib.ListN.{take}
 use Rattle.word.specs.Word.{go}
 use Rattle.word.proofs.Laws.{turn, halt}
 use Rattle.feed_keys.specs.Keys.{key_words}

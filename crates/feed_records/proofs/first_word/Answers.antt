@@ -1,9 +1,8 @@
 use mathlib.Core.Path.{◌≡◌, sym, ◌∙◌}
 use mathlib.Core.Bool.{true, false}
-use borrow.Author.Tests.{not-true, not-false, eq-eqb, ne_eqb}
-use Rattle.word.specs.Word.{payload, is_due, end_kind}
+use borrow.Author.Tests.{eq-eqb, ne_eqb}
+use Rattle.word.specs.Word.{is_due, end_kind}
 use Rattle.feed_records.specs.Words.{opened, update_kind, query_kind}
-use borrow.Author.Rules.{rules}
 use Rattle.feed_records.proofs.first_word.Goals as goal
 use Rattle.feed_records.proofs.first_word.Goals.{Else-is_due, Else-is_due-2, Else-not-is_due}
 

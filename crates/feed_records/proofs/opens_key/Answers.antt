@@ -1,6 +1,5 @@
 use borrow.Author.Tests.{eq-eqb, ne_eqb}
 use Rattle.feed_records.specs.Words.{opens_key}
-use borrow.Author.Rules.{rules}
 use Rattle.feed_records.proofs.opens_key.Goals as goal
 
 pub returns-then-bad-ne0 : goal.returns-then-bad-ne0

@@ -1,5 +1,4 @@
 use mathlib.Core.Path.{◌∙◌, ap}
-use borrow.Author.Rules.{rules}
 use Rattle.word.specs.declared.Step.{Step}
 use Rattle.feed_records.specs.Words.{body_of, query_step, query_body}
 use Rattle.feed_records.proofs.Laws.{all_sound}

@@ -1,5 +1,4 @@
 use mathlib.Core.Path.{◌∙◌, ap₂}
-use borrow.Author.Rules.{rules}
 use Rattle.feed_records.specs.Words.{body_of, update_body}
 use Rattle.feed_records.proofs.Laws.{all_sound}
 use Rattle.feed_records.proofs.update_body.Goals as goal

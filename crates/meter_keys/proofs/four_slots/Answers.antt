@@ -10,16 +10,16 @@ use borrow.Author.Rules.{rules}
 use Rattle.meter_keys.proofs.four_slots.Goals as goal
 
 pub scaled-a-requires : goal.scaled-a-requires
-scaled-a-requires c = (wide _ c.requires.0).shares
+scaled-a-requires c = (wide _ c.requires.fact_1).shares
 
 pub scaled-b-requires : goal.scaled-b-requires
-scaled-b-requires c = (wide _ c.requires.0).shares
+scaled-b-requires c = (wide _ c.requires.fact_1).shares
 
 pub scaled-c-requires : goal.scaled-c-requires
-scaled-c-requires c = (wide _ c.requires.0).shares
+scaled-c-requires c = (wide _ c.requires.fact_1).shares
 
 pub scaled-d-requires : goal.scaled-d-requires
-scaled-d-requires c = (wide _ c.requires.0).shares
+scaled-d-requires c = (wide _ c.requires.fact_1).shares
 
 pub returns : goal.returns
 returns c = let a = c.args in

@@ -7,7 +7,6 @@ use Rattle.hash.specs.Hash.{row_hash}
 use Rattle.meter_keys.proofs.Lanes.{in_four, in_eight}
 use borrow.Author.Rules.{rules}
 use Rattle.meter_keys.proofs.key_hashes.Goals as goal
-use Rattle.meter_keys.proofs.key_hashes.Goals.{After-in_row-fifth}
 
 pub returns-then-d-eq1 : goal.returns-then-d-eq1
 returns-then-d-eq1 c = λ r h. let first : r ≡ 0 = omega arith in rw first c.in_row-only.ensures
@@ -24,7 +23,7 @@ returns-then-d-eq5 c = let a = c.args in
     let e = c.four_hashes-low.ensures in
     let rest : List ℕ = c.in_row-fifth.result.state ∷ 0 ∷ 0 ∷ 0 ∷ [] in
     λ r h. elim (dec_lt r 4) [
-      | yes l ↦ in_four (λ ((goal.at.returns-then-d-eq5 c).After-in_row-fifth : ℕ) (x : ℕ). x ≡ row_hash a.start.state (goal.at.returns-then-d-eq5 c).After-in_row-fifth a.key.now) _ _ _ _ rest
+      | yes l ↦ in_four (λ (i : ℕ) (x : ℕ). x ≡ row_hash a.start.state i a.key.now) _ _ _ _ rest
           (e 0 (omega arith)) (e 1 (omega arith)) (e 2 (omega arith)) (e 3 (omega arith)) r l
       | no l ↦ let four : r ≡ 4 = omega arith in rw four c.in_row-fifth.ensures
     ]

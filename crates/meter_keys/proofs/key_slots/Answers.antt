@@ -9,8 +9,8 @@ use Rattle.meter_keys.proofs.key_slots.Goals as goal
 
 pub returns-then-d-le4 : goal.returns-then-d-le4
 returns-then-d-le4 c = let a = c.args in
-    let e = c.four_slots-low.ensures.0 in
-    let l = c.four_slots-low.ensures.1 in
+    let e = c.four_slots-low.ensures.by_index in
+    let l = c.four_slots-low.ensures.by_index_2 in
     let rest : List ℕ = 0 ∷ 0 ∷ 0 ∷ 0 ∷ [] in record {
       by_index = λ r h. in_four (λ (i : ℕ) (s : ℕ). s ≡ key_slot a.start.state a.w a.key.now i) _ _ _ _ rest
           (e 0 (omega arith)) (e 1 (omega arith)) (e 2 (omega arith)) (e 3 (omega arith)) r (omega arith);
@@ -20,10 +20,10 @@ returns-then-d-le4 c = let a = c.args in
 
 pub returns : goal.returns
 returns c = let a = c.args in
-    let e = c.four_slots-low.ensures.0 in
-    let f = c.four_slots-high.ensures.0 in
-    let l = c.four_slots-low.ensures.1 in
-    let m = c.four_slots-high.ensures.1 in record {
+    let e = c.four_slots-low.ensures.by_index in
+    let f = c.four_slots-high.ensures.by_index in
+    let l = c.four_slots-low.ensures.by_index_2 in
+    let m = c.four_slots-high.ensures.by_index_2 in record {
       by_index = λ r h. in_eight (λ (i : ℕ) (s : ℕ). s ≡ key_slot a.start.state a.w a.key.now i) _ _ _ _ _ _ _ _
           (e 0 (omega arith)) (e 1 (omega arith)) (e 2 (omega arith)) (e 3 (omega arith))
           (f 0 (omega arith)) (f 1 (omega arith)) (f 2 (omega arith)) (f 3 (omega arith)) r (omega arith);

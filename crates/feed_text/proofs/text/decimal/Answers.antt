@@ -1,9 +1,8 @@
-use Prim.Native.Nat.{suc, ◌-◌, ◌^◌, ◌≤◌, ◌<◌}
+use Prim.Native.Nat.{suc, ◌-◌}
 use mathlib.Core.Path.{◌≡◌, refl, sym, ◌∙◌}
 use native.Mathlib.Omega.{arith}
-use lib.ListN.{length, drop, length-set}
-use borrow.Author.Rules.{rules}
-use Rattle.feed_text.specs.Text.{digits_before, decimal}
+use lib.ListN.{drop, length-set}
+use Rattle.feed_text.specs.Text.{decimal}
 use Rattle.feed_text.proofs.Laws.{digits_more, digits_last, two_places, less_places, drop_set_at}
 use Rattle.feed_text.proofs.text.decimal.Goals as goal
 

@@ -1,10 +1,7 @@
-use Prim.Native.Nat.{suc, ◌-◌, ◌^◌, ◌≤◌, ◌<◌}
-use mathlib.Core.Path.{◌≡◌, refl, sym, ◌∙◌}
-use native.Mathlib.Omega.{arith}
-use lib.ListN.{length, drop, length-set}
-use borrow.Author.Rules.{rules}
+use Prim.Native.Nat.{◌^◌, ◌≤◌, ◌<◌}
+use mathlib.Core.Path.{◌≡◌}
+use lib.ListN.{length, drop}
 use Rattle.feed_text.specs.Text.{digits_before, decimal}
-use Rattle.feed_text.proofs.Laws.{digits_more, digits_last, two_places, less_places, drop_set_at}
 use Rattle.feed_text.proofs.text.decimal.Given as goal
 
 abbrev pub invariant-loop-rest : goal.invariant-loop-rest

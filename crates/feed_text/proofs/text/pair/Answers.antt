@@ -1,5 +1,4 @@
 use native.Mathlib.Omega.{arith}
-use borrow.Author.Rules.{rules}
 use Rattle.feed_text.proofs.text.pair.Goals as goal
 
 pub returns : goal.returns

@@ -1,5 +1,5 @@
 use Rattle.feed_text.proofs.Laws.{append_turn}
-use Prim.Native.Nat.{ℕ, ◌+◌, ◌-◌, ◌≤◌}
+use Prim.Native.Nat.{ℕ, ◌+◌}
 use mathlib.Core.List.{append-nil, List, ◌++◌}
 use lib.Seq.{take_all}
 use mathlib.Core.Path.{◌≡◌, refl, ap, ◌∙◌}

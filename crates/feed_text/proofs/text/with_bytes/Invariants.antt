@@ -1,12 +1,7 @@
-use Rattle.feed_text.proofs.Laws.{append_turn}
-use Prim.Native.Nat.{ℕ, ◌+◌, ◌-◌, ◌≤◌}
-use mathlib.Core.List.{append-nil, List, ◌++◌}
-use lib.Seq.{take_all}
-use mathlib.Core.Path.{◌≡◌, refl, ap, ◌∙◌}
-use native.Mathlib.Nat.{add-zero}
-use native.Mathlib.Omega.{arith}
-use lib.ListN.{length, take, get_or, length-set}
-use borrow.Author.Rules.{rules}
+use Prim.Native.Nat.{◌+◌, ◌≤◌}
+use mathlib.Core.List.{◌++◌}
+use mathlib.Core.Path.{◌≡◌}
+use lib.ListN.{length, take}
 use Rattle.feed_text.proofs.text.with_bytes.Given as goal
 
 abbrev pub invariant-loop-i : goal.invariant-loop-i

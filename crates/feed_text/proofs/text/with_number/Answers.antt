@@ -5,7 +5,6 @@ use native.Mathlib.Omega.{arith}
 use lib.ListN.{length, take, drop, length-drop}
 use lib.Seq.{take_all}
 use Rattle.feed_text.specs.Text.{content, decimal}
-use borrow.Author.Rules.{rules}
 use Rattle.feed_text.proofs.text.with_number.Goals as goal
 
 pub slice_bounds-with_bytes-end : goal.slice_bounds-with_bytes-end

@@ -1,0 +1,16 @@
+use mathlib.Core.Path.{◌≡◌, refl, sym, ap, ◌∙◌}
+use Prim.Native.Nat.{◌+◌, ◌≤◌}
+use native.Mathlib.Omega.{arith}
+use native.Mathlib.Numerals.{add-one}
+use borrow.Author.Rules.{rules}
+use lib.ListN.{length, length-set}
+use lib.Seq.{sets}
+use Rattle.image_format.specs.Image.{word, parts}
+use Rattle.image_counters.proofs.Laws.{parts_step, parts_none}
+use Rattle.image_counters.proofs.put_parts.Given as goal
+
+abbrev pub invariant-loop-left : goal.invariant-loop-left
+invariant-loop-left l = (l.left ≤ l.n) × (l.at + l.left ≡ l.p + l.n) × (length l.words ≡ length l.initial.words) × (sets l.words l.at (parts l.left l.value) ≡ sets l.initial.words l.p (parts l.n l.value))
+
+abbrev pub decreases-loop-left : goal.decreases-loop-left
+decreases-loop-left l = l.left

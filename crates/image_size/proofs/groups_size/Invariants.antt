@@ -1,0 +1,13 @@
+use native.Mathlib.Nat.{zero-add, add-zero}
+use mathlib.Core.Path.{◌≡◌, sym, ap, ◌∙◌}
+use Prim.Native.Nat.{ℕ, ◌+◌, ◌-◌, ◌*◌, ◌≤◌}
+use native.Mathlib.Omega.{arith}
+use borrow.Author.Rules.{rules}
+use lib.ListN.{length}
+use Rattle.image_format.specs.Image.{groups_words}
+use Rattle.image_size.proofs.Laws.{groups_size_step, groups_none}
+use Rattle.image_size.proofs.Plain.{clear_size}
+use Rattle.image_size.proofs.groups_size.Given as goal
+
+abbrev pub invariant-loop-i : goal.invariant-loop-i
+invariant-loop-i l = (l.i ≤ 4) × (l.n ≤ 24 * l.i) × (l.n + length (groups_words (4 - l.i) (l.g + l.i) l.w l.row) ≡ length (groups_words 4 l.g l.w l.row))

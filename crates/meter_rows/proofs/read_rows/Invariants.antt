@@ -1,0 +1,21 @@
+use mathlib.Core.Path.{◌≡◌, sym, ap, ◌∙◌}
+use Prim.Native.Nat.{ℕ, ◌-◌, ◌*◌, ◌/◌, ◌≤◌}
+use native.Mathlib.Omega.{arith}
+use borrow.Author.Rules.{rules}
+use mathlib.Core.List.{List}
+use lib.ListN.{get_or, drop}
+use Rattle.group.specs.declared.Reading.{Reading}
+use Rattle.group.specs.Group.{read}
+use Rattle.geometry.specs.Geometry.{stride}
+use Rattle.answer.specs.Order.{earlier, earliest}
+use Rattle.meter_memory.specs.Rows.{of_rows, group_at, least, least_or}
+use Rattle.meter_memory.specs.Rows.{row_of}
+use Rattle.geometry.proofs.Widths.{one_row}
+use Rattle.meter_memory.proofs.Gather.{status-turn, status-end, least_start, least-turn, least-end, statuses-start}
+use Rattle.meter_row.specs.Slots.{slot_status, slot_value}
+use Rattle.meter_rows.proofs.read_rows.Given as goal
+
+abbrev pub invariant-loop-r : goal.invariant-loop-r
+invariant-loop-r l = (1 ≤ l.r) × (l.r ≤ l.d)
+    × (earlier l.status (earliest (of_rows (slot_status l.w l.slots) (stride l.w) (l.d - l.r) l.r (drop (l.r * stride l.w) l.memory))) ≡ earliest (of_rows (slot_status l.w l.slots) (stride l.w) l.d 0 l.memory))
+    × (least_or l.value (of_rows (slot_value l.w l.slots) (stride l.w) (l.d - l.r) l.r (drop (l.r * stride l.w) l.memory)) ≡ least (of_rows (slot_value l.w l.slots) (stride l.w) l.d 0 l.memory))

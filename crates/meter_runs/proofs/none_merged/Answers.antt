@@ -1,0 +1,20 @@
+use mathlib.Core.Path.{sym, ap, ◌∙◌}
+use Prim.Native.Nat.{◌+◌}
+use Rattle.group_side.specs.Side.{any_merged}
+use Rattle.meter_memory.proofs.Lists.{lent}
+use Rattle.meter_runs.specs.Runs.{none_merged}
+use borrow.Author.Rules.{rules}
+use Rattle.meter_runs.proofs.none_merged.Goals as goal
+
+pub returns-then-any_merged : goal.returns-then-any_merged
+unfolding none_merged
+returns-then-any_merged c = let a = c.args in
+    let m = ap any_merged (sym (lent (a.w + a.first) a.n a.row.now)) ∙ sym c.any_merged.ensures ∙ c.if-any_merged.true in
+    rw m
+
+pub returns : goal.returns
+unfolding none_merged
+returns c = let a = c.args in
+    let m = ap any_merged (sym (lent (a.w + a.first) a.n a.row.now)) ∙ sym c.any_merged.ensures ∙ c.if-any_merged.false in
+    let o = ap any_merged (sym (lent (a.w + a.first) a.n a.source.now)) ∙ sym c.any_merged-2.ensures in
+    rw (m, o)

@@ -1,0 +1,37 @@
+use Rattle.group.specs.declared.Group.{Group}
+use Rattle.group.specs.Group.{united_groups}
+use Rattle.meter_memory.specs.Pairs.{paired_at, pair_status}
+use Rattle.meter_union.specs.Union.{united_status}
+use Rattle.meter_runs.specs.Runs.{run_status}
+use Rattle.meter_union.specs.Runs.{groups_status}
+use Rattle.meter_memory.proofs.Lists.{status-turn, status-end}
+use mathlib.Core.Path.{◌≡◌, refl, sym, ap, ap₂, ◌∙◌}
+use Prim.Native.Nat.{ℕ, ◌+◌, ◌-◌, ◌≤◌}
+use native.Mathlib.Omega.{arith}
+use borrow.Author.Rules.{rules}
+use Rattle.answer.specs.Order.{earlier}
+use Rattle.meter_union.proofs.groups_status.Goals as goal
+
+pub loop-g-init : goal.loop-g-init
+unfolding earlier
+loop-g-init c = let a = c.args in
+    (omega arith, omega arith, refl, ap (λ (k : ℕ). groups_status a.w a.source.now a.row.now k a.first) (omega arith))
+
+pub loop-g-preserved : goal.loop-g-preserved
+unfolding run_status pair_status paired_at
+loop-g-preserved c = let a = c.args in
+    let l = c.loop-g in (
+      omega arith,
+      omega arith,
+      refl,
+      rw c.earlier-status.ensures
+          (status-turn (united_status a.w a.source.now a.row.now) (a.first + a.n) l.g l.status c.unite_status-s.result (omega arith)
+          (c.unite_status-s.ensures ∙ ap₂ (λ (x y : Group). (united_groups x y).status) c.load.ensures c.load-in-loop-g.ensures)
+          ∙ l.invariant.3),
+    )
+
+pub returns : goal.returns
+unfolding run_status
+returns c = let a = c.args in
+    let l = c.loop-g in
+    sym (status-end (united_status a.w a.source.now a.row.now) (a.first + a.n) l.g l.status (omega arith)) ∙ l.invariant.3

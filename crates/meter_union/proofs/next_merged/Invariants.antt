@@ -1,0 +1,13 @@
+use mathlib.Core.Path.{◌≡◌, refl, sym, ◌∙◌}
+use mathlib.Core.Bool.{true, false}
+use Prim.Native.Nat.{◌-◌, ◌/◌, ◌≤◌}
+use native.Mathlib.Omega.{arith}
+use borrow.Author.Tests.{not-true, not-false}
+use borrow.Author.Rules.{rules}
+use Rattle.geometry.proofs.Widths.{stride_is}
+use Rattle.meter_union.specs.Runs.{next_merged}
+use Rattle.meter_union.proofs.Runs.{next-turn, next-end}
+use Rattle.meter_union.proofs.next_merged.Given as goal
+
+abbrev pub invariant-loop-e : goal.invariant-loop-e
+invariant-loop-e l = (l.e ≤ l.e-end) × (l.e-end ≡ l.w / 64) × (next_merged l.w l.row l.source (l.w / 64 - l.e) l.e ≡ next_merged l.w l.row l.source (l.w / 64 - l.from) l.from)

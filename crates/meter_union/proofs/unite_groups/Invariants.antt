@@ -1,0 +1,15 @@
+use mathlib.Core.Path.{◌≡◌, refl, sym, ap, ◌∙◌}
+use Prim.Native.Nat.{ℕ, ◌+◌, ◌-◌, ◌≤◌}
+use native.Mathlib.Omega.{arith}
+use borrow.Author.Rules.{rules}
+use lib.ListN.{length}
+use Rattle.group.specs.declared.Outcome.{Outcome}
+use Rattle.meter_union.specs.Union.{unite_groups}
+use Rattle.meter_memory.specs.Rows.{with_group}
+use Rattle.group.specs.Group.{united_groups}
+use Rattle.meter_memory.proofs.Pairs.{pair_turn, pair_end}
+use Rattle.meter_union.proofs.unite_groups.Given as goal
+
+abbrev pub invariant-loop-g : goal.invariant-loop-g
+invariant-loop-g l = (l.first ≤ l.g) × (l.g ≤ l.g-end) × (l.g-end ≡ l.first + l.n) × (unite_groups l.w l.source (l.g-end - l.g) l.g l.row ≡ unite_groups l.w l.source l.n l.first l.initial.row)
+    × (length l.row ≡ length l.initial.row)

@@ -1,0 +1,30 @@
+use mathlib.Core.Path.{◌≡◌, refl, sym, ap, ◌∙◌}
+use mathlib.Core.List.{List, []}
+use Prim.Native.Nat.{ℕ, ◌+◌, ◌-◌, ◌*◌, ◌/◌, ◌≤◌}
+use native.Mathlib.Omega.{arith}
+use borrow.Author.Rules.{rules}
+use borrow.Author.Tests.{ne_eqb}
+use lib.ListN.{length, get_or}
+use Rattle.group.specs.declared.Group.{Group}
+use Rattle.meter_memory.specs.Rows.{map_rows, with_group}
+use Rattle.geometry.proofs.Widths.{one_row}
+use Rattle.meter_memory.proofs.Lists.{lent, rows_from, rows_start, rows_turn}
+use Rattle.meter_memory.proofs.Tried.{kept_stored, stored_all}
+use Rattle.meter_row.specs.Row.{added_in}
+use Rattle.meter_update.proofs.update_rows.Given as goal
+
+-- what stands for an element that is not there
+abbrev pub none : Group
+none = record { counts = []; merge = 0 }
+
+-- a group stored in row r, and the one that was kept for it
+abbrev pub storedIn : ℕ → List ℕ → ℕ → Group → List ℕ → List ℕ
+storedIn w slots r x row = with_group w row (get_or slots r 0 / 8) x
+
+abbrev pub stored : ℕ → List ℕ → List Group → ℕ → List ℕ → List ℕ
+stored w slots groups = kept_stored (storedIn w slots) groups none
+
+abbrev pub invariant-loop-r : goal.invariant-loop-r
+invariant-loop-r l = (l.r ≤ l.d)
+    × (rows_from (stored l.w l.slots l.t.groups) l.stride l.d l.r l.memory ≡ map_rows (stored l.w l.slots l.t.groups) l.stride l.d 0 l.initial.memory)
+    × (length l.memory ≡ length l.initial.memory)
