@@ -126,11 +126,11 @@ module _ (d w : ℕ) (memory : List ℕ) (before records : ℕ) (lent rest : Lis
       (omega (arith, length-take 25 (whole_words lent), words_length lent))
 
   -- One step over the bytes at hand, of which there are those of the record or all that come.
-  pub step_lines : lines_from d w memory before records (lent ++ rest)
+  pub step_lines_lem : lines_from d w memory before records (lent ++ rest)
       ≡ followed done.line (lines_from d w (recorded d w memory before words).memory done.words done.records (drop (4 * done.taken) lent ++ rest))
       (after_end done.words (drop (4 * done.taken) lent ++ rest))
   unfolding progress
-  step_lines =
+  step_lines_lem =
       let all = whole_words (lent ++ rest) in
       let l = record_line d w memory before records words in
       let same = record_same lent rest held d w memory before in

@@ -14,7 +14,6 @@ use Rattle.feed_lengths.proofs.Laws.{some_taken}
 use Rattle.feed.specs.Head.{head_depth, head_width, headed}
 use Rattle.feed.specs.Record.{recorded}
 use Rattle.feed_line.specs.declared.Line.{Line}
-use Rattle.feed_line.specs.declared.Line.TheVariants as line
 use Rattle.word_bytes.specs.Words.{whole_words}
 use Rattle.feed_line.specs.Line.{continues, is_end}
 use Rattle.feed_lines.specs.Line.{head_line}
@@ -26,7 +25,7 @@ use Rattle.word_bytes.proofs.Laws.{words_length}
 use Rattle.feed_lines.proofs.Heads.{accepted_some, head_fits, head_geometry, goes_on, fitting_shape}
 use borrow.Table.Steps.{cases}
 use Rattle.feed_lines.proofs.Record.{record-keeps, record-lies}
-use Rattle.feed_lines.proofs.Feed.{followed_same, taken_on, fewer, step_lines, head-lines, head-stops}
+use Rattle.feed_lines.proofs.Feed.{followed_same, taken_on, fewer, step_lines_lem, head-lines, head-stops}
 
 -- all bytes that are at hand or still to come
 abbrev all : Held → List ℕ
@@ -65,7 +64,7 @@ steps_are (suc n) d w memory before records h shape held few =
     (omega (arith, less, ap (λ (b : List ℕ). length (whole_words b)) on.0))
     ∙ ap (lines_from d w after p.words p.records) on.0)
     (λ t. after_same p.words (next end_needs p.taken h).bytes (joined (next end_needs p.taken h).pieces) end.1 ∙ ap (after_end p.words) end.0)
-    ∙ sym (step_lines d w memory before records h.bytes (joined h.pieces) shape held)
+    ∙ sym (step_lines_lem d w memory before records h.bytes (joined h.pieces) shape held)
 
 followed_on : (l : Line) (a b : List Line) → continues l ≡ true → followed l a b ≡ l ∷ a
 unfolding followed

@@ -17,7 +17,7 @@ use Rattle.feed_text.specs.Line.{text, texts}
 use Rattle.feed_lines.specs.declared.Progress.{Progress}
 use Rattle.feed_lines.specs.Feed.{followed, after_end}
 use Rattle.feed_lines.specs.Step.{taken_by, progress, lines_from, bytes_needed, Enough}
-use Rattle.feed_lines.proofs.Feed.{first_needs, step_lines}
+use Rattle.feed_lines.proofs.Feed.{first_needs, step_lines_lem}
 use Rattle.feed_state.specs.declared.State.{State}
 use Rattle.feed_io.specs.declared.input.Input.{Input}
 use Rattle.feed_io.specs.declared.output.Output.{Output}
@@ -189,7 +189,7 @@ module _ (d w : ℕ) (memory : List ℕ) (s : State) (input output memory' outpu
         sent = [];
         lost = λ rest. [];
         same = λ rest h.
-            let lines = step_lines d w memory s.words s.records hand₀ rest shape (enough_held (bytes_needed hand₀) s.input hand₀ rest held h) in
+            let lines = step_lines_lem d w memory s.words s.records hand₀ rest shape (enough_held (bytes_needed hand₀) s.input hand₀ rest held h) in
             rw runs
             (ap (λ (ls : List Line). take s.output.at output ++ texts ls) lines
             ∙ ap (λ (x : List ℕ). take s.output.at output ++ x) (texts_followed did.line _ _)
