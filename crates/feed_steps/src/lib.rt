@@ -12,6 +12,7 @@ ghost use Rattle.feed_steps.specs.Run.{Stepped};
 use feed_io::Output;
 use feed_lines::Progress;
 use feed_state::{State, receive};
+use std::io::{Stdin, Stdout};
 
 // The words of the longest record.
 const WORDS: usize = 25;
@@ -85,6 +86,8 @@ fn carry_out(
 
 // One record or the end: its first word tells how many bytes have to be at hand.
 fn receive_one(
+    from: Stdin,
+    to: Stdout,
     memory: &mut [u8],
     d: usize,
     w: usize,
@@ -107,14 +110,14 @@ fn receive_one(
     ensures stepped { Stepped d w memory.old s input.old output.old
         memory.new result input.new output.new }
 {
-    let a = receive(input, output, s, 4);
+    let a = receive(from, to, input, output, s, 4);
     if a.output.failed {
         return a;
     }
     let start = a.input.start;
     let end = a.input.end;
     let n = needed(&input[start..end]);
-    let b = receive(input, output, a, n);
+    let b = receive(from, to, input, output, a, n);
     if b.output.failed {
         return b;
     }
@@ -123,6 +126,8 @@ fn receive_one(
 
 // One record or the end. Where the bytes of the longest record are at hand, so are its own, and nothing has to be read for it.
 pub fn step(
+    from: Stdin,
+    to: Stdout,
     memory: &mut [u8],
     d: usize,
     w: usize,
@@ -151,5 +156,5 @@ pub fn step(
             return carry_out(memory, d, w, input, output, s);
         }
     }
-    receive_one(memory, d, w, input, output, s)
+    receive_one(from, to, memory, d, w, input, output, s)
 }

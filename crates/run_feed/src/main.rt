@@ -15,15 +15,21 @@ ghost use Rattle.run_feed.specs.Printed.{Printed, due_after_end, due_after_head}
 use feed_io::{Input, Output};
 use feed_line::Line;
 use feed_state::State;
+use std::io::{Stdin, Stdout};
 
 // The most bytes that the program lends to a meter: 8 rows of 4,096 slots.
 const MEMORY: usize = 36864;
+
+// The bytes of the program's buffers, for its input and for its output.
+const BUFFER: usize = 65536;
 
 // Every loop ends: this many records are more than any run has time for.
 const TURNS: u64 = 288230376151711744;
 
 // Records until one stops the feed or it ends.
 fn run_records(
+    from: Stdin,
+    to: Stdout,
     memory: &mut [u8],
     d: usize,
     w: usize,
@@ -51,14 +57,14 @@ fn run_records(
         if !s.runs {
             return s;
         }
-        s = feed_steps::step(memory, d, w, input, output, s);
+        s = feed_steps::step(from, to, memory, d, w, input, output, s);
         turns -= 1;
     }
     s
 }
 
 // Any byte after the end record stops the feed.
-fn after_end(input: &mut [u8], output: &mut [u8], s: State) -> Output
+fn after_end(from: Stdin, to: Stdout, input: &mut [u8], output: &mut [u8], s: State) -> Output
     requires within_1 { Within s.input input.old }
     requires within_2 { 100 ≤ length input.old }
     requires at_in_bounds_1 { s.output.at ≤ length output.old }
@@ -67,7 +73,7 @@ fn after_end(input: &mut [u8], output: &mut [u8], s: State) -> Output
     ensures printed { Printed (seen s input.old) s.input.more (due_after_end s input.old output.old)
         result output.new }
 {
-    let a = feed_state::receive(input, output, s, 1);
+    let a = feed_state::receive(from, to, input, output, s, 1);
     let o = a.output;
     if o.failed {
         return o;
@@ -96,6 +102,8 @@ fn head(bytes: &[u8]) -> Line
 
 // The records after an accepted head, on a cleared meter.
 fn run_meter(
+    from: Stdin,
+    to: Stdout,
     memory: &mut [u8],
     d: usize,
     w: usize,
@@ -126,15 +134,15 @@ fn run_meter(
         runs: true,
         ended: false,
     };
-    let last = run_records(memory, d, w, input, output, first);
+    let last = run_records(from, to, memory, d, w, input, output, first);
     if !last.ended {
         return last.output;
     }
-    after_end(input, output, last)
+    after_end(from, to, input, output, last)
 }
 
 // The whole feed. Gives the bytes of output at hand.
-fn run(memory: &mut [u8], input: &mut [u8], output: &mut [u8]) -> Output
+fn run(from: Stdin, to: Stdout, memory: &mut [u8], input: &mut [u8], output: &mut [u8]) -> Output
     requires fact_1 { 36864 ≤ length memory.old }
     requires fact_2 { 100 ≤ length input.old }
     requires fact_3 { 64 ≤ length output.old }
@@ -146,7 +154,7 @@ fn run(memory: &mut [u8], input: &mut [u8], output: &mut [u8]) -> Output
         end: 0,
         more: true,
     };
-    let i = feed_io::refill(input, unread, 4);
+    let i = feed_io::refill(from, input, unread, 4);
     let start = i.start;
     let end = i.end;
     let line = head(&input[start..end]);
@@ -158,13 +166,15 @@ fn run(memory: &mut [u8], input: &mut [u8], output: &mut [u8]) -> Output
         };
     };
     let n = feed_lines::size(d, w);
-    run_meter(&mut memory[..n], d, w, input, output, i, out)
+    run_meter(from, to, &mut memory[..n], d, w, input, output, i, out)
 }
 
-fn main() {
+fn main(rt: HostRuntime) {
+    let from = rt.stdin();
+    let to = rt.stdout();
     let mut memory = [0u8; MEMORY];
-    let mut input = io::large_buffer();
-    let mut output = io::large_buffer();
-    let r = run(&mut memory, &mut input, &mut output);
-    feed_io::flush(&output, r.at);
+    let mut input = [0u8; BUFFER];
+    let mut output = [0u8; BUFFER];
+    let r = run(from, to, &mut memory, &mut input, &mut output);
+    feed_io::flush(to, &output, r.at);
 }
