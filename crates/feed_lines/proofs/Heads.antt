@@ -1,16 +1,13 @@
 -- What an accepted head's line says: the depth and width of a meter that fits in the memory lent.
-use mathlib.Core.Logic.{⊎_elim}
 use mathlib.Core.Path.{◌≡◌, refl, sym, ap, ◌∙◌}
 use mathlib.Core.Bool.{true, false, true≢false}
-use mathlib.Core.List.{List, [], ◌∷◌}
+use mathlib.Core.List.{List}
 use Prim.Native.Nat.{ℕ, ◌*◌, ◌/◌, ◌^◌, ◌≤◌}
 use native.Mathlib.Nat.{mul-le-mul}
 use native.Mathlib.Omega.{arith}
 use borrow.Author.Tests.{eqb-true, eq-eqb, leb-true}
 use lib.Dec.{eqb, leb}
 use lib.ListN.{length}
-use types.Run.{OneOf}
-use denote.Enum.Declared.{tag_of}
 use Rattle.answer.specs.declared.Answer.{Answer}
 use Rattle.geometry.specs.Geometry.{valid_depth, valid_width, stride, size}
 use Rattle.answer.specs.Order.{first_of}
@@ -21,7 +18,6 @@ use Rattle.word.proofs.Laws.{due_in}
 use Rattle.feed.specs.Head.{head_depth, head_width, bad_geometry, head_step, headed}
 use Rattle.feed_line.specs.declared.Line.TheVariants as line
 use Rattle.feed_line.specs.Line.{continues}
-use Rattle.feed_line.specs.contracts.Line as the-line
 use Rattle.feed_lines.specs.Line.{head_line}
 use Rattle.feed_lines.specs.Bounds.{Fitting, FittingLine}
 use borrow.Table.Steps.{cases}
@@ -69,16 +65,12 @@ head_geometry a d w =
     (cases (leb (head_width a.value) 4096) (λ s. rw s (λ e. (eqb-true _ 0 t, cc, cc))) (λ s. rw s (λ e. absurd (true≢false (sym (ap continues e)))))))
     (λ t. rw t (λ e. absurd (true≢false (sym (ap continues e)))))
 
-not_first : (t : ℕ) → OneOf (1 ∷ 2 ∷ 3 ∷ 4 ∷ 5 ∷ []) t → t ≡ 0 → ⊥
-not_first t h e =
-    ⊎_elim (λ k. omega arith) (λ k. ⊎_elim (λ m. omega arith) (λ m. ⊎_elim (λ n. omega arith) (λ n. ⊎_elim (λ o. omega arith) (λ o. omega arith) n) m) k) h
-
 -- a head's line that gives none stops the feed
-pub no_geometry : (a : Answer) → OneOf (1 ∷ 2 ∷ 3 ∷ 4 ∷ 5 ∷ []) (tag_of the-line.the_type (head_line a)) → continues (head_line a) ≡ false
+pub no_geometry : (a : Answer) → ((d w : ℕ) → head_line a ≡ line.Geometry d w → ⊥) → continues (head_line a) ≡ false
 unfolding head_line continues
 no_geometry a =
     cases (eqb a.status 0)
-    (λ t. rw t (cases (leb (head_width a.value) 4096) (λ s. rw s (λ h. absurd (not_first 0 h refl))) (λ s. rw s (λ h. refl))))
+    (λ t. rw t (cases (leb (head_width a.value) 4096) (λ s. rw s (λ h. absurd (h (head_depth a.value) (head_width a.value) refl))) (λ s. rw s (λ h. refl))))
     (λ t. rw t (λ h. refl))
 
 -- and one after which a record follows gives one

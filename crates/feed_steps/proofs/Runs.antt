@@ -3,7 +3,7 @@ use mathlib.Core.Logic.{◌⊎◌, ⊎_elim, inl, inr}
 use mathlib.Core.Path.{◌≡◌, refl, sym, ap, ap₂, ◌∙◌}
 use mathlib.Core.Bool.{Bool, true, false, cond, true≢false}
 use mathlib.Core.List.{List, [], ◌++◌, append-nil, append_assoc}
-use Prim.Native.Nat.{ℕ, ◌+◌, ◌-◌, ◌*◌, ◌≤◌}
+use Prim.Native.Nat.{ℕ, ◌+◌, ◌*◌, ◌≤◌}
 use native.Mathlib.Omega.{arith}
 use borrow.Table.Steps.{cases}
 use lib.ListN.{length, take, drop, length-append, length-drop}
@@ -21,7 +21,7 @@ use Rattle.feed_lines.proofs.Feed.{first_needs, step_lines_lem}
 use Rattle.feed_state.specs.declared.State.{State}
 use Rattle.feed_io.specs.declared.input.Input.{Input}
 use Rattle.feed_io.specs.declared.output.Output.{Output}
-use Rattle.feed_io.specs.Buffers.{Within, unused, Held, advanced, Refilled, Cleared}
+use Rattle.feed_io.specs.Buffers.{Within, unused, Held, advanced}
 use Rattle.feed_steps.specs.Run.{left, due, Ran, Stepped}
 use Rattle.feed_state.specs.State.{state_with, Received}
 use Rattle.feed_state.proofs.Receiving.{received_due}

@@ -1,7 +1,7 @@
 -- What a part of a run prints, by the definition of a feed's lines. The code's own terms.
 -- No contract can say what a read brings or where a written byte goes. So `read` and `sent` are some bytes: those that the part's reads
 -- brought and that it handed to writes. If a write failed, `sent` is all the same the start of what was due, and `lost` the rest.
-use Rattle.std.specs.Prelude.{ℕ, ◌+◌, ◌*◌, ◌≤◌, ◌<◌, ◌≡◌, Bool, true, false, cond, List, [], ◌++◌, length, take}
+use Rattle.std.specs.Prelude.{ℕ, ◌+◌, ◌*◌, ◌≤◌, ◌<◌, ◌≡◌, true, false, cond, List, [], ◌++◌, length, take}
 use Rattle.feed_line.specs.declared.Line.{Line}
 use Rattle.feed_text.specs.Line.{texts}
 use Rattle.feed_lines.specs.Feed.{after_end}

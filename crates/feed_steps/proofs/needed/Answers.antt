@@ -3,7 +3,6 @@ use Prim.Native.Nat.{ℕ, ◌*◌}
 use native.Mathlib.Omega.{arith}
 use Rattle.feed_lengths.proofs.Laws.{needed-same}
 use Rattle.word_bytes.specs.Words.{whole_words}
-use borrow.Author.Rules.{rules}
 use Rattle.feed_steps.proofs.needed.Goals as goal
 
 pub returns : goal.returns

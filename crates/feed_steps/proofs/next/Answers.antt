@@ -1,6 +1,5 @@
 use native.Mathlib.Omega.{arith}
 use Rattle.word_bytes.proofs.Laws.{words_length}
-use borrow.Author.Rules.{rules}
 use Rattle.feed_steps.proofs.next.Goals as goal
 
 pub returns : goal.returns

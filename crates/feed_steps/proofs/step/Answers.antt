@@ -4,7 +4,6 @@ use Rattle.feed_lengths.proofs.Laws.{needed_most}
 use Rattle.word_bytes.specs.Words.{whole_words}
 use Rattle.feed_io.specs.Buffers.{unused}
 use Rattle.feed_io.proofs.Buffers.{unused_length}
-use borrow.Author.Rules.{rules}
 use Rattle.feed_steps.proofs.step.Goals as goal
 
 pub carry_out-requires : goal.carry_out-requires
