@@ -1,0 +1,23 @@
+use mathlib.Core.Path.{◌≡◌, refl, sym, ap, ◌∙◌}
+use Prim.Native.Nat.{ℕ, ◌+◌, ◌-◌, ◌*◌, ◌/◌, ◌≤◌}
+use native.Mathlib.Omega.{arith}
+use lib.ListN.{length, take}
+use Rattle.laws.proofs.Lists.{Bytes}
+use lib.ListN.{drop, get_or}
+use lib.Seq.{take_all}
+use mathlib.Core.List.{List}
+use Rattle.little_endian.specs.Bytes.{number}
+use Rattle.meter_keys.specs.Keys.{same_key}
+use Rattle.meter_keys.proofs.Same.{key_same, key_differs}
+use Rattle.watch_key.proofs.Keys.{word-turn, byte-turn}
+use borrow.Author.Rules.{rules}
+use Rattle.watch_key.proofs.same_bytes.Given as goal
+
+abbrev pub invariant-loop-i : goal.invariant-loop-i
+invariant-loop-i l = (l.i ≤ l.words) × (l.words ≡ length l.a / 8) × (length l.a ≡ length l.b) × (take (l.i * 8) l.a ≡ take (l.i * 8) l.b)
+
+abbrev pub invariant-loop-i-2 : goal.invariant-loop-i-2
+invariant-loop-i-2 l = (l.i ≤ l.i-end) × (l.i-end ≡ length l.a) × (length l.a ≡ length l.b) × (take l.i l.a ≡ take l.i l.b)
+
+abbrev pub decreases-loop-i-2 : goal.decreases-loop-i-2
+decreases-loop-i-2 l = l.i-end - l.i
