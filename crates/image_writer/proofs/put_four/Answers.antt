@@ -15,4 +15,4 @@ put_clear-requires c = let a = c.args in
 pub returns-then-clear : goal.returns-then-clear
 returns-then-clear c = let a = c.args in
     let z = (c.clear.ensures c.if-clear.true).1 in
-    let t : Bytes a.row.now = λ i. (c.shared_slice_known-1.given i).fits in record { value = omega (arith, four_length a.w a.row.now a.g, clear_size a.w a.g a.row.now z); words_after = c.put_clear.ensures ∙ ap (sets a.words.now a.p) (sym (clear_words_lem a.w a.g a.row.now t (omega arith) z)) }
+    let t : Bytes a.row.now = λ i. (c.type_inv.row i).fits in record { value = omega (arith, four_length a.w a.row.now a.g, clear_size a.w a.g a.row.now z); words_after = c.put_clear.ensures ∙ ap (sets a.words.now a.p) (sym (clear_words_lem a.w a.g a.row.now t (omega arith) z)) }

@@ -1,0 +1,12 @@
+use mathlib.Core.Path.{◌≡◌, refl, sym, ap, ◌∙◌}
+use mathlib.Core.List.{map}
+use Prim.Native.Nat.{ℕ, suc, ◌+◌, ◌-◌, ◌%◌, ◌≤◌}
+use native.Mathlib.Omega.{arith}
+use borrow.Author.Rules.{rules}
+use lib.ListN.{length, take, drop, length-set}
+use lib.Seq.{sets}
+use Rattle.image_format.proofs.Plain.{counts_start, counts_step, counts_none}
+use Rattle.image_reader.proofs.read_counts.Given as goal
+
+abbrev pub invariant-loop-i : goal.invariant-loop-i
+invariant-loop-i l = (l.i ≤ l.n) × (length l.row ≡ length l.initial.row) × (sets l.row (l.at + l.i) (map (λ (x : ℕ). x % 256) (take (l.n - l.i) (drop (l.p + l.i) l.words))) ≡ sets l.initial.row l.at (map (λ (x : ℕ). x % 256) (take l.n (drop l.p l.words))))
