@@ -2,10 +2,10 @@
 ghost use Rattle.std.specs.Prelude.{◌≡◌, ◌++◌, ◌⊎◌, false, ◌+◌, ◌-◌, ◌≤◌, ◌<◌, length, take, drop};
 ghost use Rattle.feed_io.specs.Buffers.{Within, advanced, Filled, Refilled, Held};
 
-use libc::STDIN_FILENO;
+use std::io::{Read, Stdin};
 
 // The bytes of the buffer that are read and not yet used, and whether more may come.
-#[derive(Drop)]
+#[derive(Clone, Copy)]
 pub struct Input {
     pub start: usize,
     pub end: usize,
@@ -23,13 +23,16 @@ fn shift(buffer: &mut [u8], from: usize, n: usize)
 }
 
 // One read to the place behind the bytes at hand. 0 is the end of the input, or a failed read.
-fn read_more(buffer: &mut [u8], at: usize) -> usize
+fn read_more(from: Stdin, buffer: &mut [u8], at: usize) -> usize
     requires { at ≤ length buffer.old }
     ensures result_in_bounds { at + result ≤ length buffer.new }
     ensures buffer_unchanged { take at buffer.new ≡ take at buffer.old }
 {
-    let got = libc::read(STDIN_FILENO, &mut buffer[at..]);
-    io::count(got, &buffer[at..])
+    let mut stdin = from;
+    match stdin.read(&mut buffer[at..]) {
+        Ok(got) => got,
+        Err(_) => 0,
+    }
 }
 
 // Whether a read is due for n bytes to be at hand.
@@ -44,7 +47,7 @@ pub fn is_short(i: Input, n: usize) -> bool
 }
 
 // Reads on until n bytes are at hand or the input has ended.
-pub fn refill(buffer: &mut [u8], i: Input, n: usize) -> Input
+pub fn refill(from: Stdin, buffer: &mut [u8], i: Input, n: usize) -> Input
     requires fact_1 { Within i buffer.old }
     requires fact_2 { n ≤ 100 }
     requires fact_3 { 100 ≤ length buffer.old }
@@ -59,11 +62,11 @@ pub fn refill(buffer: &mut [u8], i: Input, n: usize) -> Input
         return i;
     }
     shift(buffer, i.start, left);
-    fill(buffer, left, n)
+    fill(from, buffer, left, n)
 }
 
 // The bytes at the front and, behind them, as many as come before there are n.
-fn fill(buffer: &mut [u8], front: usize, n: usize) -> Input
+fn fill(from: Stdin, buffer: &mut [u8], front: usize, n: usize) -> Input
     requires fact_1 { front ≤ length buffer.old }
     requires fact_2 { n ≤ 100 }
     requires fact_3 { 100 ≤ length buffer.old }
@@ -71,7 +74,7 @@ fn fill(buffer: &mut [u8], front: usize, n: usize) -> Input
 {
     let mut end = front;
     while end < n {
-        let got = read_more(buffer, end);
+        let got = read_more(from, buffer, end);
         if got == 0 {
             return Input {
                 start: 0,

@@ -4,10 +4,10 @@ ghost use Rattle.feed_text.specs.Text.{content};
 ghost use Rattle.feed_io.specs.Buffers.{Cleared};
 
 use feed_text::Text;
-use libc::STDOUT_FILENO;
+use std::io::{Stdout, Write};
 
 // The bytes of the buffer that are to be written, and whether a write has failed. Then there are none, and nothing more is written.
-#[derive(Drop)]
+#[derive(Clone, Copy)]
 pub struct Output {
     pub at: usize,
     pub failed: bool,
@@ -29,19 +29,20 @@ pub fn append(out: &mut [u8], at: usize, t: Text) -> usize
 }
 
 // All bytes at hand are written, or a write fails.
-pub fn flush(out: &[u8], at: usize) -> Output
+pub fn flush(to: Stdout, out: &[u8], at: usize) -> Output
     requires { at ≤ length out.now }
     ensures { result.at ≡ 0 }
 {
-    let done = io::write_all(STDOUT_FILENO, &out[..at]);
+    let mut stdout = to;
+    let done = stdout.write_all(&out[..at]);
     Output {
         at: 0,
-        failed: !done,
+        failed: done.is_err(),
     }
 }
 
 // Space for a line. The lines at hand are written first if there is none, or if a read follows: who waits for them may be who sends.
-pub fn make_room(out: &[u8], at: usize, reads: bool) -> Output
+pub fn make_room(to: Stdout, out: &[u8], at: usize, reads: bool) -> Output
     requires fact_1 { at ≤ length out.now }
     requires fact_2 { 64 ≤ length out.now }
     ensures { Cleared reads out.now at result }
@@ -50,10 +51,10 @@ pub fn make_room(out: &[u8], at: usize, reads: bool) -> Output
         return Output { at, failed: false };
     }
     if reads {
-        return flush(out, at);
+        return flush(to, out, at);
     }
     if out.len() - at < 64 {
-        return flush(out, at);
+        return flush(to, out, at);
     }
     Output { at, failed: false }
 }

@@ -6,10 +6,11 @@ ghost use Rattle.feed_io.specs.Buffers.{Within};
 ghost use Rattle.feed_state.specs.State.{Received};
 
 use feed_io::{Input, Output};
+use std::io::{Stdin, Stdout};
 
 // Where the run is: the input and output at hand, the words and records before this point, and whether a record follows or the end was
 // read.
-#[derive(Drop)]
+#[derive(Clone, Copy)]
 pub struct State {
     pub input: Input,
     pub output: Output,
@@ -20,7 +21,14 @@ pub struct State {
 }
 
 // Reads on until n bytes are at hand or the input has ended. The lines at hand are written before a read, which may wait.
-pub fn receive(input: &mut [u8], output: &[u8], s: State, n: usize) -> State
+pub fn receive(
+    from: Stdin,
+    to: Stdout,
+    input: &mut [u8],
+    output: &[u8],
+    s: State,
+    n: usize,
+) -> State
     requires within_1 { Within s.input input.old }
     requires within_2 { n ≤ 100 }
     requires within_3 { 100 ≤ length input.old }
@@ -30,7 +38,7 @@ pub fn receive(input: &mut [u8], output: &[u8], s: State, n: usize) -> State
 {
     let i = s.input;
     let reads = feed_io::is_short(i, n);
-    let o = feed_io::make_room(output, s.output.at, reads);
+    let o = feed_io::make_room(to, output, s.output.at, reads);
     if o.failed {
         return State {
             input: i,
@@ -42,7 +50,7 @@ pub fn receive(input: &mut [u8], output: &[u8], s: State, n: usize) -> State
         };
     }
     State {
-        input: feed_io::refill(input, i, n),
+        input: feed_io::refill(from, input, i, n),
         output: o,
         words: s.words,
         records: s.records,

@@ -3,7 +3,8 @@
 #![tactic(auto)]
 
 use answer::Answer;
-use libc::STDOUT_FILENO;
+use std::io;
+use std::io::Stdout;
 
 // As many packets as make 2^28 bytes.
 fn send(memory: &mut [u8]) {
@@ -12,20 +13,22 @@ fn send(memory: &mut [u8]) {
     }
 }
 
-fn show(a: Answer) {
-    io::print_decimal(STDOUT_FILENO, a.value);
-    io::write_all(STDOUT_FILENO, b"\n");
+fn show(out: Stdout, a: Answer) -> io::Result<()> {
+    let value = a.value;
+    println!(out; "{value}")
 }
 
-fn ask(memory: &[u8]) {
-    show(meter::estimate(1, 32, memory, b"tenant-7"));
+fn ask(out: Stdout, memory: &[u8]) -> io::Result<()> {
+    show(out, meter::estimate(1, 32, memory, b"tenant-7"))
 }
 
-fn main() {
+fn main(rt: HostRuntime) -> io::Result<()> {
+    let out = rt.stdout();
     let mut memory = [0u8; 36];
     meter::clear(1, 32, &mut memory);
     for _ in 0..17u32 {
         send(&mut memory);
-        ask(&memory);
+        ask(out, &memory)?;
     }
+    Ok(())
 }

@@ -3,86 +3,96 @@
 
 use answer::Answer;
 use hash::Hash;
-use libc::STDOUT_FILENO;
+use std::io;
+use std::io::Stdout;
 
-fn text(s: &[u8]) {
-    io::write_all(STDOUT_FILENO, s);
+fn text(out: Stdout, s: &str) -> io::Result<()> {
+    print!(out; "{s}")
 }
 
-fn decimal(n: u64) {
-    text(b" ");
-    io::print_decimal(STDOUT_FILENO, n);
+fn decimal(out: Stdout, n: u64) -> io::Result<()> {
+    print!(out; " {n}")
 }
 
 // All bytes of a list or a memory, by their hash.
-fn digest(bytes: &[u8]) {
-    text(b" ");
+fn digest(out: Stdout, bytes: &[u8]) -> io::Result<()> {
     let h = Hash::start().run(bytes);
-    io::print_hex(STDOUT_FILENO, h.state as u64, 8);
+    let state = h.state;
+    print!(out; " {state:08x}")
 }
 
-fn byte(b: u8) {
-    decimal(b as u64);
+fn byte(out: Stdout, b: u8) -> io::Result<()> {
+    decimal(out, b as u64)
 }
 
 // An answer: status, position and value.
-fn show(a: Answer) {
-    decimal(a.status as u64);
-    decimal(a.position);
-    decimal(a.value);
+fn show(out: Stdout, a: Answer) -> io::Result<()> {
+    decimal(out, a.status as u64)?;
+    decimal(out, a.position)?;
+    decimal(out, a.value)
 }
 
 // The first two key lengths, the mark, and all bytes.
-fn list_line(list: &[u8]) {
-    text(b" list");
+fn list_line(out: Stdout, list: &[u8]) -> io::Result<()> {
+    text(out, " list")?;
     if 64 < list.len() {
-        byte(list[0]);
-        byte(list[1]);
-        byte(list[64]);
+        byte(out, list[0])?;
+        byte(out, list[1])?;
+        byte(out, list[64])?;
     }
-    digest(list);
-    text(b"\n");
+    digest(out, list)?;
+    text(out, "\n")
 }
 
-fn clear(list: &mut [u8]) {
-    text(b"clear");
-    show(watch::clear(list));
-    list_line(list);
+fn clear(out: Stdout, list: &mut [u8]) -> io::Result<()> {
+    text(out, "clear")?;
+    show(out, watch::clear(list))?;
+    list_line(out, list)
 }
 
-fn update(memory: &mut [u8], list: &mut [u8], key: &[u8], amount: u32, threshold: u64) {
-    text(b"update");
-    show(watch::update(1, 32, memory, list, key, amount, threshold));
-    digest(memory);
-    list_line(list);
+fn update(
+    out: Stdout,
+    memory: &mut [u8],
+    list: &mut [u8],
+    key: &[u8],
+    amount: u32,
+    threshold: u64,
+) -> io::Result<()> {
+    text(out, "update")?;
+    show(
+        out,
+        watch::update(1, 32, memory, list, key, amount, threshold),
+    )?;
+    digest(out, memory)?;
+    list_line(out, list)
 }
 
-fn remove(list: &mut [u8], key: &[u8]) {
-    text(b"remove");
-    show(watch::remove(list, key));
-    list_line(list);
+fn remove(out: Stdout, list: &mut [u8], key: &[u8]) -> io::Result<()> {
+    text(out, "remove")?;
+    show(out, watch::remove(list, key))?;
+    list_line(out, list)
 }
 
 // A key joins at the threshold and not below it, is renewed, and joins again behind another; a prefix is another key.
-fn joins(m: &mut [u8], list: &mut [u8]) {
-    update(m, list, b"tenant-1", 99, 100);
-    update(m, list, b"tenant-1", 1, 100);
-    update(m, list, b"tenant-1", 50, 1000);
-    update(m, list, b"tenant", 200, 100);
+fn joins(out: Stdout, m: &mut [u8], list: &mut [u8]) -> io::Result<()> {
+    update(out, m, list, b"tenant-1", 99, 100)?;
+    update(out, m, list, b"tenant-1", 1, 100)?;
+    update(out, m, list, b"tenant-1", 50, 1000)?;
+    update(out, m, list, b"tenant", 200, 100)
 }
 
-fn leaves(m: &mut [u8], list: &mut [u8]) {
-    remove(list, b"tenant-2");
-    remove(list, b"tenant-1");
-    update(m, list, b"tenant-1", 0, 100);
-    remove(list, b"tenant");
+fn leaves(out: Stdout, m: &mut [u8], list: &mut [u8]) -> io::Result<()> {
+    remove(out, list, b"tenant-2")?;
+    remove(out, list, b"tenant-1")?;
+    update(out, m, list, b"tenant-1", 0, 100)?;
+    remove(out, list, b"tenant")
 }
 
 // The order of the numbers.
-fn numbers(m: &mut [u8], list: &mut [u8]) {
-    update(m, list, b"", 1, 0);
-    update(m, list, b"tenant-1", 1, 0);
-    remove(list, b"");
+fn numbers(out: Stdout, m: &mut [u8], list: &mut [u8]) -> io::Result<()> {
+    update(out, m, list, b"", 1, 0)?;
+    update(out, m, list, b"tenant-1", 1, 0)?;
+    remove(out, list, b"")
 }
 
 // A key length after a 0.
@@ -92,15 +102,15 @@ fn spoil(list: &mut [u8]) {
     }
 }
 
-fn broken(m: &mut [u8], list: &mut [u8]) {
+fn broken(out: Stdout, m: &mut [u8], list: &mut [u8]) -> io::Result<()> {
     spoil(list);
-    update(m, list, b"tenant-1", 1, 0);
-    remove(list, b"tenant-1");
+    update(out, m, list, b"tenant-1", 1, 0)?;
+    remove(out, list, b"tenant-1")
 }
 
-fn other_length(m: &mut [u8], list: &mut [u8]) {
-    update(m, list, b"", 1, 0);
-    remove(list, b"");
+fn other_length(out: Stdout, m: &mut [u8], list: &mut [u8]) -> io::Result<()> {
+    update(out, m, list, b"", 1, 0)?;
+    remove(out, list, b"")
 }
 
 // So many keys of one byte.
@@ -111,27 +121,28 @@ fn many(m: &mut [u8], list: &mut [u8], n: u8) {
 }
 
 // 64 keys fill the list, and the next sets the mark, which a removal leaves.
-fn full(m: &mut [u8], list: &mut [u8]) {
-    clear(list);
+fn full(out: Stdout, m: &mut [u8], list: &mut [u8]) -> io::Result<()> {
+    clear(out, list)?;
     many(m, list, 64);
-    list_line(list);
+    list_line(out, list)?;
     many(m, list, 65);
-    list_line(list);
-    remove(list, b"\x00");
+    list_line(out, list)?;
+    remove(out, list, b"\x00")
 }
 
-fn refused(m: &mut [u8], list: &mut [u8]) {
-    numbers(m, list);
-    broken(m, list);
-    other_length(m, &mut list[0..0]);
+fn refused(out: Stdout, m: &mut [u8], list: &mut [u8]) -> io::Result<()> {
+    numbers(out, m, list)?;
+    broken(out, m, list)?;
+    other_length(out, m, &mut list[0..0])
 }
 
-fn main() {
+fn main(rt: HostRuntime) -> io::Result<()> {
+    let out = rt.stdout();
     let mut m = [0u8; 36];
     let mut list = [255u8; 4673];
-    clear(&mut list);
-    joins(&mut m, &mut list);
-    leaves(&mut m, &mut list);
-    refused(&mut m, &mut list);
-    full(&mut m, &mut list);
+    clear(out, &mut list)?;
+    joins(out, &mut m, &mut list)?;
+    leaves(out, &mut m, &mut list)?;
+    refused(out, &mut m, &mut list)?;
+    full(out, &mut m, &mut list)
 }

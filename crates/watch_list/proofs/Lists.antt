@@ -231,9 +231,9 @@ module _ (mark : ℕ) (ps : List Entry) (fit : Each Fits ps) (full : length ps �
         rw (← append-nil (column estimate_field ps))
         (field_at estimate_field 8 ps (lengths ++ (mark ∷ []) ++ keys) [] estimates_at i z (estimates-wide ps fit) before-estimates l)
 
-    place-is : place_at (laid_out mark ps) i ≡ get_or ps i z
+    place_at_lem : place_at (laid_out mark ps) i ≡ get_or ps i z
     unfolding place_at there
-    place-is =
+    place_at_lem =
         let e = get_or ps i z in
         let s = (each_at Fits ps i z fit l).small in
         rw (
@@ -250,7 +250,7 @@ module _ (mark : ℕ) (ps : List Entry) (fit : Each Fits ps) (full : length ps �
   places-are zero i l = refl
   places-are (suc n) i l =
       let k : i < length ps = omega arith in
-      rw (place-is i clear_place k, places-are n (suc i) (omega arith), drop-cons ps i clear_place k)
+      rw (place_at_lem i clear_place k, places-are n (suc i) (omega arith), drop-cons ps i clear_place k)
 
 -- the places in use of a column of lengths
 used_are : (es fs : List Entry) → Each (λ e. 1 ≤ length e.key) es → Each (λ e. length e.key ≡ 0) fs

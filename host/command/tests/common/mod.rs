@@ -26,7 +26,7 @@ pub fn run_feed() -> PathBuf {
     };
     assert!(
         program.exists(),
-        "{} is not there: rt check run_feed at the root of the repository builds it; RUN_FEED names another",
+        "{} is not there: ./run at the root of the repository builds it; RUN_FEED names another",
         program.display()
     );
     program

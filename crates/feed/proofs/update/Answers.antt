@@ -1,0 +1,93 @@
+use mathlib.Core.Path.{◌≡◌, refl, sym, ap, ◌∙◌}
+use mathlib.Core.List.{List}
+use Prim.Native.Nat.{ℕ, ◌-◌}
+use lib.ListN.{take}
+use borrow.Author.Rules.{rules}
+use Rattle.answer.specs.declared.Answer.{Answer}
+use Rattle.answer.specs.Answers.{Done}
+use Rattle.meter.specs.Meter.{updated}
+use Rattle.feed_records.specs.declared.Body.{Body}
+use Rattle.feed.specs.declared.Recorded.TheVariants as case
+use Rattle.feed_records.specs.Answers.{body_answer}
+use Rattle.feed_keys.specs.Keys.{key_of}
+use Rattle.feed_records.specs.Words.{update_body}
+use Rattle.feed.specs.declared.Recorded.{Recorded}
+use Rattle.feed.specs.Record.{Carried, refusal, outcome_of, update_outcome, update_memory, finish_record}
+use Rattle.feed_lengths.proofs.Laws.{key_short}
+use Rattle.feed.proofs.Cases.{carried_update, outcome_refused, outcome_accepted, tell}
+use Rattle.feed.proofs.Laws.{lent, call_passes, update_refused}
+use Rattle.feed.proofs.update.Goals as goal
+use Rattle.feed.proofs.update.Goals.{After-update_checked-a, In-Sound}
+
+-- the update that was called, and what the record makes of it
+abbrev called : After-update_checked-a → Done
+called k =
+    let a = k.args in
+    updated a.d a.w a.memory.now (key_of a.n a.words.now) k.in-Sound.amount
+
+abbrev meant : After-update_checked-a → Carried
+meant k =
+    let a = k.args in
+    carried_update a.d a.w a.memory.now a.n a.words.now (update_body a.n a.words.now)
+
+-- the key that is lent is the record's
+key-is : (b : In-Sound) →
+    let a = b.args in
+    take (a.n - 0) b.update_body-b.new.key ≡ key_of a.n a.words.now
+key-is b =
+    let a = b.args in
+    lent a.n _ (key_of a.n a.words.now) (b.update_body-b.ensures.key_after (ap (λ (x : Body). (body_answer x).status) b.in-Sound.is))
+
+called_is : (k : After-update_checked-a) → (k.update_checked-a.result ≡ (called k).answer) × (k.update_checked-a.new.memory ≡ (called k).memory)
+called_is k =
+    let a = k.args in
+    let v = k.in-Sound.amount in
+    let q = key-is (goal.at.After-update_checked-a k).In-Sound in (
+      k.update_checked-a.ensures.value ∙ ap (λ (x : List ℕ). (updated a.d a.w a.memory.now x v).answer) q,
+      k.update_checked-a.ensures.memory_after ∙ ap (λ (x : List ℕ). (updated a.d a.w a.memory.now x v).memory) q,
+    )
+
+meant_is : (k : After-update_checked-a) → meant k ≡ record { outcome = outcome_of (called k).answer case.Updated; memory = (called k).memory }
+unfolding carried_update update_outcome
+meant_is k =
+    rw (sym k.update_body-b.ensures.value ∙ k.in-Sound.is)
+
+-- the contract, by the outcome and memory of that update
+told-as : (k : After-update_checked-a) (r : Recorded) (m : List ℕ) → r ≡ outcome_of (called k).answer case.Updated → m ≡ (called k).memory →
+    let a = k.args in
+    (r ≡ update_outcome a.d a.w a.memory.now a.n a.words.now (update_body a.n a.words.now))
+    × (m ≡ (finish_record r (update_memory a.d a.w a.memory.now a.n a.words.now) a.memory.now).memory)
+told-as k r m e f =
+    let a = k.args in
+    let z = sym (meant_is k) in
+    tell a.d a.w a.memory.now a.n a.words.now r m (e ∙ ap (λ (c : Carried). c.outcome) z) (f ∙ ap (λ (c : Carried). c.memory) z)
+
+pub update_body-b-requires : goal.update_body-b-requires
+update_body-b-requires c = record { fact_1 = key_short _ c.requires.fact_2; fact_2 = search rules }
+
+pub returns-in_default : goal.returns-in_default
+returns-in_default c = let u = c.update_body-b in
+    let a = c.args in
+    let e = update_refused a.d a.w a.memory.now a.n a.words.now u.result (rw c.in_default.is) in
+    let b = c.update_body-b.ensures.value in
+    let r = tell a.d a.w a.memory.now a.n a.words.now _ _ (rw (← b, e) c.refused.ensures) (rw (← b, e)) in
+    record { value = r.0; memory_after = r.1 }
+
+pub slice_bounds-update_checked-end : goal.slice_bounds-update_checked-end
+slice_bounds-update_checked-end c = search (rules, key_short c.args.n c.requires.fact_2)
+
+pub update_checked-a-requires : goal.update_checked-a-requires
+update_checked-a-requires c = let a = c.args in
+    call_passes a.d a.w a.memory.now a.n a.words.now _ c.requires.fact_1 c.requires.fact_2 (key-is (goal.at.update_checked-a-requires c).In-Sound)
+
+pub returns-then-a-ne0 : goal.returns-then-a-ne0
+returns-then-a-ne0 c = let z = called_is (goal.at.returns-then-a-ne0 c).After-update_checked-a in
+    let t = outcome_refused (called (goal.at.returns-then-a-ne0 c).After-update_checked-a).answer case.Updated (λ h. c.if-a-ne0.true (ap (λ (x : Answer). x.status) z.0 ∙ h)) in
+    let r = told-as (goal.at.returns-then-a-ne0 c).After-update_checked-a _ _ (c.refusal.ensures ∙ ap refusal z.0 ∙ sym t) z.1 in
+    record { value = r.0; memory_after = r.1 }
+
+pub returns : goal.returns
+returns c = let z = called_is (goal.at.returns c).After-update_checked-a in
+    let t = outcome_accepted (called (goal.at.returns c).After-update_checked-a).answer case.Updated (ap (λ (x : Answer). x.status) (sym z.0) ∙ c.if-a-ne0.false) in
+    let r = told-as (goal.at.returns c).After-update_checked-a _ _ (sym t) z.1 in
+    record { value = r.0; memory_after = r.1 }

@@ -1,0 +1,15 @@
+use Prim.Native.Nat.{◌/◌}
+use native.Mathlib.Omega.{arith}
+use Rattle.geometry.proofs.Widths.{slot_in, group_in}
+use Rattle.signed_row.specs.Row.{added_in}
+use borrow.Author.Rules.{rules}
+use Rattle.signed_row.proofs.add_in_row.Goals as goal
+
+pub load-requires : goal.load-requires
+load-requires c = let a = c.args in
+    let p = c.requires in
+    let i = group_in a.w (a.slot / 8) p.fact_1 (slot_in a.w a.slot p.fact_1 p.fact_3) in record { fact_1 = i.0; fact_2 = omega arith }
+
+pub returns : goal.returns
+unfolding added_in
+returns c = rw (← c.load.ensures) c.add.ensures

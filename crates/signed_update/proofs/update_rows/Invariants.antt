@@ -1,0 +1,31 @@
+use mathlib.Core.Path.{◌≡◌, refl, sym, ap, ◌∙◌}
+use mathlib.Core.List.{List, []}
+use Prim.Native.Nat.{ℕ, ◌+◌, ◌-◌, ◌*◌, ◌≤◌}
+use native.Mathlib.Omega.{arith}
+use borrow.Author.Rules.{rules}
+use borrow.Author.Tests.{ne_eqb}
+use lib.ListN.{length, get_or}
+use Rattle.group.specs.declared.Group.{Group}
+use Rattle.geometry.proofs.Widths.{one_row}
+use Rattle.meter_memory.specs.Rows.{map_rows}
+use Rattle.meter_memory.proofs.Lists.{lent, rows_from, rows_start, rows_turn}
+use Rattle.meter_memory.proofs.Tried.{kept_stored, stored_all}
+use Rattle.signed_number.specs.Number.{integer}
+use Rattle.signed_row.specs.Hashes.{added_by, stored_by}
+use Rattle.signed_update.proofs.update_rows.Given as goal
+
+-- what stands for an element that is not there
+abbrev pub none : Group
+none = record { counts = []; merge = 0 }
+
+-- a group stored in row r, and the one that was kept for it
+abbrev pub storedIn : ℕ → List ℕ → ℕ → Group → List ℕ → List ℕ
+storedIn w hashes r x row = stored_by w (get_or hashes r 0) x row
+
+abbrev pub stored : ℕ → List ℕ → List Group → ℕ → List ℕ → List ℕ
+stored w hashes groups = kept_stored (storedIn w hashes) groups none
+
+abbrev pub invariant-loop-r : goal.invariant-loop-r
+invariant-loop-r l = (l.r ≤ l.d)
+    × (rows_from (stored l.w l.hashes l.t.groups) l.stride l.d l.r l.memory ≡ map_rows (stored l.w l.hashes l.t.groups) l.stride l.d 0 l.initial.memory)
+    × (length l.memory ≡ length l.initial.memory)
