@@ -1,5 +1,5 @@
 use mathlib.Core.Path.{sym}
-use borrow.Author.Tests.{not-true, not-false, le-leb, lt-leb}
+use borrow.Author.Tests.{le-leb, lt-leb}
 use lib.Dec.{leb}
 use Rattle.answer.specs.Order.{earlier}
 use Rattle.watch_checks.proofs.Lines.{five_first}

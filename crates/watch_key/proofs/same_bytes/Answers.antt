@@ -24,8 +24,8 @@ returns-then-word_at c = let l = c.loop-i in
 pub loop-i-preserved : goal.loop-i-preserved
 loop-i-preserved c = let l = c.loop-i in
     let a = c.args in
-    let small-a : Bytes a.a.now = λ i. (c.shared_slice_known-1.given i).fits in
-    let small_b : Bytes a.b.now = λ i. (c.shared_slice_known-2-1.given i).fits in
+    let small-a : Bytes a.a.now = λ i. (c.type_inv.a i).fits in
+    let small_b : Bytes a.b.now = λ i. (c.type_inv.b i).fits in
     let next : (l.i + 1) * 8 ≡ l.i * 8 + 8 = omega arith in
     let same = sym c.word_at.ensures ∙ c.if-word_at.false ∙ c.word_at-in-loop-i.ensures in
     (omega arith, refl, l.invariant.2, rw next (word-turn a.a.now a.b.now l.invariant.2 (l.i * 8) (omega arith) small-a small_b l.invariant.3 same))
