@@ -24,7 +24,7 @@ passed c = sym c.bad_arguments-bad.ensures ∙ c.if-bad-ne0.false
 
 pub usage_of-found-requires : goal.usage_of-found-requires
 usage_of-found-requires c = let a = c.args in
-    list_long a.list.now (arguments_none a.list.now a.key.now (passed (goal.at.usage_of-found-requires c).Else-bad-ne0)).0
+    list_long a.list.now (arguments_none a.list.now a.key.now (passed c)).0
 
 pub returns-then-not-found : goal.returns-then-not-found
 returns-then-not-found c = let a = c.args in

@@ -40,7 +40,7 @@ own_line c =
 
 pub usage_of-found-requires : goal.usage_of-found-requires
 usage_of-found-requires c = let a = c.args in
-    (lines-good a.d a.w a.memory.now a.list.now a.key.now (passed (goal.at.usage_of-found-requires c).Else-bad-ne0)).1
+    (lines-good a.d a.w a.memory.now a.list.now a.key.now (passed c)).1
 
 pub estimate_checked-asked-requires : goal.estimate_checked-asked-requires
 estimate_checked-asked-requires c = let a = c.args in
@@ -49,11 +49,7 @@ estimate_checked-asked-requires c = let a = c.args in
 pub returns-then-line-ne0 : goal.returns-then-line-ne0
 returns-then-line-ne0 c = let a = c.args in
     let p = watched-line a.d a.w a.memory.now a.list.now a.key.now a.amount a.threshold (passed (goal.at.returns-then-line-ne0 c).Else-bad-ne0) c.bad_content-line.result c.estimate_checked-asked.result.status (own_line (goal.at.returns-then-line-ne0 c).After-bad_content-line) c.if-line-ne0.true (ap (λ (x : Answer). x.status) c.estimate_checked-asked.ensures) in
-    record {
-      value = c.answer_of-then-line-ne0.ensures ∙ ap (λ (s : ℕ). answer_of s 0) c.earlier.ensures ∙ p.0;
-      memory_after = p.1.0;
-      list_after = p.1.1;
-    }
+    record { value = c.answer_of-then-line-ne0.ensures ∙ ap (λ (s : ℕ). answer_of s 0) c.earlier.ensures ∙ p.0; memory_after = p.1.0; list_after = p.1.1 }
 
 pub update_reading-left-requires : goal.update_reading-left-requires
 update_reading-left-requires c = let a = c.args in
