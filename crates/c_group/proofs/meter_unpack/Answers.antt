@@ -1,4 +1,3 @@
-use borrow.Author.Rules.{rules}
 use mathlib.Core.Path.{ap, ◌∙◌}
 use Rattle.group_codes.specs.declared.Unpacked.{Unpacked}
 use Rattle.c_group.proofs.meter_unpack.Goals as goal

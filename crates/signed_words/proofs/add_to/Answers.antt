@@ -12,7 +12,7 @@ use Rattle.signed_block.proofs.Counters.{top_twice, top_most}
 use Rattle.signed_words.specs.Words as words
 use Rattle.signed_words.proofs.Raising.{raised_is, holds, lowered_is, moved-is, no_room, room_more}
 use Rattle.signed_words.proofs.add_to.Goals as goal
-use Rattle.signed_words.proofs.add_to.Goals.{After-moved, After-raised-before, After-room, After-top-sign, Else-room-amount}
+use Rattle.signed_words.proofs.add_to.Goals.{After-moved, After-raised-before, After-room, Else-room-amount}
 
 -- the raised value
 module _ (c : After-raised-before) where

@@ -8,7 +8,6 @@ use Rattle.watch_sound.proofs.Lengths.{usage_holds}
 use Rattle.watch_checks.specs.Checks.{bad_list}
 use Rattle.watch_checks.proofs.Lines.{list_long, key_long, arguments_none}
 use Rattle.watch.proofs.Calls.{removed-bad, removed-broken, removed-good}
-use borrow.Author.Rules.{rules}
 use Rattle.watch.proofs.remove.Goals as goal
 use Rattle.watch.proofs.remove.Goals.{Else-bad-ne0}
 

@@ -15,7 +15,6 @@ use Rattle.watch_checks.specs.Checks.{broken_list, bad_threshold, bad_lines}
 use Rattle.watch.specs.Watch.{noted_in}
 use Rattle.watch_checks.proofs.Lines.{list_sound}
 use Rattle.watch.proofs.Calls.{lines-good, watched-bad, watched-line, watched-full, watched-done}
-use borrow.Author.Rules.{rules}
 use Rattle.watch.proofs.update.Goals as goal
 use Rattle.watch.proofs.update.Goals.{After-bad_content-line, Else-bad-ne0}
 

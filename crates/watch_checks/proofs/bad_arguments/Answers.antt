@@ -1,6 +1,5 @@
 use mathlib.Core.Path.{sym, ◌∙◌}
 use Rattle.watch_checks.proofs.Lines.{arguments-list, arguments-key}
-use borrow.Author.Rules.{rules}
 use Rattle.watch_checks.proofs.bad_arguments.Goals as goal
 
 pub returns-then-long-ne0 : goal.returns-then-long-ne0

@@ -1,6 +1,5 @@
 use mathlib.Core.Path.{sym, ◌∙◌}
 use Rattle.watch_checks.proofs.Lines.{lines-shape, lines-arguments}
-use borrow.Author.Rules.{rules}
 use Rattle.watch_checks.proofs.bad_lines.Goals as goal
 
 pub returns-then-shape-ne0 : goal.returns-then-shape-ne0

@@ -4,7 +4,6 @@ use native.Mathlib.Omega.{arith}
 use borrow.Author.Tests.{not-true, eqb-false}
 use Rattle.watch_list.proofs.Places.{length-short}
 use Rattle.watch_key.proofs.Keys.{other-digest}
-use borrow.Author.Rules.{rules}
 use Rattle.watch_find.proofs.differs.Goals as goal
 
 pub digest-requires : goal.digest-requires

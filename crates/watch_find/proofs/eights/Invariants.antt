@@ -1,11 +1,5 @@
-use mathlib.Core.Path.{◌≡◌, sym, ◌∙◌}
 use Prim.Native.Nat.{◌-◌, ◌≤◌}
-use native.Mathlib.Omega.{arith}
-use borrow.Author.Tests.{not-false}
-use Rattle.watch_list.proofs.Places.{in-use-most}
 use Rattle.watch_find.specs.Scan.{Sought, Past}
-use Rattle.watch_find.proofs.Scanning.{skip}
-use borrow.Author.Rules.{rules}
 use Rattle.watch_find.proofs.eights.Given as goal
 
 abbrev pub invariant-loop-k : goal.invariant-loop-k

@@ -1,11 +1,9 @@
 use mathlib.Core.Path.{◌≡◌, sym, ◌∙◌}
-use Prim.Native.Nat.{◌+◌, ◌-◌, ◌≤◌}
+use Prim.Native.Nat.{◌-◌}
 use native.Mathlib.Omega.{arith}
-use Rattle.watch_list.specs.Layout.{places_from}
-use Rattle.watch_list.specs.Parts.{Holds, KeyLong, index_of}
+use Rattle.watch_list.specs.Parts.{Holds}
 use Rattle.watch_list.proofs.Places.{in-use-most, length-short}
 use Rattle.watch_find.proofs.Scanning.{index-here, index-past, none}
-use borrow.Author.Rules.{rules}
 use Rattle.watch_find.proofs.find.Goals as goal
 
 pub eights-k-requires : goal.eights-k-requires

@@ -1,9 +1,7 @@
 use mathlib.Core.Path.{sym}
 use mathlib.Core.Bool.{true≢false}
 use native.Mathlib.Omega.{arith}
-use borrow.Author.Tests.{not-false}
 use Rattle.watch_find.proofs.Scanning.{both_differ}
-use borrow.Author.Rules.{rules}
 use Rattle.watch_find.proofs.two_differ.Goals as goal
 
 pub differs-requires : goal.differs-requires

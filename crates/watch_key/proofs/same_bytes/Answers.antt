@@ -1,5 +1,5 @@
 use mathlib.Core.Path.{◌≡◌, refl, sym, ap, ◌∙◌}
-use Prim.Native.Nat.{ℕ, ◌+◌, ◌-◌, ◌*◌, ◌/◌, ◌≤◌}
+use Prim.Native.Nat.{ℕ, ◌+◌, ◌-◌, ◌*◌, ◌/◌}
 use native.Mathlib.Omega.{arith}
 use lib.ListN.{length, take}
 use Rattle.laws.proofs.Lists.{Bytes}
@@ -10,7 +10,6 @@ use Rattle.little_endian.specs.Bytes.{number}
 use Rattle.meter_keys.specs.Keys.{same_key}
 use Rattle.meter_keys.proofs.Same.{key_same, key_differs}
 use Rattle.watch_key.proofs.Keys.{word-turn, byte-turn}
-use borrow.Author.Rules.{rules}
 use Rattle.watch_key.proofs.same_bytes.Goals as goal
 
 pub loop-i-init : goal.loop-i-init

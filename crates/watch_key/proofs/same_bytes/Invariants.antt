@@ -1,16 +1,6 @@
-use mathlib.Core.Path.{◌≡◌, refl, sym, ap, ◌∙◌}
-use Prim.Native.Nat.{ℕ, ◌+◌, ◌-◌, ◌*◌, ◌/◌, ◌≤◌}
-use native.Mathlib.Omega.{arith}
+use mathlib.Core.Path.{◌≡◌}
+use Prim.Native.Nat.{◌-◌, ◌*◌, ◌/◌, ◌≤◌}
 use lib.ListN.{length, take}
-use Rattle.laws.proofs.Lists.{Bytes}
-use lib.ListN.{drop, get_or}
-use lib.Seq.{take_all}
-use mathlib.Core.List.{List}
-use Rattle.little_endian.specs.Bytes.{number}
-use Rattle.meter_keys.specs.Keys.{same_key}
-use Rattle.meter_keys.proofs.Same.{key_same, key_differs}
-use Rattle.watch_key.proofs.Keys.{word-turn, byte-turn}
-use borrow.Author.Rules.{rules}
 use Rattle.watch_key.proofs.same_bytes.Given as goal
 
 abbrev pub invariant-loop-i : goal.invariant-loop-i

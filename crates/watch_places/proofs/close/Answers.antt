@@ -1,11 +1,10 @@
 use mathlib.Core.Path.{◌≡◌, refl, sym, ap, ap₂, ◌∙◌}
 use mathlib.Core.List.{List}
-use Prim.Native.Nat.{ℕ, suc, ◌+◌, ◌-◌, ◌≤◌}
+use Prim.Native.Nat.{ℕ, suc, ◌+◌, ◌-◌}
 use native.Mathlib.Omega.{arith}
-use lib.ListN.{length, get_or, take, set, length-set}
+use lib.ListN.{get_or, take, set, length-set}
 use lib.Seq.{paste, paste-zero, paste-suc}
 use Rattle.watch_places.proofs.Pasting.{past_take, moved, moved_length, moved_at, closed_all}
-use borrow.Author.Rules.{rules}
 use Rattle.watch_places.proofs.close.Goals as goal
 
 pub loop-i-init : goal.loop-i-init

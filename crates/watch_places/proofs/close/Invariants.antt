@@ -1,11 +1,8 @@
-use mathlib.Core.Path.{◌≡◌, refl, sym, ap, ap₂, ◌∙◌}
-use mathlib.Core.List.{List}
-use Prim.Native.Nat.{ℕ, suc, ◌+◌, ◌-◌, ◌≤◌}
-use native.Mathlib.Omega.{arith}
-use lib.ListN.{length, get_or, take, set, length-set}
-use lib.Seq.{paste, paste-zero, paste-suc}
-use Rattle.watch_places.proofs.Pasting.{past_take, moved, moved_length, moved_at, closed_all}
-use borrow.Author.Rules.{rules}
+use mathlib.Core.Path.{◌≡◌}
+use Prim.Native.Nat.{◌+◌, ◌-◌, ◌≤◌}
+use lib.ListN.{length}
+use lib.Seq.{paste}
+use Rattle.watch_places.proofs.Pasting.{moved}
 use Rattle.watch_places.proofs.close.Given as goal
 
 abbrev pub invariant-loop-i : goal.invariant-loop-i

@@ -1,4 +1,4 @@
-use mathlib.Core.Path.{◌≡◌, sym, ap, ◌∙◌}
+use mathlib.Core.Path.{ap, ◌∙◌}
 use mathlib.Core.List.{List, ◌++◌}
 use Prim.Native.Nat.{ℕ, ◌+◌, ◌*◌}
 use native.Mathlib.Omega.{arith}
@@ -8,7 +8,6 @@ use Rattle.watch_list.specs.List.{joining}
 use Rattle.watch_list.specs.Layout.{keys_at, estimates_at, length_field, key_field, estimate_field}
 use Rattle.watch_list.specs.Parts.{put, put_place}
 use Rattle.watch_places.proofs.Pasting.{put_one, put_eight}
-use borrow.Author.Rules.{rules}
 use Rattle.watch_places.proofs.join.Goals as goal
 
 pub put_key-requires : goal.put_key-requires

@@ -1,12 +1,8 @@
-use mathlib.Core.Path.{◌≡◌, refl, sym, ap, ap₂, ◌∙◌}
+use mathlib.Core.Path.{◌≡◌}
 use mathlib.Core.List.{List, ◌++◌}
 use Prim.Native.Nat.{ℕ, ◌+◌, ◌-◌, ◌≤◌}
-use native.Mathlib.Numerals.{add-one}
-use native.Mathlib.Omega.{arith}
-use lib.ListN.{length, set, replicate, length-append, length-replicate, length-set}
-use lib.Seq.{paste, paste-zero, paste-suc}
-use Rattle.watch_places.proofs.Pasting.{padded_at, put_all}
-use borrow.Author.Rules.{rules}
+use lib.ListN.{length, replicate}
+use lib.Seq.{paste}
 use Rattle.watch_places.proofs.put_key.Given as goal
 
 -- the bytes of the place's key

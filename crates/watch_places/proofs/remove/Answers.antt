@@ -3,7 +3,6 @@ use mathlib.Core.List.{List}
 use Prim.Native.Nat.{ℕ, ◌+◌, ◌*◌}
 use Rattle.watch_list.specs.Layout.{keys_at, estimates_at}
 use Rattle.watch_list.specs.Parts.{closed, closed_place}
-use borrow.Author.Rules.{rules}
 use Rattle.watch_places.proofs.remove.Goals as goal
 
 pub returns : goal.returns
