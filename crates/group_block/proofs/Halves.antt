@@ -1,11 +1,11 @@
 -- What the code passes: Sums and halves as structs, and what its functions of them do, for any kind of meter.
-use mathlib.Core.Path.{◌≡◌, refl, sym, ap, ap₂, ◌∙◌}
+use mathlib.Core.Path.{◌≡◌, sym, ap, ap₂, ◌∙◌}
 use mathlib.Core.Bool.{Bool, true, false, true≢false, and-eq-true_iff}
 use Prim.Native.Nat.{ℕ, zero, suc, ◌+◌, ◌-◌, ◌*◌, ◌/◌, ◌%◌, ◌^◌, ◌≤◌, ◌<◌}
 use native.Mathlib.Nat.{mod-lt}
 use native.Mathlib.Numerals.{add-one, sub-one}
 use native.Mathlib.Omega.{arith}
-use Rattle.group_layout.specs.Layout.{marks, layout, valid}
+use Rattle.group_layout.specs.Layout.{marks, layout}
 use Rattle.group_layout.specs.Merged.{is_merged}
 use Rattle.group_layout.proofs.Laws.{above_slot, layout_marks, layout_suc, valid_marks, valid_apart}
 use Rattle.group_block.specs.declared.Summed.{Summed}

@@ -1,9 +1,7 @@
 -- What the code's union asks of `join` and what `join` gives, in blocks of two halves, for any kind of meter.
 use mathlib.Core.Path.{◌≡◌, refl, sym, ◌∙◌}
-use mathlib.Core.Bool.{true}
 use Prim.Native.Nat.{ℕ, ◌+◌, ◌-◌, ◌^◌, ◌≤◌, ◌<◌}
 use native.Mathlib.Omega.{arith}
-use Rattle.group_layout.specs.Layout.{layout}
 use Rattle.group_block.specs.declared.Summed.{Summed}
 use Rattle.group_block.specs.Kind.{Kind}
 use Rattle.group_block.specs.Block.{BlockOf, counter, split, cap, block_as, total}

@@ -3,7 +3,7 @@ use mathlib.Core.Path.{refl}
 use Rattle.little_endian.specs.Bytes.{number, bytes}
 use Rattle.group_layout.specs.Layout.{bit, ones, marks, layout, valid}
 use Rattle.group_layout.specs.Code.{layouts, merged_code, code}
-use Rattle.group_block.specs.Block.{cap, shape, number_of, fill, block, total, block_as}
+use Rattle.group_block.specs.Block.{cap, shape, number_of, fill, total, block_as}
 use Rattle.group_block.specs.Sum.{sum_total, held, join, add, unite}
 use Rattle.group.specs.Group.{decode, encode, settle, added, united_groups}
 use Rattle.group_codes.specs.Pack.{group_code, four_code, packed}

@@ -11,7 +11,7 @@ use Rattle.group_layout.proofs.Laws.{layout_marks}
 use Rattle.group_block.specs.Kind.{ordinary}
 use Rattle.group_block.specs.Block.{counter, split, cap, shape, fill, block, total, block_as}
 use Rattle.group_block.specs.Sum.{Sum, fits, held, join, unite}
-use Rattle.group_block.specs.Passed.{summed, summed_as}
+use Rattle.group_block.specs.Passed.{summed_as}
 use Rattle.group_block.proofs.Adding.{held_cases, held_total}
 use Rattle.group_union.proofs.Carries.{keeps}
 

@@ -1,39 +1,34 @@
 -- What an accepted call leaves, group by group, and that memories stay valid.
-use mathlib.Core.Path.{◌≡◌, refl, sym, ap, ◌∙◌}
+use mathlib.Core.Path.{◌≡◌, refl, sym, ◌∙◌}
 use mathlib.Core.Bool.{Bool, true, false}
 use mathlib.Core.List.{List, [], ◌∷◌}
-use Prim.Native.Nat.{ℕ, zero, suc, ◌+◌, ◌*◌, ◌/◌, ◌%◌, ◌^◌, ◌≤◌, ◌<◌}
-use native.Mathlib.Nat.{zero-mul, suc-mul, zero-add, add-zero, mod-lt}
-use native.Mathlib.Decide.{dec_lt, ℕ_discrete}
+use Prim.Native.Nat.{ℕ, zero, suc, ◌+◌, ◌*◌, ◌/◌, ◌<◌}
+use native.Mathlib.Decide.{ℕ_discrete}
 use native.Mathlib.Omega.{arith}
 use borrow.Author.Tests.{eqb-true}
 use lib.Dec.{eqb}
-use lib.ListN.{length, get_or, take, drop, replicate, length-replicate}
-use lib.Seq.{drop-drop, get_or-take, get_or-drop}
+use lib.ListN.{length, get_or, drop, replicate, length-replicate}
+use lib.Seq.{get_or-take, get_or-drop}
 use Rattle.answer.proofs.Answers.{status_is}
 use Rattle.group_side.proofs.Unions.{unmerged_valid}
-use lib.Bits.{bit_xor}
-use Rattle.hash.specs.Hash.{basis, fnv, fnv_step}
-use Rattle.hash.proofs.Hashing.{slot_lt}
+use Rattle.hash.specs.Hash.{basis}
 use Rattle.group.specs.Group.{united_groups}
 use Rattle.group.proofs.Outcomes.{added_eight, added_valid, united_eight, united_valid}
-use Rattle.geometry.specs.Geometry.{valid_width, stride, size, RowsIn}
+use Rattle.geometry.specs.Geometry.{valid_width, stride, size}
 use Rattle.answer.specs.Answers.{finish, leaves}
 use Rattle.answer.specs.Order.{first_of, earliest, unless}
 use Rattle.geometry.specs.Checks.{bad_length, bad_shape}
-use Rattle.meter_memory.specs.Pairs.{paired_at, pair_status, pairs_status, pair_row, row_status_by, row_paired_by}
-use Rattle.meter_memory.specs.Rows.{map_rows, of_rows, of_groups, group_at}
+use Rattle.meter_memory.specs.Pairs.{paired_at}
+use Rattle.meter_memory.specs.Rows.{of_rows, group_at}
 use Rattle.meter_keys.specs.Keys.{key_slot}
 use Rattle.meter_row.specs.Row.{added_in, update_status, update_row}
-use Rattle.meter_union.specs.Union.{united_at, united_status, unite_status, unite_row}
-use Rattle.answer.proofs.Order.{first_one, none_earlier, none_first}
-use Rattle.geometry.proofs.Widths.{shape_good, wide, stride_is, slot_in, group_in}
-use Rattle.geometry.proofs.Widths.{one_row}
-use Rattle.meter_memory.proofs.Lists.{row_length}
+use Rattle.meter_union.specs.Union.{united_at, unite_row}
+use Rattle.answer.proofs.Order.{first_one, none_first}
+use Rattle.geometry.proofs.Widths.{shape_good, slot_in, group_in}
 use Rattle.meter_memory.proofs.Groups.{eight_at}
 use Rattle.meter_memory.proofs.Written.{row_none, rows_after, length_after, rows_long, in_row, full-row, slot_length, slot-group, slot-other, pair-group, pairs-taken, pairs-long, pairs-row}
 use Rattle.meter_keys.proofs.Landing.{key_in}
-use Rattle.meter.specs.Meter.{bad_call, row_of, cleared, updated, source_status, source_added, united}
+use Rattle.meter.specs.Meter.{bad_call, row_of, cleared, updated, source_status, united}
 use Rattle.meter.specs.Valid.{Valid}
 use Rattle.meter.proofs.Calls.{call_good, cleared_good, updated-good, united-good}
 

@@ -12,7 +12,7 @@ use Rattle.group_layout.specs.Layout.{ones, marks, layout}
 use Rattle.group_layout.specs.Merged.{is_merged}
 use Rattle.group_layout.proofs.Laws.{marks_in}
 use Rattle.group_block.specs.declared.Summed.{Summed}
-use Rattle.group_block.specs.Block.{BlockOf, counter, cap, shape, number_of, total}
+use Rattle.group_block.specs.Block.{BlockOf, cap, shape, number_of, total}
 use Rattle.group_block.specs.Sum.{SumOf, fits, over, held, join, unite, sum_total}
 use Rattle.group_block.specs.Passed.{summed_as}
 use Rattle.group_block.proofs.Laws.{cap_pos, high_lt, word_lt_of, block_fits_of, block_merged_of, block_suc}

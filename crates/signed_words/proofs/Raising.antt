@@ -10,7 +10,7 @@ use Rattle.group_block.specs.Block.{cap}
 use Rattle.signed_number.specs.Number.{times_sign, integer}
 use Rattle.signed_number.proofs.Raised.{Raised, raise_plus, raise_minus, raised_more, raised_less, raised_plus, raised_minus, raised-size, sunken-size}
 use Rattle.signed_block.specs.Signed.{top, sign_bits, sign_read}
-use Rattle.signed_block.proofs.Counters.{top_twice, top_pos, read_minus, bits_neg}
+use Rattle.signed_block.proofs.Counters.{top_twice, top_pos, bits_neg}
 use Rattle.signed_words.specs.Words.{raised, lowered, room, moved}
 
 value_raised : (n w : ℕ) → w < cap n → Raised (top n) (raised (top n) w) (sign_read n w)

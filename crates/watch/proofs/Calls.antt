@@ -1,8 +1,7 @@
 -- What each call answers and leaves, by the tests that led there.
 use mathlib.Core.Path.{◌≡◌, refl, sym, ap, ◌∙◌}
-use mathlib.Core.Bool.{Bool, true, false}
+use mathlib.Core.Bool.{true, false}
 use mathlib.Core.List.{List, [], ◌∷◌}
-use mathlib.Core.Logic.{◌⊎◌, inl, inr}
 use Prim.Native.Nat.{ℕ}
 use native.Mathlib.Omega.{arith}
 use borrow.Author.Tests.{ne_eqb}
@@ -10,7 +9,7 @@ use lib.Dec.{leb}
 use lib.ListN.{length, replicate}
 use Rattle.answer.specs.Numbers.{invalid_content}
 use Rattle.answer.specs.Answers.{answer_of, leaves}
-use Rattle.answer.specs.Order.{unless, first_of, place_in, earlier, earliest}
+use Rattle.answer.specs.Order.{first_of, earlier, earliest}
 use Rattle.answer.proofs.Order.{earlier_none, none_earlier, first_rest, first_part, first_one, first_stop, first_skip, none_first}
 use Rattle.answer.proofs.Answers.{refusing, accepting, finish_kept}
 use Rattle.geometry.specs.Checks.{bad_shape, bad_key}

@@ -1,18 +1,16 @@
 -- What a list's bytes become, by the place where a key is found.
 use mathlib.Core.Path.{◌≡◌, refl, sym, ap, ◌∙◌}
-use mathlib.Core.Bool.{Bool, true, false, cond, true≢false, and-eq-true_iff}
+use mathlib.Core.Bool.{Bool, true, false, cond}
 use mathlib.Core.List.{List, [], ◌∷◌, ◌++◌, append_assoc, append-nil}
-use Prim.Native.Nat.{ℕ, zero, suc, ◌+◌, ◌-◌, ◌*◌, ◌≤◌, ◌<◌}
+use Prim.Native.Nat.{ℕ, suc, ◌+◌, ◌-◌, ◌*◌, ◌≤◌, ◌<◌}
 use native.Mathlib.Omega.{arith}
 use borrow.Author.Tests.{le-leb, lt-leb}
-use lib.Dec.{leb}
-use lib.ListN.{length, get_or, take, drop, set, replicate, length-append, length-replicate}
-use lib.Seq.{set_at}
+use lib.ListN.{length, get_or, set, replicate, length-append, length-replicate}
 use Rattle.laws.proofs.Lists.{Bytes}
 use Rattle.little_endian.specs.Bytes.{bytes}
 use Rattle.meter_keys.specs.Keys.{same_key}
-use Rattle.watch_list.specs.List.{Entry, Watch, listed, joining, joined, renewed, noted, without, clear_place, taken_off}
-use Rattle.watch_list.specs.Layout.{keys_at, estimates_at, list_size, length_field, key_field, estimate_field, laid_out, encode, place_at, places_from, in_use, decode, sound}
+use Rattle.watch_list.specs.List.{Entry, Watch, listed, joining, joined, renewed, noted, without, taken_off}
+use Rattle.watch_list.specs.Layout.{estimates_at, length_field, key_field, estimate_field, laid_out, encode, place_at, places_from, decode}
 use Rattle.watch_list.specs.Parts.{Holds, KeyLong, index_of, put, put_place, closed_place}
 use Rattle.watch_list.proofs.Lists.{each_append}
 use Rattle.watch_list.proofs.Columns.{Whole, AllWhole, laid_mark, laid-put, laid-renewed, laid-closed}

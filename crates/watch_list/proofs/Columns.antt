@@ -1,10 +1,10 @@
 -- Columns of a list's bytes: what a change of one entry, or an entry taken out, does to them.
 use mathlib.Core.Path.{◌≡◌, refl, sym, ap, ap₂, ◌∙◌}
 use mathlib.Core.List.{List, [], ◌∷◌, ◌++◌, append_assoc}
-use Prim.Native.Nat.{ℕ, zero, suc, ◌+◌, ◌-◌, ◌*◌, ◌≤◌, ◌<◌}
+use Prim.Native.Nat.{ℕ, suc, ◌+◌, ◌-◌, ◌*◌, ◌≤◌}
 use native.Mathlib.Nat.{suc-mul, add-mul}
 use native.Mathlib.Omega.{arith}
-use lib.ListN.{length, take, drop, set, replicate, length-append, length-take, length-drop}
+use lib.ListN.{length, take, drop, set, replicate, length-append}
 use lib.Seq.{set_at, take_at, drop_at, take-append-le, drop-append-le, take-append-add, drop-append-add}
 use Rattle.little_endian.specs.Bytes.{bytes}
 use Rattle.little_endian.proofs.Bytes.{bytes_length}

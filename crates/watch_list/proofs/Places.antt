@@ -1,20 +1,18 @@
 -- The places of a list's bytes: laid out again they are the bytes.
-use mathlib.Core.Path.{◌≡◌, refl, sym, ap, ap₂, ◌∙◌}
+use mathlib.Core.Path.{◌≡◌, refl, sym, ap, ◌∙◌}
 use mathlib.Core.Bool.{true, true≢false, and-eq-true_iff}
-use mathlib.Core.List.{List, [], ◌∷◌, ◌++◌, append_assoc}
+use mathlib.Core.List.{List, [], ◌∷◌, ◌++◌}
 use Prim.Native.Nat.{ℕ, zero, suc, ◌+◌, ◌-◌, ◌*◌, ◌≤◌, ◌<◌}
 use native.Mathlib.Nat.{suc-mul}
 use native.Mathlib.Omega.{arith}
 use borrow.Author.Tests.{leb-true}
 use lib.Dec.{leb}
-use lib.ListN.{length, get_or, take, drop, length-take, length-drop, take-append-drop, length-append}
+use lib.ListN.{length, get_or, take, drop, length-take, length-drop, take-append-drop}
 use lib.Seq.{take-suc, take-add, take_all, drop-drop, drop-cons, get_or-take}
 use Rattle.laws.proofs.Lists.{Bytes, bytes_take, bytes_drop}
-use Rattle.little_endian.specs.Bytes.{number, bytes}
 use Rattle.little_endian.proofs.Bytes.{bytes_number}
 use Rattle.watch_list.specs.List.{Entry}
 use Rattle.watch_list.specs.Layout.{keys_at, estimates_at, list_size, length_field, key_field, estimate_field, column, laid_out, encode, key_bytes, place_at, places_from, in_use, decode, all_zero, sound_lengths, sound}
-use Rattle.watch_list.specs.Parts.{Holds}
 use Rattle.watch_list.proofs.Lists.{Each}
 use Rattle.watch_list.proofs.Columns.{Whole, AllWhole}
 

@@ -1,5 +1,4 @@
 use mathlib.Core.Path.{◌∙◌}
-use borrow.Author.Rules.{rules}
 use Rattle.answer.specs.Answers.{answer_of}
 use Rattle.answer.proofs.Answers.{answer_refused}
 use Rattle.answer.proofs.answer_of.Goals as goal

@@ -1,11 +1,8 @@
-use mathlib.Core.Path.{◌≡◌, refl, sym, ◌∙◌}
+use mathlib.Core.Path.{◌≡◌}
 use Prim.Native.Nat.{◌+◌, ◌-◌, ◌≤◌}
-use native.Mathlib.Omega.{arith}
-use borrow.Author.Rules.{rules}
 use lib.ListN.{length, drop}
 use Rattle.answer.specs.Numbers.{order}
 use Rattle.answer.specs.Order.{place_in}
-use Rattle.answer.proofs.Order.{place_more, place_here, place_end}
 use Rattle.answer.proofs.place.Given as goal
 
 -- the list up to here does not have the number

@@ -1,4 +1,3 @@
-use borrow.Author.Rules.{rules}
 use Rattle.answer.proofs.refused.Goals as goal
 
 pub returns : goal.returns

@@ -1,4 +1,3 @@
-use borrow.Author.Rules.{rules}
 use Rattle.feed.proofs.answer.Goals as goal
 
 pub returns-in-Updated : goal.returns-in-Updated

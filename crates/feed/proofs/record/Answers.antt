@@ -6,7 +6,6 @@ use lib.ListN.{length}
 use Rattle.geometry.specs.Checks.{bad_shape}
 use Rattle.feed.specs.Record.{opened_outcome, recorded}
 use Rattle.feed.proofs.Cases.{carried, told}
-use borrow.Author.Rules.{rules}
 use Rattle.feed.proofs.record.Goals as goal
 use Rattle.feed.proofs.record.Goals.{After-first_word-first}
 

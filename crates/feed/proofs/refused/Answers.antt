@@ -1,7 +1,6 @@
 use mathlib.Core.Path.{sym, ap}
 use Rattle.feed.specs.Record.{refusal}
 use Rattle.feed_records.proofs.Laws.{sound_answer}
-use borrow.Author.Rules.{rules}
 use Rattle.feed.proofs.refused.Goals as goal
 
 pub returns-in-Sound : goal.returns-in-Sound

@@ -1,11 +1,10 @@
 use mathlib.Core.Path.{◌≡◌, sym, ◌∙◌}
 use mathlib.Core.Bool.{true, false}
 use native.Mathlib.Omega.{arith}
-use borrow.Author.Tests.{eq-eqb, ne_eqb, not-true, not-false}
+use borrow.Author.Tests.{eq-eqb, ne_eqb}
 use Rattle.geometry.specs.Geometry.{valid_depth, valid_width, size}
 use Rattle.answer.specs.Order.{first_of}
 use Rattle.geometry.proofs.Widths.{size_in}
-use borrow.Author.Rules.{rules}
 use Rattle.geometry.proofs.bad_shape.Goals as goal
 use Rattle.geometry.proofs.bad_shape.Goals.{Else-not-valid_depth, Else-not-valid_width, Then-not-valid_depth, Then-not-valid_width}
 

@@ -1,6 +1,5 @@
 use native.Mathlib.Omega.{arith}
 use Rattle.geometry.proofs.Widths.{width_out, width_test}
-use borrow.Author.Rules.{rules}
 use Rattle.geometry.proofs.valid_width.Goals as goal
 
 pub returns-then-w-lt32 : goal.returns-then-w-lt32

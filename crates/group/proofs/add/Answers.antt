@@ -1,6 +1,5 @@
 use mathlib.Core.Path.{sym, ◌∙◌}
 use Rattle.group.proofs.Laws.{added-kept}
-use borrow.Author.Rules.{rules}
 use Rattle.group.proofs.add.Goals as goal
 
 pub returns-then-s : goal.returns-then-s

@@ -2,7 +2,6 @@ use mathlib.Core.Path.{◌≡◌, sym, ap, ◌∙◌}
 use mathlib.Core.Bool.{true, false}
 use Prim.Native.Nat.{ℕ, ◌+◌, ◌%◌, ◌^◌, ◌≤◌, ◌<◌}
 use native.Mathlib.Omega.{arith}
-use borrow.Author.Tests.{not-true, not-false}
 use Rattle.little_endian.specs.Bytes.{number}
 use Rattle.group_layout.specs.Layout.{valid}
 use Rattle.group_block.specs.Block.{cap, total, counter_at}
@@ -10,7 +9,6 @@ use Rattle.group_slots.proofs.Slots.{level_block, whole_total}
 use Rattle.group_sums.specs.Sums.{holds_at}
 use Rattle.group.specs.Group.{decode}
 use Rattle.group.proofs.Laws.{cap_three, holds_valid, not-held, added-invalid, added_full, added-summed}
-use borrow.Author.Rules.{rules}
 use Rattle.group.proofs.add_widening.Goals as goal
 use Rattle.group.proofs.add_widening.Goals.{After-level_at-level, Else-not-is_valid}
 

@@ -3,11 +3,9 @@ use mathlib.Core.Bool.{true, false}
 use mathlib.Core.List.{List}
 use Prim.Native.Nat.{ℕ}
 use native.Mathlib.Omega.{arith}
-use borrow.Author.Tests.{not-true, not-false}
 use Rattle.little_endian.specs.Bytes.{bytes}
 use Rattle.group_layout.specs.Layout.{valid}
 use Rattle.group.specs.Group.{decode, changed}
-use borrow.Author.Rules.{rules}
 use Rattle.group.proofs.change.Goals as goal
 use Rattle.group.proofs.change.Goals.{Else-not-is_valid}
 

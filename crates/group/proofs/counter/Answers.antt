@@ -1,12 +1,9 @@
 use mathlib.Core.Path.{◌≡◌, sym, ap, ◌∙◌}
 use mathlib.Core.Bool.{true, false}
-use Prim.Native.Nat.{ℕ, ◌%◌}
 use native.Mathlib.Omega.{arith}
-use borrow.Author.Tests.{not-true, not-false}
 use Rattle.group_layout.specs.Layout.{valid}
 use Rattle.group_block.specs.declared.Counter.{Counter}
 use Rattle.group.specs.Group.{read, reading, decode}
-use borrow.Author.Rules.{rules}
 use Rattle.group.proofs.counter.Goals as goal
 use Rattle.group.proofs.counter.Goals.{Else-not-is_valid}
 

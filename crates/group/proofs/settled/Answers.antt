@@ -2,7 +2,6 @@ use mathlib.Core.Path.{ap}
 use mathlib.Core.List.{List}
 use Prim.Native.Nat.{ℕ}
 use Rattle.group.specs.Stored.{stored}
-use borrow.Author.Rules.{rules}
 use Rattle.group.proofs.settled.Goals as goal
 
 pub returns : goal.returns

@@ -7,7 +7,6 @@ use Rattle.group_layout.specs.Layout.{valid}
 use Rattle.group_block.specs.Block.{cap, total}
 use Rattle.group.specs.Group.{decode, unchanged}
 use Rattle.group.proofs.Laws.{united-refused, united-taken, united-stored}
-use borrow.Author.Rules.{rules}
 use Rattle.group.proofs.unite.Goals as goal
 use Rattle.group.proofs.unite.Goals.{After-number_of-source_word}
 

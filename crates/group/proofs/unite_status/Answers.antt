@@ -2,7 +2,7 @@ use mathlib.Core.Path.{◌≡◌, sym, ap, ◌∙◌}
 use mathlib.Core.Bool.{true}
 use Prim.Native.Nat.{ℕ, ◌<◌}
 use native.Mathlib.Omega.{arith}
-use borrow.Author.Tests.{ltb-true, ltb-false, not-true, not-false}
+use borrow.Author.Tests.{ltb-true, ltb-false}
 use Rattle.little_endian.specs.Bytes.{number}
 use Rattle.group_layout.specs.Layout.{valid}
 use Rattle.group_block.specs.Block.{cap}
@@ -10,7 +10,6 @@ use Rattle.group.specs.declared.Outcome.{Outcome}
 use Rattle.group.specs.Group.{decode}
 use Rattle.group.specs.Stored.{stored}
 use Rattle.group.proofs.Laws.{united-invalid, united-source-invalid, united-full, united-stored}
-use borrow.Author.Rules.{rules}
 use Rattle.group.proofs.unite_status.Goals as goal
 use Rattle.group.proofs.unite_status.Goals.{After-number_of-source_word, Else-not-is_valid}
 

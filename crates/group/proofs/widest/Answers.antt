@@ -1,10 +1,8 @@
 use mathlib.Core.Path.{◌≡◌, sym, ap, ◌∙◌}
 use mathlib.Core.Bool.{true, false}
-use borrow.Author.Tests.{not-true, not-false}
 use Rattle.group_layout.specs.Layout.{valid}
 use Rattle.answer.specs.Answers.{accepted}
 use Rattle.group.specs.Group.{widest_of}
-use borrow.Author.Rules.{rules}
 use Rattle.group.proofs.widest.Goals as goal
 use Rattle.group.proofs.widest.Goals.{Else-not-is_valid}
 

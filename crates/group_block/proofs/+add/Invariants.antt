@@ -1,4 +1,4 @@
-use Prim.Native.Nat.{◌+◌, ◌-◌, ◌^◌, ℕ, ◌<◌}
+use Prim.Native.Nat.{◌-◌}
 use Rattle.group_block.proofs.+add.Given as goal
 
 abbrev pub decreases-add : goal.decreases-add

@@ -5,7 +5,6 @@ use native.Mathlib.Omega.{arith}
 use lib.Pow.{shl_exact}
 use lib.Bits.{or_shifted}
 use Rattle.group_block.proofs.Laws.{cap_below}
-use borrow.Author.Rules.{rules}
 use Rattle.group_block.proofs.beside_word.Goals as goal
 
 pub returns : goal.returns

@@ -2,7 +2,6 @@ use mathlib.Core.Path.{ap₂, ◌∙◌}
 use Prim.Native.Nat.{ℕ, ◌+◌}
 use Rattle.group_block.specs.Sum.{held}
 use Rattle.group_block.specs.Passed.{summed}
-use borrow.Author.Rules.{rules}
 use Rattle.group_block.proofs.formed.Goals as goal
 
 pub returns : goal.returns

@@ -4,9 +4,8 @@ use Rattle.group_block.specs.Block.{cap, shape, number_of}
 use mathlib.Core.Bool.{true, false}
 use lib.Dec.{ltb}
 use Rattle.group_block.specs.Sum.{held}
-use Rattle.group_block.specs.Passed.{summed, summed_as}
-use Rattle.group_layout.specs.Layout.{marks, ones}
-use borrow.Author.Rules.{rules}
+use Rattle.group_block.specs.Passed.{summed_as}
+use Rattle.group_layout.specs.Layout.{marks}
 use Rattle.group_block.proofs.held.Goals as goal
 
 pub returns-then-holds : goal.returns-then-holds

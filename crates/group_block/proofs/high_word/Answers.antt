@@ -1,7 +1,6 @@
 use mathlib.Core.Path.{ap}
 use Prim.Native.Nat.{ℕ, ◌*◌, ◌/◌, ◌^◌}
 use Rattle.group_block.specs.Block.{cap}
-use borrow.Author.Rules.{rules}
 use Rattle.group_block.proofs.high_word.Goals as goal
 
 pub returns : goal.returns

@@ -1,7 +1,6 @@
 use mathlib.Core.Path.{sym}
 use Rattle.group_block.specs.Block.{cap}
 use borrow.Author.Tests.{lt-ltb}
-use borrow.Author.Rules.{rules}
 use Rattle.group_block.proofs.Laws.{zero_high}
 use Rattle.group_block.proofs.holds.Goals as goal
 

@@ -4,7 +4,6 @@ use Prim.Native.Nat.{ℕ, ◌*◌, ◌%◌, ◌^◌}
 use Rattle.group_block.specs.Block.{cap}
 use native.Mathlib.Omega.{arith}
 use lib.Pow.{pow_pos, shl_exact}
-use borrow.Author.Rules.{rules}
 use Rattle.group_block.proofs.low_word.Goals as goal
 
 pub nonzero_rem-result : goal.nonzero_rem-result

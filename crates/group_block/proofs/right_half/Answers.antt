@@ -2,7 +2,6 @@ use mathlib.Core.Path.{ap₂}
 use mathlib.Core.Bool.{false}
 use Prim.Native.Nat.{ℕ}
 use Rattle.group_block.specs.Passed.{right_half}
-use borrow.Author.Rules.{rules}
 use Rattle.group_block.proofs.right_half.Goals as goal
 
 pub returns : goal.returns

@@ -1,6 +1,6 @@
 use native.Mathlib.Omega.{arith}
 use Rattle.group_block.specs.Sum.{sum_total}
-use Rattle.group_block.specs.Passed.{sum_of, sum_as}
+use Rattle.group_block.specs.Passed.{sum_as}
 use Rattle.group_block.proofs.sum_total.Goals as goal
 
 pub returns-then-s : goal.returns-then-s

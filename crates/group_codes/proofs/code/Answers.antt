@@ -1,10 +1,8 @@
 use mathlib.Core.Path.{◌≡◌, sym, ap, ◌∙◌}
 use mathlib.Core.Bool.{true, false}
-use borrow.Author.Tests.{not-true, not-false}
 use Rattle.group.specs.Group.{valid_merge}
 use Rattle.answer.specs.Answers.{accepted}
 use Rattle.group_codes.specs.Pack.{group_code}
-use borrow.Author.Rules.{rules}
 use Rattle.group_codes.proofs.code.Goals as goal
 
 pub returns-then-not-is_valid : goal.returns-then-not-is_valid

@@ -1,6 +1,5 @@
 use mathlib.Core.Path.{◌≡◌, sym, ◌∙◌}
 use mathlib.Core.Bool.{true, false}
-use borrow.Author.Rules.{rules}
 use Rattle.group.specs.Group.{valid_merge}
 use Rattle.group_codes.proofs.code_of.Goals as goal
 

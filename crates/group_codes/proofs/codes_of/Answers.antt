@@ -3,7 +3,6 @@ use borrow.Author.Tests.{lt-ltb, le-ltb}
 use Rattle.group_codes.specs.Pack.{layouts_of}
 use Rattle.group_codes.specs.Codes.{codes_of}
 use Rattle.group_codes.proofs.Packing.{four_small}
-use borrow.Author.Rules.{rules}
 use Rattle.group_codes.proofs.codes_of.Goals as goal
 
 pub returns-then-code-eq0 : goal.returns-then-code-eq0

@@ -1,4 +1,3 @@
-use borrow.Author.Rules.{rules}
 use borrow.Author.Tests.{lt-ltb, le-ltb}
 use Rattle.group_codes.specs.Codes.{four_of}
 use Rattle.group_codes.proofs.four_code.Goals as goal

@@ -1,4 +1,3 @@
-use borrow.Author.Rules.{rules}
 use Rattle.group_codes.proofs.four_valid.Goals as goal
 
 pub returns-then-is_valid-3 : goal.returns-then-is_valid-3

@@ -1,8 +1,5 @@
 use mathlib.Core.Path.{◌∙◌}
-use borrow.Author.Tests.{not-true, not-false}
-use Rattle.answer.specs.Answers.{accepted}
 use Rattle.group_codes.specs.Pack.{packed, four_code}
-use borrow.Author.Rules.{rules}
 use Rattle.group_codes.proofs.pack.Goals as goal
 
 pub returns-then-not-four_valid : goal.returns-then-not-four_valid

@@ -5,7 +5,6 @@ use borrow.Author.Tests.{lt-ltb, le-ltb}
 use Rattle.group_layout.specs.Code.{layouts}
 use Rattle.answer.specs.declared.Answer.{Answer}
 use Rattle.group_codes.specs.Pack.{layouts_of, unpacked, four_merges}
-use borrow.Author.Rules.{rules}
 use Rattle.group_codes.proofs.unpack.Goals as goal
 
 pub returns-then-code-ge-FOUR_LAYOUTS : goal.returns-then-code-ge-FOUR_LAYOUTS

@@ -4,7 +4,7 @@ use mathlib.Core.Bool.{false}
 use native.Mathlib.Nat.{mul-le-mul}
 use Rattle.group_layout.specs.Layout.{layout}
 use Rattle.group_layout.specs.Merged.{is_merged}
-use Rattle.group_layout.specs.Code.{code as code_of_lem}
+use Rattle.group_layout.specs.Code.{code as code_of}
 use Rattle.group_layout.proofs.Laws.{is_merged_lem, above_slot, layout_apart}
 use Rattle.group_layout.proofs.Codes.{merged_last, code_zero, with_bound}
 use native.Mathlib.Omega.{arith}
@@ -24,11 +24,11 @@ product c = mul-le-mul {n₁ = c.code-left.result} {m₁ = c.layouts-2.result} {
 pub returns-then-merge-eq0 : goal.returns-then-merge-eq0
 returns-then-merge-eq0 t c = let a = c.args in
     let r = with_bound a.level a.merge (omega arith)
-    (sym (ap (λ (m : ℕ). code_of_lem (layout a.level m)) c.if-merge-eq0.true ∙ code_zero a.level)) in
+    (sym (ap (λ (m : ℕ). code_of (layout a.level m)) c.if-merge-eq0.true ∙ code_zero a.level)) in
     record { value = r.0; upper_bound = r.1 }
 
 pub returns-then-is_merged : goal.returns-then-is_merged
-unfolding code_of_lem
+unfolding code_of
 returns-then-is_merged t c = let a = c.args in
     let r = with_bound a.level a.merge (omega arith)
     (rw (is_merged_lem _ (sym c.is_merged.ensures ∙ c.if-is_merged.true), c.layouts.ensures.value)
@@ -51,7 +51,7 @@ pub overflow_add-result : goal.overflow_add-result
 overflow_add-result t c = omega (arith, product (goal.at.overflow_add-result t c).After-layouts-2)
 
 pub returns : goal.returns
-unfolding code_of_lem
+unfolding code_of
 returns t c = let a = c.args in
     let r = with_bound a.level a.merge (omega arith)
     (rw (
@@ -61,5 +61,5 @@ returns t c = let a = c.args in
       c.code.ensures.value,
       c.high.ensures,
     )
-    (sym (layout_apart (λ n L. code_of_lem L) a.level a.merge (is-apart (goal.at.returns t c).Else-is_merged)))) in
+    (sym (layout_apart (λ n L. code_of L) a.level a.merge (is-apart (goal.at.returns t c).Else-is_merged)))) in
     record { value = r.0; upper_bound = r.1 }

@@ -1,4 +1,3 @@
-use Prim.Native.Nat.{◌*◌, ◌≤◌, ℕ, ◌<◌}
 use Rattle.group_layout.proofs.+code.Given as goal
 
 abbrev pub decreases-code : goal.decreases-code

@@ -1,5 +1,5 @@
 use mathlib.Core.Path.{sym, ap, ◌∙◌}
-use Prim.Native.Nat.{◌+◌, ◌-◌, ◌*◌, ◌≤◌, ℕ, ◌<◌}
+use Prim.Native.Nat.{◌+◌, ◌-◌, ◌*◌, ◌≤◌, ℕ}
 use native.Mathlib.Nat.{mul-le-mul}
 use Rattle.group_layout.specs.Code.{layouts}
 use Rattle.group_layout.proofs.Codes.{layouts_more, layouts_below_three}

@@ -1,4 +1,4 @@
-use Prim.Native.Nat.{◌+◌, ◌-◌, ◌*◌, ◌≤◌, ℕ, ◌<◌}
+use Prim.Native.Nat.{◌-◌}
 use Rattle.group_layout.proofs.+layouts.Given as goal
 
 abbrev pub decreases-layouts : goal.decreases-layouts

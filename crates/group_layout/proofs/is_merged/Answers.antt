@@ -4,7 +4,6 @@ use native.Mathlib.Omega.{arith}
 use Rattle.group_layout.specs.Layout.{layout}
 use Rattle.group_layout.specs.Merged.{is_merged}
 use Rattle.group_layout.proofs.Laws.{own_bit_lem}
-use borrow.Author.Rules.{rules}
 use Rattle.group_layout.proofs.is_merged.Goals as goal
 
 pub returns-then-level-eq0 : goal.returns-then-level-eq0

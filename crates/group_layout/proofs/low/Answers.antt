@@ -4,7 +4,6 @@ use native.Mathlib.Omega.{arith}
 use Rattle.laws.proofs.Shifts.{one_shl}
 use lib.Bits.{and_mask}
 use lib.Pow.{pow_pos}
-use borrow.Author.Rules.{rules}
 use Rattle.group_layout.proofs.low.Goals as goal
 
 pub overflow_sub-result : goal.overflow_sub-result

@@ -3,7 +3,6 @@ use native.Mathlib.Omega.{arith}
 use Rattle.laws.proofs.Shifts.{one_shl}
 use lib.Pow.{pow_mono, pow_pos}
 use Rattle.group_layout.specs.Layout.{ones}
-use borrow.Author.Rules.{rules}
 use Rattle.group_layout.proofs.ones.Goals as goal
 
 pub overflow_sub-places : goal.overflow_sub-places

@@ -3,7 +3,6 @@ use Prim.Native.Nat.{ℕ, ◌-◌, ◌/◌, ◌^◌}
 use lib.Bits.{and_mask}
 use lib.Dec.{eqb}
 use Rattle.group_layout.specs.Layout.{bit}
-use borrow.Author.Rules.{rules}
 use Rattle.group_layout.proofs.own_bit.Goals as goal
 
 pub returns : goal.returns

@@ -1,12 +1,11 @@
-use mathlib.Core.Path.{◌≡◌, ap, ◌∙◌}
-use Prim.Native.Nat.{ℕ, ◌+◌, ◌*◌, ◌/◌, ◌%◌, ◌^◌, ◌<◌}
+use mathlib.Core.Path.{◌≡◌}
+use Prim.Native.Nat.{◌*◌, ◌/◌, ◌%◌, ◌^◌, ◌<◌}
 use native.Mathlib.Nat.{mod-lt}
 use native.Mathlib.Omega.{arith}
 use lib.Bits.{bit_xor, xor_lt}
 use lib.Pow.{pow_pos, shl_exact}
 use Rattle.group_block.specs.Block.{cap}
 use Rattle.group_levels.proofs.Exchanging.{exchanged}
-use borrow.Author.Rules.{rules}
 use Rattle.group_levels.proofs.exchange.Goals as goal
 
 pub overflow_shl-result : goal.overflow_shl-result

@@ -6,7 +6,6 @@ use lib.Bits.{bit_or}
 use lib.Pow.{pow_pos}
 use Rattle.laws.proofs.Shifts.{one_shl}
 use Rattle.group_levels.proofs.Byte.{bits_formed}
-use borrow.Author.Rules.{rules}
 use Rattle.group_levels.proofs.formed.Goals as goal
 use Rattle.group_levels.proofs.formed.Goals.{Start}
 

@@ -1,6 +1,5 @@
 use native.Mathlib.Omega.{arith}
 use lib.Bits.{and_le_r}
-use borrow.Author.Rules.{rules}
 use borrow.Author.Tests.{eq-eqb, ne_eqb}
 use Rattle.group_levels.proofs.Byte.{low_valid, bits_valid}
 use Rattle.group_levels.proofs.is_valid.Goals as goal

@@ -1,7 +1,6 @@
 use native.Mathlib.Omega.{arith}
 use Rattle.group_levels.proofs.Levels.{around_le}
 use Rattle.group_levels.proofs.Byte.{pair_half_lem, pair_half_group, bits_level}
-use borrow.Author.Rules.{rules}
 use Rattle.group_levels.proofs.level_at.Goals as goal
 
 pub overflow_add-result : goal.overflow_add-result

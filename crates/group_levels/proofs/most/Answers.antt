@@ -3,7 +3,6 @@ use Prim.Native.Nat.{◌*◌, ◌%◌, ◌^◌}
 use native.Mathlib.Nat.{mod-eq_of_lt}
 use native.Mathlib.Omega.{arith}
 use Rattle.group_levels.proofs.Places.{width_le, most_is}
-use borrow.Author.Rules.{rules}
 use Rattle.group_levels.proofs.most.Goals as goal
 use Rattle.group_levels.proofs.most.Goals.{Start}
 

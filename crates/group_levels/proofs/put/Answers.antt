@@ -3,7 +3,6 @@ use Prim.Native.Nat.{ℕ, ◌*◌, ◌/◌, ◌%◌, ◌^◌, ◌≤◌}
 use native.Mathlib.Omega.{arith}
 use Rattle.group_block.specs.Block.{cap}
 use Rattle.group_levels.proofs.Places.{field_le}
-use borrow.Author.Rules.{rules}
 use Rattle.group_levels.proofs.put.Goals as goal
 use Rattle.group_levels.proofs.put.Goals.{After-value_at-old}
 

@@ -3,7 +3,6 @@ use Prim.Native.Nat.{◌+◌, ◌^◌}
 use native.Mathlib.Omega.{arith}
 use borrow.Author.Tests.{eq-eqb, ne_eqb}
 use Rattle.group_layout.specs.Layout.{layout, level_of}
-use borrow.Author.Rules.{rules}
 use Rattle.laws.proofs.Shifts.{one_shl}
 use Rattle.group_levels.proofs.twins.Goals as goal
 

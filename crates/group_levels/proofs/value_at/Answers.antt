@@ -1,7 +1,6 @@
 use Prim.Native.Nat.{◌*◌, ◌/◌, ◌^◌}
 use lib.Bits.{and_mask}
 use Rattle.group_block.specs.Block.{cap}
-use borrow.Author.Rules.{rules}
 use Rattle.group_levels.proofs.value_at.Goals as goal
 
 pub returns : goal.returns

@@ -1,5 +1,4 @@
-use Rattle.std.proofs.Common.{◌≡◌, ◌-◌, ◌≤◌, not, ◌||◌, eqb, length, drop, sym, refl, ◌∙◌, arith, rules}
-use Rattle.group_side.specs.Side.{any_merged}
+use Rattle.std.proofs.Common.{◌-◌, sym, refl, ◌∙◌, arith}
 use Rattle.group_side.proofs.Bytes.{any-turn, any-end}
 use Rattle.group_side.proofs.any_merged.Goals as goal
 

@@ -1,6 +1,5 @@
-use Rattle.std.proofs.Common.{◌≡◌, ◌-◌, ◌≤◌, not, ◌||◌, eqb, length, drop, sym, refl, ◌∙◌, arith, rules}
+use Rattle.std.proofs.Common.{◌≡◌, ◌-◌, ◌≤◌, not, ◌||◌, eqb, length, drop}
 use Rattle.group_side.specs.Side.{any_merged}
-use Rattle.group_side.proofs.Bytes.{any-turn, any-end}
 use Rattle.group_side.proofs.any_merged.Given as goal
 
 abbrev pub invariant-loop-i : goal.invariant-loop-i

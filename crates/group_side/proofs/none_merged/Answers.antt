@@ -1,5 +1,4 @@
 use Rattle.group_side.proofs.Bytes.{words_none}
-use Rattle.std.proofs.Common.{rules}
 use Rattle.group_side.proofs.none_merged.Goals as goal
 
 pub returns : goal.returns

@@ -1,4 +1,4 @@
-use Rattle.std.proofs.Common.{◌≡◌, ◌-◌, ◌≤◌, ◌++◌, length, get_or, take, drop, refl, ◌∙◌, arith, length-set, take_all, rules}
+use Rattle.std.proofs.Common.{◌≡◌, ◌-◌, length, get_or, refl, ◌∙◌, arith, length-set, take_all, rules}
 use Rattle.laws.proofs.Lists.{copy_more, copy_all}
 use Rattle.group_side.proofs.put.Goals as goal
 

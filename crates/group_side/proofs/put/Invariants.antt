@@ -1,5 +1,4 @@
-use Rattle.std.proofs.Common.{◌≡◌, ◌-◌, ◌≤◌, ◌++◌, length, get_or, take, drop, refl, ◌∙◌, arith, length-set, take_all, rules}
-use Rattle.laws.proofs.Lists.{copy_more, copy_all}
+use Rattle.std.proofs.Common.{◌≡◌, ◌-◌, ◌≤◌, ◌++◌, length, take, drop}
 use Rattle.group_side.proofs.put.Given as goal
 
 abbrev pub invariant-loop-i : goal.invariant-loop-i

@@ -1,7 +1,7 @@
-use Rattle.std.proofs.Common.{◌≡◌, ◌-◌, ◌≤◌, ◌&&◌, eqb, ◌++◌, take, drop, replicate, sym, refl, ◌∙◌, arith, take_all, rules}
+use Rattle.std.proofs.Common.{◌-◌, replicate, sym, refl, ◌∙◌, arith, take_all}
 use lib.ListN.{length-replicate}
 use Rattle.laws.proofs.Lists.{copy_more, copy_all}
-use Rattle.group_side.specs.Side.{fit, wrapped_sums}
+use Rattle.group_side.specs.Side.{wrapped_sums}
 use Rattle.group_side.proofs.Bytes.{fit-turn, fit_end, length_wrapped, wrapped_at}
 use Rattle.group_side.proofs.sums_of.Goals as goal
 

@@ -1,8 +1,5 @@
-use Rattle.std.proofs.Common.{◌≡◌, ◌-◌, ◌≤◌, ◌&&◌, eqb, ◌++◌, take, drop, replicate, sym, refl, ◌∙◌, arith, take_all, rules}
-use lib.ListN.{length-replicate}
-use Rattle.laws.proofs.Lists.{copy_more, copy_all}
+use Rattle.std.proofs.Common.{◌≡◌, ◌-◌, ◌≤◌, ◌&&◌, eqb, ◌++◌, take, drop}
 use Rattle.group_side.specs.Side.{fit, wrapped_sums}
-use Rattle.group_side.proofs.Bytes.{fit-turn, fit_end, length_wrapped, wrapped_at}
 use Rattle.group_side.proofs.sums_of.Given as goal
 
 abbrev pub invariant-loop-i : goal.invariant-loop-i

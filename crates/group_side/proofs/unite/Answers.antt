@@ -1,4 +1,4 @@
-use Rattle.std.proofs.Common.{◌≡◌, eqb, sym, refl, ◌∙◌, rules, eq-eqb, ne_eqb}
+use Rattle.std.proofs.Common.{◌≡◌, eqb, sym, refl, ◌∙◌, eq-eqb, ne_eqb}
 use Rattle.laws.proofs.Lists.{Bytes}
 use Rattle.group_side.specs.Side.{stay_unmerged}
 use Rattle.group_side.proofs.Bytes.{wrapped_fit}

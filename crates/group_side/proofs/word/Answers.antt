@@ -1,4 +1,4 @@
-use Rattle.std.proofs.Common.{◌∙◌, rules}
+use Rattle.std.proofs.Common.{◌∙◌}
 use Rattle.little_endian.proofs.Bytes.{elements, number_eight}
 use Rattle.group_side.proofs.word.Goals as goal
 

@@ -10,7 +10,6 @@ use Rattle.group_block.specs.Block.{cap, block, counter_at}
 use Rattle.group_block.proofs.Laws.{cap_pos}
 use Rattle.group_sums.specs.Sums.{holds_at}
 use Rattle.group_sums.proofs.Places.{has_level, counter_at_lem, sum-in, in-place-is}
-use borrow.Author.Rules.{rules}
 use Rattle.group_sums.proofs.add_in_place.Goals as goal
 use Rattle.group_sums.proofs.add_in_place.Goals.{After-most}
 

@@ -2,7 +2,7 @@ use mathlib.Core.Path.{◌≡◌, sym, ap, ◌∙◌}
 use mathlib.Core.Bool.{false}
 use Prim.Native.Nat.{ℕ, ◌+◌, ◌^◌, ◌≤◌, ◌<◌}
 use native.Mathlib.Omega.{arith}
-use borrow.Author.Tests.{not-true, not-false, ltb-false}
+use borrow.Author.Tests.{not-true, ltb-false}
 use Rattle.group_block.specs.declared.Summed.{Summed}
 use Rattle.group_block.specs.Block.{cap, total, block, counter_at}
 use Rattle.group_block.specs.Sum.{Sum, add}
@@ -11,7 +11,6 @@ use Rattle.group_block.proofs.Laws.{block_fits}
 use Rattle.group_block.proofs.Adding.{add_total, add_sound, no_over}
 use Rattle.group_slots.proofs.Slots.{halves_total}
 use Rattle.group_sums.proofs.Places.{has_level}
-use borrow.Author.Rules.{rules}
 use Rattle.group_sums.proofs.add_widening.Goals as goal
 use Rattle.group_sums.proofs.add_widening.Goals.{Start}
 

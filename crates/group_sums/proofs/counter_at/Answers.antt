@@ -1,9 +1,8 @@
-use mathlib.Core.Path.{◌≡◌, sym, ap, ◌∙◌}
+use mathlib.Core.Path.{sym, ap, ◌∙◌}
 use Prim.Native.Nat.{ℕ, ◌<◌}
 use native.Mathlib.Omega.{arith}
 use Rattle.group_block.specs.Block.{cap}
 use Rattle.group_sums.proofs.Places.{has_level, counter_at_lem}
-use borrow.Author.Rules.{rules}
 use Rattle.group_sums.proofs.counter_at.Goals as goal
 use Rattle.group_sums.proofs.counter_at.Goals.{Start}
 

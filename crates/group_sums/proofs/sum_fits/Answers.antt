@@ -4,7 +4,6 @@ use native.Mathlib.Omega.{arith}
 use borrow.Author.Tests.{lt-ltb}
 use Rattle.group_block.specs.Block.{cap, block, total}
 use Rattle.group_sums.proofs.Places.{bit_total, both_clear, room_test}
-use borrow.Author.Rules.{rules}
 use Rattle.group_sums.proofs.sum_fits.Goals as goal
 
 pub returns-then-merge-other_merge-eq0 : goal.returns-then-merge-other_merge-eq0

@@ -5,7 +5,6 @@ use native.Mathlib.Numerals.{add-one}
 use native.Mathlib.Omega.{arith}
 use Rattle.group_block.specs.Block.{cap}
 use Rattle.group_block.proofs.Laws.{cap_pos, cap_below, high_lt}
-use borrow.Author.Rules.{rules}
 use Rattle.group_sums.proofs.twin_sum.Goals as goal
 use Rattle.group_sums.proofs.twin_sum.Goals.{After-high_word}
 

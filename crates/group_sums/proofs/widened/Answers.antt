@@ -4,7 +4,7 @@ use Prim.Native.Nat.{ℕ, suc, ◌+◌, ◌*◌, ◌/◌, ◌%◌, ◌^◌, ◌�
 use native.Mathlib.Nat.{mul-mod_left}
 use native.Mathlib.Numerals.{add-one}
 use native.Mathlib.Omega.{arith}
-use borrow.Author.Tests.{not-false, eqb-true}
+use borrow.Author.Tests.{eqb-true}
 use Rattle.group_layout.specs.Layout.{layout, level_of}
 use Rattle.group_block.specs.Kind.{ordinary}
 use Rattle.group_block.specs.Block.{cap, all_clean, block_as, block, counter_value}
@@ -12,7 +12,6 @@ use Rattle.group_block.proofs.Coded.{ordinary_coded}
 use Rattle.group_block.proofs.Laws.{cap_pos, all_clean_lem}
 use Rattle.group_slots.proofs.AnyKind.{value_of}
 use Rattle.group_sums.proofs.Widening.{second_in, put_in, put_is}
-use borrow.Author.Rules.{rules}
 use Rattle.group_sums.proofs.widened.Goals as goal
 use Rattle.group_sums.proofs.widened.Goals.{After-place-at, Else-most-sum, Start}
 

@@ -4,7 +4,6 @@ use native.Mathlib.Omega.{arith}
 use lib.Bits.{bit_and, and_mask}
 use Rattle.group_block.specs.Block.{cap}
 use Rattle.group_sums.proofs.Places.{has_level, value_in, value-put}
-use borrow.Author.Rules.{rules}
 use Rattle.group_sums.proofs.with_value.Goals as goal
 use Rattle.group_sums.proofs.with_value.Goals.{After-most}
 

@@ -1,8 +1,7 @@
-use borrow.Author.Rules.{rules}
 use native.Mathlib.Omega.{arith}
-use mathlib.Core.Path.{◌≡◌, sym, ◌∙◌}
+use mathlib.Core.Path.{sym, ◌∙◌}
 use Rattle.group_layout.proofs.Laws.{above_slot}
-use Rattle.group_block.specs.Block.{block, total as total_of}
+use Rattle.group_block.specs.Block.{total as total_of}
 use Rattle.group_block.proofs.Laws.{block_merged}
 use Rattle.group_union.proofs.Pairs.{pair_total}
 use Rattle.group_union.proofs.block_total.Goals as goal

@@ -4,7 +4,6 @@ use native.Mathlib.Omega.{arith}
 use borrow.Author.Tests.{eq-eqb, ne_eqb}
 use lib.Bits.{bit_xor, and_le_r, xor_lt}
 use Rattle.group_union.proofs.Starts.{starts-keep, past-not-kept}
-use borrow.Author.Rules.{rules}
 use Rattle.group_union.proofs.may_add.Goals as goal
 
 turned_lt : (m : ℕ) → m < 256 → bit_xor 127 m < 256

@@ -2,7 +2,6 @@ use mathlib.Core.Path.{ap, ◌∙◌}
 use Prim.Native.Nat.{ℕ, ◌+◌, ◌*◌, ◌^◌, ◌<◌}
 use Rattle.group_layout.specs.Layout.{merged, marks, ones}
 use Rattle.group_layout.proofs.Laws.{marks_in}
-use borrow.Author.Rules.{rules}
 use Rattle.group_union.proofs.pair_bits.Goals as goal
 
 ones_in : (n : ℕ) → ones n < 2 ^ (2 ^ n)

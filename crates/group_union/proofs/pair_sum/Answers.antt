@@ -1,6 +1,5 @@
 use Rattle.group_block.proofs.Laws.{halves_le}
 use native.Mathlib.Omega.{arith}
-use borrow.Author.Rules.{rules}
 use Rattle.group_union.proofs.pair_sum.Goals as goal
 
 pub overflow_add-result : goal.overflow_add-result

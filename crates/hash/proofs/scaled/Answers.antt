@@ -1,5 +1,4 @@
-use native.Mathlib.Omega.{arith}
-use Rattle.hash.proofs.Hashing.{slot_lt, slot_scaled, scaled_in}
+use Rattle.hash.proofs.Hashing.{slot_lt, slot_scaled}
 use Rattle.hash.proofs.scaled.Goals as goal
 
 pub returns-clause-value : goal.returns-clause-value

@@ -7,7 +7,6 @@ use Rattle.image.proofs.Calls.{Sound, sound_call, read-call, read-faulty, read_d
 use Rattle.group_codes.specs.Pack.{code_merge}
 use Rattle.image_format.specs.Tables.{Fields}
 use Rattle.image_format.proofs.Tables.{table_part, fields_part}
-use borrow.Author.Rules.{rules}
 use Rattle.image.proofs.read.Goals as goal
 use Rattle.image.proofs.read.Goals.{After-field_table-fields, Else-status-ne0}
 

@@ -1,7 +1,6 @@
 use mathlib.Core.Path.{◌≡◌, sym, ap, ◌∙◌}
 use Prim.Native.Nat.{◌+◌, ◌≤◌}
 use native.Mathlib.Omega.{arith}
-use borrow.Author.Tests.{not-true, not-false}
 use lib.ListN.{length}
 use Rattle.image_size.proofs.Laws.{image_length}
 use Rattle.image.proofs.Calls.{write-call, write-invalid, write-short, write_done}
@@ -13,7 +12,6 @@ use Rattle.geometry.proofs.Widths.{shape_good, stride_is}
 use Rattle.geometry.proofs.Widths.{one_row}
 use Rattle.group_codes.specs.Codes.{code_of}
 use Rattle.image_format.proofs.Tables.{table_part, fields_part}
-use borrow.Author.Rules.{rules}
 use Rattle.image.proofs.write.Goals as goal
 use Rattle.image.proofs.write.Goals.{Else-status-ne0}
 

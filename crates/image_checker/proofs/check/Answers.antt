@@ -4,7 +4,6 @@ use native.Mathlib.Omega.{arith}
 use native.Mathlib.Nat.{mul-le-mul_right}
 use Rattle.image_format.specs.Read.{checked}
 use Rattle.word.proofs.Laws.{turn, halt}
-use borrow.Author.Rules.{rules}
 use Rattle.image_checker.proofs.check.Goals as goal
 
 pub returns-then-h-ne0 : goal.returns-then-h-ne0

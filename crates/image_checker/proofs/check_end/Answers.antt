@@ -7,7 +7,6 @@ use lib.ListN.{length}
 use Rattle.word.specs.Word.{end_kind, payload, tested}
 use Rattle.image_format.specs.Read.{check_end}
 use Rattle.word.proofs.Laws.{turn, halt}
-use borrow.Author.Rules.{rules}
 use Rattle.image_checker.proofs.check_end.Goals as goal
 
 pub returns-then-s-ne0 : goal.returns-then-s-ne0

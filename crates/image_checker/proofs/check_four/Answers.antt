@@ -4,7 +4,6 @@ use mathlib.Core.List.{List}
 use Prim.Native.Nat.{ℕ}
 use Rattle.image_format.specs.Read.{check_four, check_groups}
 use Rattle.word.proofs.Laws.{turn, halt}
-use borrow.Author.Rules.{rules}
 use Rattle.image_checker.proofs.check_four.Goals as goal
 
 pub overflow_add-p : goal.overflow_add-p

@@ -1,11 +1,6 @@
-use mathlib.Core.Path.{◌≡◌, sym, ap, ◌∙◌}
-use Prim.Native.Nat.{ℕ, ◌-◌, ◌≤◌}
-use native.Mathlib.Omega.{arith}
-use borrow.Author.Rules.{rules}
-use native.Mathlib.Nat.{sub-zero}
+use mathlib.Core.Path.{◌≡◌}
+use Prim.Native.Nat.{◌-◌, ◌≤◌}
 use Rattle.image_format.specs.Read.{check_fours}
-use Rattle.word.proofs.Laws.{turn, halt}
-use Rattle.image_checker.proofs.Laws.{check_fours_step, check_fours_none}
 use Rattle.image_checker.proofs.check_fours.Given as goal
 
 abbrev pub invariant-loop-i : goal.invariant-loop-i

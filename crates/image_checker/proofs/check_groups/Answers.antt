@@ -1,9 +1,9 @@
 use mathlib.Core.Path.{◌≡◌, refl, sym, ap, ◌∙◌}
-use Prim.Native.Nat.{ℕ, ◌-◌, ◌≤◌}
+use Prim.Native.Nat.{ℕ, ◌-◌}
 use native.Mathlib.Omega.{arith}
 use borrow.Author.Rules.{rules}
-use lib.ListN.{length, get_or, drop}
-use Rattle.image_format.specs.Read.{check_slots, check_groups}
+use lib.ListN.{length, get_or}
+use Rattle.image_format.specs.Read.{check_slots}
 use Rattle.word.proofs.Laws.{turn, halt}
 use Rattle.image_checker.proofs.Laws.{check_groups_step, check_groups_none}
 use Rattle.group_codes.specs.Codes.{merges_of}

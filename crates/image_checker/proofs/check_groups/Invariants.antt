@@ -1,13 +1,8 @@
-use mathlib.Core.Path.{◌≡◌, refl, sym, ap, ◌∙◌}
-use Prim.Native.Nat.{ℕ, ◌-◌, ◌≤◌}
-use native.Mathlib.Omega.{arith}
-use borrow.Author.Rules.{rules}
-use lib.ListN.{length, get_or, drop}
-use Rattle.image_format.specs.Read.{check_slots, check_groups}
-use Rattle.word.proofs.Laws.{turn, halt}
-use Rattle.image_checker.proofs.Laws.{check_groups_step, check_groups_none}
+use mathlib.Core.Path.{◌≡◌}
+use Prim.Native.Nat.{◌-◌, ◌≤◌}
+use lib.ListN.{drop}
+use Rattle.image_format.specs.Read.{check_groups}
 use Rattle.group_codes.specs.Codes.{merges_of}
-use Rattle.group_codes.proofs.Packing.{merge_at, merges_length}
 use Rattle.image_checker.proofs.check_groups.Given as goal
 
 abbrev pub invariant-loop-i : goal.invariant-loop-i

@@ -6,7 +6,6 @@ use Rattle.answer.specs.Numbers.{other_meter}
 use Rattle.image_format.specs.Read.{check_head}
 use Rattle.image_format.specs.Image.{head_payload}
 use Rattle.word.proofs.Laws.{turn, halt}
-use borrow.Author.Rules.{rules}
 use Rattle.image_checker.proofs.check_head.Goals as goal
 
 pub returns-then-s-ne0 : goal.returns-then-s-ne0

@@ -3,7 +3,6 @@ use mathlib.Core.Bool.{true≢false}
 use native.Mathlib.Omega.{arith}
 use Rattle.image_format.specs.Image.{layout_kind}
 use Rattle.image_checker.proofs.Plain.{clear_checks, same_word}
-use borrow.Author.Rules.{rules}
 use Rattle.image_checker.proofs.is_clear.Goals as goal
 
 pub returns-then-p-words : goal.returns-then-p-words

@@ -2,7 +2,6 @@ use Prim.Native.Nat.{◌+◌, ◌*◌, ◌≤◌}
 use native.Mathlib.Omega.{arith}
 use lib.ListN.{length}
 use Rattle.group_codes.proofs.Packing.{code_is}
-use borrow.Author.Rules.{rules}
 use Rattle.image_counters.proofs.put_any.Goals as goal
 
 pub put_fields-requires : goal.put_fields-requires

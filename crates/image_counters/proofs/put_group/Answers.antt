@@ -1,14 +1,11 @@
 use mathlib.Core.Path.{◌≡◌, refl, sym, ap, ◌∙◌}
-use mathlib.Core.Bool.{true}
-use Prim.Native.Nat.{ℕ, ◌+◌, ◌-◌, ◌≤◌, ◌<◌}
+use Prim.Native.Nat.{ℕ, ◌+◌, ◌-◌}
 use native.Mathlib.Omega.{arith}
-use borrow.Author.Rules.{rules}
-use lib.ListN.{length}
 use lib.Pow.{pow_pos}
 use lib.Seq.{sets}
 use Rattle.group.specs.declared.Reading.{Reading}
-use Rattle.image_format.specs.Image.{level_at, is_first, slot_words, slots_words, group_words}
-use Rattle.image_format.specs.Write.{slot_size, slots_size, group_size}
+use Rattle.image_format.specs.Image.{level_at, slot_words, group_words}
+use Rattle.image_format.specs.Write.{slot_size, group_size}
 use Rattle.image_format.proofs.Laws.{size_first, sizes_none, slot_some}
 use Rattle.image_size.proofs.Laws.{slot_length}
 use Rattle.image_counters.proofs.Laws.{put_turn, slots_none}

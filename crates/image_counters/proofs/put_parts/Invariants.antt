@@ -1,12 +1,8 @@
-use mathlib.Core.Path.{◌≡◌, refl, sym, ap, ◌∙◌}
+use mathlib.Core.Path.{◌≡◌}
 use Prim.Native.Nat.{◌+◌, ◌≤◌}
-use native.Mathlib.Omega.{arith}
-use native.Mathlib.Numerals.{add-one}
-use borrow.Author.Rules.{rules}
-use lib.ListN.{length, length-set}
+use lib.ListN.{length}
 use lib.Seq.{sets}
-use Rattle.image_format.specs.Image.{word, parts}
-use Rattle.image_counters.proofs.Laws.{parts_step, parts_none}
+use Rattle.image_format.specs.Image.{parts}
 use Rattle.image_counters.proofs.put_parts.Given as goal
 
 abbrev pub invariant-loop-left : goal.invariant-loop-left

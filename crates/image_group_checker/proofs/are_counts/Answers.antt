@@ -1,11 +1,9 @@
-use mathlib.Core.Path.{◌≡◌, sym}
+use mathlib.Core.Path.{sym}
 use mathlib.Core.Bool.{true≢false}
-use Prim.Native.Nat.{ℕ, ◌+◌, ◌-◌, ◌*◌, ◌/◌, ◌^◌, ◌≤◌, ◌<◌}
+use Prim.Native.Nat.{◌+◌, ◌-◌}
 use native.Mathlib.Omega.{arith}
-use borrow.Author.Rules.{rules}
 use borrow.Author.Tests.{ltb-true}
-use lib.ListN.{length, get_or}
-use Rattle.image_format.specs.Image.{count_kind}
+use lib.ListN.{get_or}
 use Rattle.image_group_checker.proofs.Laws.{up_to}
 use Rattle.image_group_checker.proofs.Bits.{or_le, same_bits}
 use Rattle.image_group_checker.proofs.are_counts.Goals as goal

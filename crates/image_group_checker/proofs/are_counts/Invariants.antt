@@ -1,13 +1,7 @@
-use mathlib.Core.Path.{◌≡◌, sym}
-use mathlib.Core.Bool.{true≢false}
+use mathlib.Core.Path.{◌≡◌}
 use Prim.Native.Nat.{ℕ, ◌+◌, ◌-◌, ◌*◌, ◌/◌, ◌^◌, ◌≤◌, ◌<◌}
-use native.Mathlib.Omega.{arith}
-use borrow.Author.Rules.{rules}
-use borrow.Author.Tests.{ltb-true}
 use lib.ListN.{length, get_or}
 use Rattle.image_format.specs.Image.{count_kind}
-use Rattle.image_group_checker.proofs.Laws.{up_to}
-use Rattle.image_group_checker.proofs.Bits.{or_le, same_bits}
 use Rattle.image_group_checker.proofs.are_counts.Given as goal
 
 abbrev pub invariant-loop-i : goal.invariant-loop-i

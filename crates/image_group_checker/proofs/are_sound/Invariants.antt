@@ -1,16 +1,8 @@
-use mathlib.Core.Path.{◌≡◌, sym, ap, ◌∙◌}
-use mathlib.Core.Bool.{true≢false}
+use mathlib.Core.Path.{◌≡◌}
 use Prim.Native.Nat.{ℕ, ◌+◌, ◌-◌, ◌*◌, ◌/◌, ◌%◌, ◌^◌, ◌≤◌, ◌<◌}
-use native.Mathlib.Omega.{arith}
-use borrow.Author.Rules.{rules}
-use borrow.Author.Tests.{eqb-true}
 use lib.Bits.{bit_xor}
 use lib.ListN.{length, get_or}
-use Rattle.group_codes.specs.Pack.{code_merge}
 use Rattle.image_format.specs.Image.{count_kind}
-use Rattle.image_group_checker.proofs.Laws.{up_to}
-use Rattle.image_group_checker.proofs.Bits.{or_le}
-use Rattle.image_group_checker.proofs.Fields.{sound_described}
 use Rattle.image_group_checker.proofs.are_sound.Given as goal
 
 abbrev pub invariant-loop-i : goal.invariant-loop-i

@@ -7,7 +7,6 @@ use Rattle.word.specs.Word.{go}
 use Rattle.image_format.specs.Write.{group_size}
 use Rattle.image_format.specs.Read.{check_slots}
 use Rattle.image_format.proofs.Fields.{size_most}
-use borrow.Author.Rules.{rules}
 use Rattle.image_group_checker.proofs.check_any.Goals as goal
 use Rattle.image_group_checker.proofs.check_any.Goals.{Then-are_sound}
 

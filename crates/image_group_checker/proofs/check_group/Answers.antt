@@ -1,13 +1,12 @@
 use mathlib.Core.Path.{◌≡◌, refl, sym, ◌∙◌}
 use Prim.Native.Nat.{◌-◌, ◌<◌}
 use native.Mathlib.Omega.{arith}
-use borrow.Author.Rules.{rules}
-use Rattle.image_format.specs.Read.{check_slot, check_slots}
+use Rattle.image_format.specs.Read.{check_slot}
 use Rattle.word.proofs.Laws.{turn, halt}
 use Rattle.image_group_checker.proofs.Laws.{check_slot_first, check_slots_none}
 use Rattle.image_group_checker.proofs.Steps.{checks_turn}
 use Rattle.image_format.proofs.Sizes.{behind_is}
-use Rattle.image_group_checker.proofs.Steps.{Stands, stands_first, stands_next, step_small}
+use Rattle.image_group_checker.proofs.Steps.{stands_first, stands_next, step_small}
 use Rattle.image_group_checker.proofs.check_group.Goals as goal
 use Rattle.image_group_checker.proofs.check_group.Goals.{After-check_parts-s}
 

@@ -1,10 +1,5 @@
-use mathlib.Core.Path.{◌≡◌, refl, sym, ◌∙◌}
-use native.Mathlib.Omega.{arith}
-use borrow.Author.Rules.{rules}
-use Rattle.word.specs.Word.{below}
+use mathlib.Core.Path.{◌≡◌}
 use Rattle.image_format.specs.Read.{check_parts}
-use Rattle.word.proofs.Laws.{turn, halt}
-use Rattle.image_group_checker.proofs.Laws.{check_parts_step, check_parts_none}
 use Rattle.image_group_checker.proofs.check_parts.Given as goal
 
 abbrev pub invariant-loop-left : goal.invariant-loop-left

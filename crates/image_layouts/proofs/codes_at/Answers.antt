@@ -4,7 +4,6 @@ use Rattle.group_codes.specs.Pack.{unpacked}
 use Rattle.group_codes.specs.Codes.{merges_of}
 use Rattle.group_codes.proofs.Packing.{codes_are}
 use Rattle.image_format.specs.Read.{merges_at}
-use borrow.Author.Rules.{rules}
 use Rattle.image_layouts.proofs.codes_at.Goals as goal
 
 pub returns : goal.returns

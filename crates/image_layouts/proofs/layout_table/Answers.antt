@@ -1,12 +1,12 @@
 use mathlib.Core.Path.{◌≡◌, ap, ◌∙◌}
-use Prim.Native.Nat.{ℕ, ◌-◌, ◌≤◌}
+use Prim.Native.Nat.{ℕ, ◌-◌}
 use native.Mathlib.Omega.{arith}
 use borrow.Author.Rules.{rules}
 use lib.ListN.{get_or}
 use Rattle.group_codes.specs.declared.Unpacked.{Unpacked}
 use Rattle.group_codes.specs.Pack.{code_merge}
 use Rattle.group_codes.proofs.Packing.{last_merge}
-use Rattle.image_format.proofs.Tables.{Filling, filling_more}
+use Rattle.image_format.proofs.Tables.{filling_more}
 use Rattle.image_layouts.proofs.layout_table.Goals as goal
 
 pub loop-c-init : goal.loop-c-init

@@ -5,7 +5,6 @@ use lib.ListN.{get_or}
 use Rattle.group_codes.specs.declared.Unpacked.{Unpacked}
 use Rattle.group_codes.specs.Pack.{code_merge}
 use Rattle.group_codes.proofs.Packing.{last_merge, merge_none}
-use borrow.Author.Rules.{rules}
 use Rattle.image_layouts.proofs.merge_of.Goals as goal
 
 pub returns-then-c-eq0 : goal.returns-then-c-eq0

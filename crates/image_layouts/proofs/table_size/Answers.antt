@@ -1,7 +1,6 @@
 use Prim.Native.Nat.{◌/◌}
 use native.Mathlib.Omega.{arith}
 use native.Mathlib.Nat.{mul-le-mul_right}
-use borrow.Author.Rules.{rules}
 use Rattle.image_layouts.proofs.table_size.Goals as goal
 
 pub overflow_mul-d : goal.overflow_mul-d

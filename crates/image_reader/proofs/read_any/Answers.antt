@@ -4,7 +4,6 @@ use native.Mathlib.Omega.{arith}
 use lib.ListN.{get_or}
 use Rattle.image_format.specs.Write.{group_size}
 use Rattle.image_format.proofs.Fields.{size_most}
-use borrow.Author.Rules.{rules}
 use Rattle.image_reader.proofs.read_any.Goals as goal
 use Rattle.image_reader.proofs.read_any.Goals.{Then-c-fields}
 

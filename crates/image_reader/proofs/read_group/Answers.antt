@@ -1,17 +1,16 @@
-use mathlib.Core.Path.{◌≡◌, refl, sym, ap, ◌∙◌}
-use Prim.Native.Nat.{◌+◌, ◌-◌, ◌*◌, ◌≤◌, ◌<◌}
+use mathlib.Core.Path.{refl, sym, ap, ◌∙◌}
+use Prim.Native.Nat.{◌-◌, ◌<◌}
 use native.Mathlib.Omega.{arith}
 use lib.Pow.{pow_pos}
-use borrow.Author.Rules.{rules}
 use Rattle.group.specs.declared.Outcome.{Outcome}
 use Rattle.image_format.specs.Image.{level_at}
-use Rattle.image_format.specs.Write.{slots_size, group_size}
-use Rattle.image_format.specs.Read.{read_slots, read_group}
+use Rattle.image_format.specs.Write.{group_size}
+use Rattle.image_format.specs.Read.{read_group}
 use Rattle.image_format.proofs.Laws.{size_first, sizes_none}
 use Rattle.image_reader.proofs.Laws.{read_slots_none}
 use Rattle.image_format.proofs.Counters.{sizes_turn}
 use Rattle.image_format.proofs.Sizes.{behind_is}
-use Rattle.image_group_checker.proofs.Steps.{Stands, stands_first, stands_next, step_small}
+use Rattle.image_group_checker.proofs.Steps.{stands_first, stands_next, step_small}
 use Rattle.image_reader.proofs.Steps.{reads_step}
 use Rattle.image_reader.proofs.read_group.Goals as goal
 

@@ -1,16 +1,8 @@
-use mathlib.Core.Path.{◌≡◌, refl, sym, ap, ap₂, ◌∙◌}
-use mathlib.Core.List.{List}
-use Prim.Native.Nat.{ℕ, ◌+◌, ◌-◌, ◌*◌, ◌≤◌}
-use native.Mathlib.Omega.{arith}
-use borrow.Author.Rules.{rules}
-use lib.ListN.{length, get_or, drop}
-use native.Mathlib.Nat.{add-zero}
-use Rattle.meter_memory.specs.Rows.{with_group}
-use Rattle.image_format.specs.Write.{group_size}
-use Rattle.image_format.specs.Read.{read_group, after_groups, read_groups}
-use Rattle.image_reader.proofs.Laws.{after_groups_step, after_groups_none, read_groups_step, read_groups_none}
+use mathlib.Core.Path.{◌≡◌}
+use Prim.Native.Nat.{◌+◌, ◌-◌, ◌*◌, ◌≤◌}
+use lib.ListN.{length, drop}
+use Rattle.image_format.specs.Read.{after_groups, read_groups}
 use Rattle.group_codes.specs.Codes.{merges_of}
-use Rattle.group_codes.proofs.Packing.{merge_at, merges_length}
 use Rattle.image_reader.proofs.read_groups.Given as goal
 
 abbrev pub invariant-loop-i : goal.invariant-loop-i

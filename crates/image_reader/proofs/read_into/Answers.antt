@@ -7,7 +7,6 @@ use Rattle.meter_memory.specs.Rows.{with_group}
 use Rattle.image_format.specs.Write.{group_size}
 use Rattle.image_format.specs.Read.{read_group}
 use Rattle.image_reader.proofs.Plain.{plain_read, plain_size}
-use borrow.Author.Rules.{rules}
 use Rattle.image_reader.proofs.read_into.Goals as goal
 
 pub read_counts-requires : goal.read_counts-requires

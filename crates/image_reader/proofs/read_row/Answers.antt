@@ -1,9 +1,7 @@
 use mathlib.Core.Path.{◌≡◌, refl, sym, ap, ap₂, ◌∙◌}
 use mathlib.Core.List.{List}
-use Prim.Native.Nat.{ℕ, ◌+◌, ◌-◌, ◌*◌, ◌/◌, ◌≤◌}
+use Prim.Native.Nat.{ℕ, ◌+◌, ◌-◌, ◌*◌, ◌/◌}
 use native.Mathlib.Omega.{arith}
-use borrow.Author.Rules.{rules}
-use lib.ListN.{length}
 use native.Mathlib.Nat.{sub-zero}
 use Rattle.image_format.specs.Read.{merges_at, after_groups, read_groups, after_fours, read_fours}
 use Rattle.image_reader.proofs.Laws.{after_fours_step, after_fours_none, read_fours_step, read_fours_none}

@@ -1,14 +1,9 @@
-use mathlib.Core.Path.{◌≡◌, refl, sym, ap, ◌∙◌}
-use mathlib.Core.List.{◌++◌}
-use Prim.Native.Nat.{ℕ, ◌+◌, ◌-◌, ◌*◌, ◌/◌, ◌≤◌}
-use native.Mathlib.Omega.{arith}
-use borrow.Author.Rules.{rules}
-use lib.ListN.{length, take, drop}
+use mathlib.Core.Path.{◌≡◌}
+use Prim.Native.Nat.{◌+◌, ◌-◌, ◌*◌, ◌/◌, ◌≤◌}
+use lib.ListN.{length}
 use Rattle.geometry.specs.Geometry.{largest_width, stride}
-use native.Mathlib.Nat.{sub-zero, zero-mul}
 use Rattle.image_format.specs.Read.{read_rows}
-use Rattle.geometry.proofs.Widths.{row_in}
-use Rattle.image_reader.proofs.Laws.{rows_from, read-rows-turn, read_rows_end}
+use Rattle.image_reader.proofs.Laws.{rows_from}
 use Rattle.image_reader.proofs.read_rows.Given as goal
 
 abbrev pub invariant-loop-r : goal.invariant-loop-r

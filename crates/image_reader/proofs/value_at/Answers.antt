@@ -1,9 +1,5 @@
-use mathlib.Core.Path.{◌≡◌, refl, sym, ◌∙◌}
-use Prim.Native.Nat.{◌+◌, ◌≤◌}
+use mathlib.Core.Path.{refl, sym, ◌∙◌}
 use native.Mathlib.Omega.{arith}
-use borrow.Author.Rules.{rules}
-use Rattle.word.specs.Word.{payload}
-use Rattle.image_format.specs.Read.{value_from}
 use Rattle.image_reader.proofs.Laws.{value_step, value_none}
 use Rattle.image_reader.proofs.value_at.Goals as goal
 

@@ -1,10 +1,6 @@
-use mathlib.Core.Path.{◌≡◌, refl, sym, ◌∙◌}
+use mathlib.Core.Path.{◌≡◌}
 use Prim.Native.Nat.{◌+◌, ◌≤◌}
-use native.Mathlib.Omega.{arith}
-use borrow.Author.Rules.{rules}
-use Rattle.word.specs.Word.{payload}
 use Rattle.image_format.specs.Read.{value_from}
-use Rattle.image_reader.proofs.Laws.{value_step, value_none}
 use Rattle.image_reader.proofs.value_at.Given as goal
 
 abbrev pub invariant-loop-left : goal.invariant-loop-left

@@ -6,7 +6,6 @@ use lib.Bits.{bit_or}
 use lib.ListN.{get_or}
 use borrow.Author.Tests.{eqb-true}
 use Rattle.geometry.proofs.Bits.{or_none}
-use borrow.Author.Rules.{rules}
 use Rattle.image_size.proofs.clear.Goals as goal
 
 pub returns-then-row-at-lt4 : goal.returns-then-row-at-lt4

@@ -1,8 +1,7 @@
 use native.Mathlib.Nat.{zero-add, add-zero}
-use mathlib.Core.Path.{◌≡◌, sym, ap, ◌∙◌}
-use Prim.Native.Nat.{ℕ, ◌+◌, ◌-◌, ◌*◌, ◌≤◌}
+use mathlib.Core.Path.{sym, ap, ◌∙◌}
+use Prim.Native.Nat.{ℕ, ◌+◌, ◌-◌}
 use native.Mathlib.Omega.{arith}
-use borrow.Author.Rules.{rules}
 use lib.ListN.{length}
 use Rattle.image_format.specs.Image.{groups_words}
 use Rattle.image_size.proofs.Laws.{groups_size_step, groups_none}

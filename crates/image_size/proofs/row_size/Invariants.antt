@@ -1,11 +1,7 @@
-use mathlib.Core.Path.{◌≡◌, refl, ap, ◌∙◌}
-use Prim.Native.Nat.{ℕ, ◌+◌, ◌-◌, ◌*◌, ◌/◌, ◌≤◌}
-use native.Mathlib.Omega.{arith}
-use borrow.Author.Rules.{rules}
+use mathlib.Core.Path.{◌≡◌}
+use Prim.Native.Nat.{◌+◌, ◌-◌, ◌*◌, ◌/◌, ◌≤◌}
 use lib.ListN.{length}
-use native.Mathlib.Nat.{zero-add, sub-zero}
 use Rattle.image_format.specs.Image.{row_words}
-use Rattle.image_size.proofs.Laws.{row_length_step, row_none}
 use Rattle.image_size.proofs.row_size.Given as goal
 
 abbrev pub invariant-loop-i : goal.invariant-loop-i

@@ -1,9 +1,6 @@
-use mathlib.Core.Path.{◌≡◌, refl, sym, ◌∙◌}
+use mathlib.Core.Path.{refl, sym, ◌∙◌}
 use Prim.Native.Nat.{◌-◌}
 use native.Mathlib.Omega.{arith}
-use borrow.Author.Rules.{rules}
-use lib.ListN.{length, drop}
-use Rattle.image_format.specs.Write.{all_valid}
 use Rattle.image_size.proofs.Laws.{valid_none}
 use Rattle.image_size.proofs.row_valid.Goals as goal
 

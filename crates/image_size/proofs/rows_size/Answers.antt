@@ -1,10 +1,9 @@
 use mathlib.Core.Path.{◌≡◌, ap, ap₂, ◌∙◌}
 use mathlib.Core.List.{List}
-use Prim.Native.Nat.{ℕ, ◌+◌, ◌-◌, ◌*◌, ◌/◌, ◌≤◌}
+use Prim.Native.Nat.{ℕ, ◌-◌, ◌*◌, ◌/◌}
 use native.Mathlib.Omega.{arith}
-use borrow.Author.Rules.{rules}
 use lib.ListN.{length, take, drop}
-use Rattle.geometry.specs.Geometry.{largest_width, stride}
+use Rattle.geometry.specs.Geometry.{stride}
 use native.Mathlib.Nat.{zero-add, sub-zero, zero-mul}
 use Rattle.image_format.specs.Image.{row_words, rows_words}
 use Rattle.geometry.proofs.Widths.{one_row}

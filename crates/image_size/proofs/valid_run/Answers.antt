@@ -5,7 +5,6 @@ use lib.ListN.{get_or}
 use Rattle.group.specs.Group.{valid_merge}
 use Rattle.image_size.proofs.Laws.{valid_step}
 use Rattle.image_size.proofs.Plain.{valid_clear}
-use borrow.Author.Rules.{rules}
 use Rattle.image_size.proofs.valid_run.Goals as goal
 
 pub returns-then-clear : goal.returns-then-clear

@@ -1,7 +1,6 @@
 use mathlib.Core.Path.{◌≡◌, sym, ◌∙◌}
 use Prim.Native.Nat.{◌+◌}
 use lib.ListN.{get_or}
-use borrow.Author.Rules.{rules}
 use Rattle.image_format.specs.Image.{layout_at}
 use Rattle.image_writer.proofs.Laws.{layout_is, layout_lt}
 use Rattle.group_codes.proofs.Packing.{four_of_lem}

@@ -5,7 +5,6 @@ use native.Mathlib.Omega.{arith}
 use lib.ListN.{length, set, length-set}
 use lib.Seq.{sets, length-sets}
 use Rattle.image_writer.specs.Writer.{count_words}
-use borrow.Author.Rules.{rules}
 use Rattle.image_writer.proofs.put_clear.Goals as goal
 
 pub put_counts-requires : goal.put_counts-requires

@@ -5,7 +5,6 @@ use Rattle.laws.proofs.Lists.{Bytes}
 use Rattle.image_size.proofs.Laws.{four_length}
 use Rattle.image_size.proofs.Plain.{clear_size}
 use Rattle.image_writer.proofs.Plain.{clear_words_lem}
-use borrow.Author.Rules.{rules}
 use Rattle.image_writer.proofs.put_four.Goals as goal
 
 pub put_clear-requires : goal.put_clear-requires

@@ -7,7 +7,6 @@ use Rattle.word.specs.Word.{head_kind}
 use Rattle.image_format.specs.Image.{word, head_payload, end_word}
 use Rattle.image_size.proofs.Laws.{image_length}
 use Rattle.image_writer.proofs.Laws.{image_put}
-use borrow.Author.Rules.{rules}
 use Rattle.image_writer.proofs.put_image.Goals as goal
 use Rattle.image_writer.proofs.put_image.Goals.{After-put_rows-end}
 

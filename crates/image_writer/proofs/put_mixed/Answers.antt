@@ -6,7 +6,6 @@ use lib.ListN.{length, set, length-set}
 use lib.Seq.{sets, length-sets}
 use Rattle.image_format.specs.Image.{word, layout_kind, layout_at, groups_words, four_words}
 use Rattle.image_size.proofs.Laws.{four_length}
-use borrow.Author.Rules.{rules}
 use Rattle.image_writer.proofs.put_mixed.Goals as goal
 
 pub bounds-words-p : goal.bounds-words-p

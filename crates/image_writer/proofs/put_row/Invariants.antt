@@ -1,14 +1,8 @@
-use mathlib.Core.Path.{◌≡◌, refl, sym, ap, ◌∙◌}
-use mathlib.Core.List.{List}
-use Prim.Native.Nat.{ℕ, ◌+◌, ◌-◌, ◌*◌, ◌/◌, ◌≤◌}
-use native.Mathlib.Omega.{arith}
-use borrow.Author.Rules.{rules}
+use mathlib.Core.Path.{◌≡◌}
+use Prim.Native.Nat.{◌+◌, ◌-◌, ◌*◌, ◌/◌, ◌≤◌}
 use lib.ListN.{length}
 use lib.Seq.{sets}
-use native.Mathlib.Nat.{sub-zero}
-use Rattle.image_format.specs.Image.{four_words, row_words}
-use Rattle.image_size.proofs.Laws.{four_length, row_step, row_length_step, row_none}
-use Rattle.image_counters.proofs.Laws.{put_turn}
+use Rattle.image_format.specs.Image.{row_words}
 use Rattle.image_writer.proofs.put_row.Given as goal
 
 abbrev pub invariant-loop-i : goal.invariant-loop-i

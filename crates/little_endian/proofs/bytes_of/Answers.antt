@@ -1,6 +1,5 @@
 use native.Mathlib.Nat.{div-div-eq-div-mul}
 use Rattle.little_endian.specs.Bytes.{bytes}
-use borrow.Author.Rules.{rules}
 use Rattle.little_endian.proofs.bytes_of.Goals as goal
 
 pub returns : goal.returns

@@ -1,6 +1,5 @@
 use mathlib.Core.Path.{sym, ◌∙◌}
 use Rattle.meter.proofs.Calls.{estimated-bad}
-use borrow.Author.Rules.{rules}
 use Rattle.meter.proofs.estimate.Goals as goal
 
 pub returns-then-bad-ne0 : goal.returns-then-bad-ne0

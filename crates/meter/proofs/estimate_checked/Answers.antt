@@ -7,9 +7,7 @@ use lib.ListN.{get_or}
 use Rattle.meter_keys.specs.Keys.{key_slot}
 use Rattle.meter.proofs.Calls.{call_rows, estimated-good}
 use Rattle.meter.proofs.Slots.{read-status-by-key, read-value-by-key, one_long, one-read-status, one-read-value}
-use borrow.Author.Rules.{rules}
 use Rattle.meter.proofs.estimate_checked.Goals as goal
-use Rattle.meter.proofs.estimate_checked.Goals.{Then-d-eq1}
 
 pub row_slot-requires : goal.row_slot-requires
 row_slot-requires c = (call_rows _ _ _ _ c.requires).1.0

@@ -1,10 +1,6 @@
-use lib.ListN.{length, take, replicate, length-set}
-use lib.Seq.{take_all}
-use mathlib.Core.Path.{◌≡◌, refl, sym, ap, ◌∙◌}
-use Prim.Native.Nat.{ℕ, ◌-◌, ◌≤◌}
-use native.Mathlib.Omega.{arith}
-use borrow.Author.Rules.{rules}
-use Rattle.meter.proofs.Tests.{zeros_turn}
+use lib.ListN.{length, take, replicate}
+use mathlib.Core.Path.{◌≡◌}
+use Prim.Native.Nat.{◌-◌, ◌≤◌}
 use Rattle.meter.proofs.fill.Given as goal
 
 abbrev pub invariant-loop-i : goal.invariant-loop-i

@@ -1,7 +1,6 @@
 use mathlib.Core.Path.{sym, ◌∙◌}
 use Rattle.geometry.proofs.Widths.{shape_good}
 use Rattle.meter.proofs.Calls.{united-bad, united-length, united-full, united-good}
-use borrow.Author.Rules.{rules}
 use Rattle.meter.proofs.unite.Goals as goal
 
 pub returns-then-bad-ne0 : goal.returns-then-bad-ne0

@@ -2,7 +2,6 @@ use mathlib.Core.Path.{ap, ◌∙◌}
 use Prim.Native.Nat.{ℕ}
 use Rattle.answer.specs.Answers.{answer_of}
 use Rattle.meter.proofs.Reading.{answer_by_status}
-use borrow.Author.Rules.{rules}
 use Rattle.meter.proofs.update_checked.Goals as goal
 
 pub returns : goal.returns

@@ -17,9 +17,8 @@ use Rattle.meter.specs.Meter.{bad_call, updated, estimated}
 use Rattle.meter.proofs.Calls.{call_rows, updated-rows}
 use Rattle.meter.proofs.Slots.{left_value, status-by-key, added-by-key, left-by-key, one_long, one-status, one-added, one_left}
 use Rattle.meter.proofs.Reading.{rows_status, value_is, value-left}
-use borrow.Author.Rules.{rules}
 use Rattle.meter.proofs.update_reading.Goals as goal
-use Rattle.meter.proofs.update_reading.Goals.{After-key_slots-slots, Then-d-eq1}
+use Rattle.meter.proofs.update_reading.Goals.{After-key_slots-slots}
 
 pub row_slot-slot-requires : goal.row_slot-slot-requires
 row_slot-slot-requires c = (call_rows _ _ _ _ c.requires).1.0

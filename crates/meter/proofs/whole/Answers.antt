@@ -3,7 +3,6 @@ use Prim.Native.Nat.{◌-◌}
 use native.Mathlib.Omega.{arith}
 use lib.ListN.{length}
 use lib.Seq.{take-length}
-use borrow.Author.Rules.{rules}
 use Rattle.meter.proofs.whole.Goals as goal
 
 pub returns : goal.returns

@@ -2,7 +2,6 @@ use mathlib.Core.Path.{sym, ap₂, ◌∙◌}
 use Rattle.answer.specs.Answers.{answer_of}
 use Rattle.geometry.proofs.Widths.{shape_good}
 use Rattle.meter.proofs.Calls.{widest-bad, widest-good}
-use borrow.Author.Rules.{rules}
 use Rattle.meter.proofs.widest.Goals as goal
 
 pub returns-then-bad-ne0 : goal.returns-then-bad-ne0

@@ -4,7 +4,6 @@ use Prim.Native.Nat.{ℕ, ◌+◌}
 use native.Mathlib.Nat.{add-zero}
 use Rattle.hash.specs.Hash.{fnv_step, row_hash}
 use Rattle.meter_keys.proofs.Lanes.{lane_hash, in_four}
-use borrow.Author.Rules.{rules}
 use Rattle.meter_keys.proofs.four_hashes.Goals as goal
 
 pub returns : goal.returns

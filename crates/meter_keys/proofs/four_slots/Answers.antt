@@ -6,7 +6,6 @@ use Rattle.hash.specs.Hash.{fnv_step}
 use Rattle.meter_keys.specs.Keys.{key_slot}
 use Rattle.geometry.proofs.Widths.{wide}
 use Rattle.meter_keys.proofs.Lanes.{lane_slot, in_four}
-use borrow.Author.Rules.{rules}
 use Rattle.meter_keys.proofs.four_slots.Goals as goal
 
 pub scaled-a-requires : goal.scaled-a-requires

@@ -5,7 +5,6 @@ use native.Mathlib.Decide.{dec_lt}
 use native.Mathlib.Omega.{arith}
 use Rattle.hash.specs.Hash.{row_hash}
 use Rattle.meter_keys.proofs.Lanes.{in_four, in_eight}
-use borrow.Author.Rules.{rules}
 use Rattle.meter_keys.proofs.key_hashes.Goals as goal
 
 pub returns-then-d-eq1 : goal.returns-then-d-eq1

@@ -4,7 +4,6 @@ use Prim.Native.Nat.{ℕ, ◌<◌}
 use native.Mathlib.Omega.{arith}
 use Rattle.meter_keys.specs.Keys.{key_slot}
 use Rattle.meter_keys.proofs.Lanes.{in_four, in_eight}
-use borrow.Author.Rules.{rules}
 use Rattle.meter_keys.proofs.key_slots.Goals as goal
 
 pub returns-then-d-le4 : goal.returns-then-d-le4

@@ -3,7 +3,6 @@ use Prim.Native.Nat.{ℕ}
 use Rattle.hash.specs.Hash.{slot_of}
 use Rattle.geometry.proofs.Widths.{wide}
 use Rattle.meter_keys.specs.Keys.{key_slot}
-use borrow.Author.Rules.{rules}
 use Rattle.meter_keys.proofs.row_slot.Goals as goal
 
 pub scaled-requires : goal.scaled-requires

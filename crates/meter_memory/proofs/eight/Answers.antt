@@ -1,9 +1,8 @@
 use mathlib.Core.Path.{◌≡◌, refl, ◌∙◌}
-use Prim.Native.Nat.{◌-◌, ◌≤◌}
+use Prim.Native.Nat.{◌-◌}
 use native.Mathlib.Omega.{arith}
 use borrow.Author.Rules.{rules}
-use mathlib.Core.List.{◌++◌}
-use lib.ListN.{take, drop, length-drop, replicate}
+use lib.ListN.{drop, length-drop, replicate}
 use lib.Seq.{get_or-drop}
 use Rattle.laws.proofs.Lists.{copy_more, copy_all}
 use Rattle.meter_memory.proofs.eight.Goals as goal

@@ -1,11 +1,7 @@
-use mathlib.Core.Path.{◌≡◌, refl, ◌∙◌}
+use mathlib.Core.Path.{◌≡◌}
 use Prim.Native.Nat.{◌-◌, ◌≤◌}
-use native.Mathlib.Omega.{arith}
-use borrow.Author.Rules.{rules}
 use mathlib.Core.List.{◌++◌}
-use lib.ListN.{take, drop, length-drop, replicate}
-use lib.Seq.{get_or-drop}
-use Rattle.laws.proofs.Lists.{copy_more, copy_all}
+use lib.ListN.{take, drop}
 use Rattle.meter_memory.proofs.eight.Given as goal
 
 abbrev pub invariant-loop-i : goal.invariant-loop-i

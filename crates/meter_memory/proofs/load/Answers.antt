@@ -1,5 +1,4 @@
 use Rattle.meter_memory.specs.Rows.{group_at}
-use borrow.Author.Rules.{rules}
 use Rattle.meter_memory.proofs.load.Goals as goal
 
 pub returns : goal.returns

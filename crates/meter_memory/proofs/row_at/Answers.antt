@@ -4,7 +4,6 @@ use native.Mathlib.Omega.{arith}
 use lib.ListN.{length, take, drop}
 use Rattle.geometry.specs.Geometry.{stride}
 use Rattle.meter_memory.proofs.Lists.{lent, row_length}
-use borrow.Author.Rules.{rules}
 use Rattle.meter_memory.proofs.row_at.Goals as goal
 use Rattle.meter_memory.proofs.row_at.Goals.{After-stride-stride}
 

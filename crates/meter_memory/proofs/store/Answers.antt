@@ -1,5 +1,4 @@
 use Rattle.meter_memory.specs.Rows.{with_group}
-use borrow.Author.Rules.{rules}
 use Rattle.meter_memory.proofs.store.Goals as goal
 
 pub returns : goal.returns

@@ -1,7 +1,6 @@
 use Prim.Native.Nat.{◌/◌}
 use native.Mathlib.Omega.{arith}
 use Rattle.geometry.proofs.Widths.{slot_in, group_in}
-use borrow.Author.Rules.{rules}
 use Rattle.meter_row.proofs.read_row.Goals as goal
 
 pub load-requires : goal.load-requires

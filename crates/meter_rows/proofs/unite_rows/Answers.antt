@@ -1,7 +1,6 @@
-use mathlib.Core.Path.{◌≡◌, refl, sym, ap, ap₂, ◌∙◌}
+use mathlib.Core.Path.{refl, sym, ap, ap₂, ◌∙◌}
 use Prim.Native.Nat.{ℕ, ◌+◌, ◌-◌, ◌*◌, ◌≤◌}
 use native.Mathlib.Omega.{arith}
-use borrow.Author.Rules.{rules}
 use mathlib.Core.List.{List}
 use lib.ListN.{length}
 use Rattle.meter_memory.specs.Pairs.{row_paired_by}
@@ -10,7 +9,7 @@ use Rattle.meter_union.specs.Union.{unite_row}
 use Rattle.meter_memory.specs.Rows.{row_of}
 use Rattle.meter_union.specs.Union.{source_added}
 use Rattle.geometry.proofs.Widths.{one_row}
-use Rattle.meter_memory.proofs.Lists.{lent, rows_from, rows_start, rows_turn, rows_end}
+use Rattle.meter_memory.proofs.Lists.{lent, rows_start, rows_turn, rows_end}
 use Rattle.meter_rows.proofs.unite_rows.Goals as goal
 use Rattle.meter_rows.proofs.unite_rows.Goals.{In-loop-r}
 

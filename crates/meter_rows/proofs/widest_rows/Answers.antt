@@ -1,13 +1,8 @@
-use mathlib.Core.Path.{◌≡◌, sym, ap, ◌∙◌}
-use Prim.Native.Nat.{◌-◌, ◌*◌, ◌≤◌, max}
+use mathlib.Core.Path.{sym, ap, ◌∙◌}
+use Prim.Native.Nat.{◌-◌}
 use native.Mathlib.Omega.{arith}
-use borrow.Author.Rules.{rules}
-use Rattle.geometry.specs.Geometry.{stride}
 use Rattle.meter_memory.specs.Rows.{row_of}
 use Rattle.meter_row.specs.Row.{row_status, row_level}
-use lib.ListN.{drop}
-use Rattle.answer.specs.Order.{earlier, earliest}
-use Rattle.meter_memory.specs.Rows.{of_rows, largest}
 use Rattle.meter_row.specs.Row.{widest_status, widest_row}
 use Rattle.geometry.proofs.Widths.{one_row}
 use Rattle.meter_memory.proofs.Gather.{status-turn, status-end, level-turn, level-end, rows_start, levels_start}

@@ -1,7 +1,6 @@
 use Prim.Native.Nat.{◌+◌}
 use Rattle.meter_memory.proofs.Lists.{lent}
 use Rattle.meter_runs.specs.Runs.{none_merged}
-use borrow.Author.Rules.{rules}
 use Rattle.meter_runs.proofs.eight_unmerged.Goals as goal
 
 pub returns : goal.returns

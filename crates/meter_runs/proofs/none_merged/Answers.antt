@@ -3,7 +3,6 @@ use Prim.Native.Nat.{◌+◌}
 use Rattle.group_side.specs.Side.{any_merged}
 use Rattle.meter_memory.proofs.Lists.{lent}
 use Rattle.meter_runs.specs.Runs.{none_merged}
-use borrow.Author.Rules.{rules}
 use Rattle.meter_runs.proofs.none_merged.Goals as goal
 
 pub returns-then-any_merged : goal.returns-then-any_merged

@@ -5,10 +5,9 @@ use Rattle.meter_union.specs.Union.{united_status}
 use Rattle.meter_runs.specs.Runs.{run_status}
 use Rattle.meter_union.specs.Runs.{groups_status}
 use Rattle.meter_memory.proofs.Lists.{status-turn, status-end}
-use mathlib.Core.Path.{◌≡◌, refl, sym, ap, ap₂, ◌∙◌}
-use Prim.Native.Nat.{ℕ, ◌+◌, ◌-◌, ◌≤◌}
+use mathlib.Core.Path.{refl, sym, ap, ap₂, ◌∙◌}
+use Prim.Native.Nat.{ℕ, ◌+◌, ◌-◌}
 use native.Mathlib.Omega.{arith}
-use borrow.Author.Rules.{rules}
 use Rattle.answer.specs.Order.{earlier}
 use Rattle.meter_union.proofs.groups_status.Goals as goal
 

@@ -1,12 +1,6 @@
-use mathlib.Core.Path.{◌≡◌, refl, sym, ◌∙◌}
-use mathlib.Core.Bool.{true, false}
+use mathlib.Core.Path.{◌≡◌}
 use Prim.Native.Nat.{◌-◌, ◌/◌, ◌≤◌}
-use native.Mathlib.Omega.{arith}
-use borrow.Author.Tests.{not-true, not-false}
-use borrow.Author.Rules.{rules}
-use Rattle.geometry.proofs.Widths.{stride_is}
 use Rattle.meter_union.specs.Runs.{next_merged}
-use Rattle.meter_union.proofs.Runs.{next-turn, next-end}
 use Rattle.meter_union.proofs.next_merged.Given as goal
 
 abbrev pub invariant-loop-e : goal.invariant-loop-e

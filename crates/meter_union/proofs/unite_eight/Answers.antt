@@ -3,10 +3,8 @@ use mathlib.Core.Bool.{true}
 use mathlib.Core.List.{List}
 use Prim.Native.Nat.{ℕ}
 use native.Mathlib.Omega.{arith}
-use borrow.Author.Tests.{not-false}
 use Rattle.meter_union.specs.Union.{unite_groups}
 use Rattle.meter_runs.specs.Runs.{none_merged}
-use borrow.Author.Rules.{rules}
 use Rattle.meter_union.proofs.unite_eight.Goals as goal
 use Rattle.meter_union.proofs.unite_eight.Goals.{After-unite_side-arg-1, After-unite_unmerged-arg-1}
 

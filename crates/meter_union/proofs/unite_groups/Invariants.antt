@@ -1,13 +1,7 @@
-use mathlib.Core.Path.{◌≡◌, refl, sym, ap, ◌∙◌}
-use Prim.Native.Nat.{ℕ, ◌+◌, ◌-◌, ◌≤◌}
-use native.Mathlib.Omega.{arith}
-use borrow.Author.Rules.{rules}
+use mathlib.Core.Path.{◌≡◌}
+use Prim.Native.Nat.{◌+◌, ◌-◌, ◌≤◌}
 use lib.ListN.{length}
-use Rattle.group.specs.declared.Outcome.{Outcome}
 use Rattle.meter_union.specs.Union.{unite_groups}
-use Rattle.meter_memory.specs.Rows.{with_group}
-use Rattle.group.specs.Group.{united_groups}
-use Rattle.meter_memory.proofs.Pairs.{pair_turn, pair_end}
 use Rattle.meter_union.proofs.unite_groups.Given as goal
 
 abbrev pub invariant-loop-g : goal.invariant-loop-g

@@ -1,10 +1,8 @@
 use mathlib.Core.Path.{◌≡◌, refl, ap, ◌∙◌}
-use Prim.Native.Nat.{ℕ, ◌+◌, ◌-◌, ◌*◌, ◌/◌, ◌%◌, ◌≤◌}
+use Prim.Native.Nat.{ℕ, ◌+◌, ◌-◌, ◌*◌, ◌/◌, ◌%◌}
 use native.Mathlib.Omega.{arith}
-use borrow.Author.Rules.{rules}
-use lib.ListN.{length}
 use Rattle.meter_memory.specs.Pairs.{pair_row}
-use Rattle.meter_union.specs.Union.{unite_row, unite_groups}
+use Rattle.meter_union.specs.Union.{unite_groups}
 use Rattle.group.specs.Group.{united_groups}
 use Rattle.meter_memory.proofs.Pairs.{pair-run}
 use Rattle.geometry.proofs.Widths.{stride_is}

@@ -1,13 +1,7 @@
-use mathlib.Core.Path.{◌≡◌, refl, ap, ◌∙◌}
-use Prim.Native.Nat.{ℕ, ◌+◌, ◌-◌, ◌*◌, ◌/◌, ◌%◌, ◌≤◌}
-use native.Mathlib.Omega.{arith}
-use borrow.Author.Rules.{rules}
+use mathlib.Core.Path.{◌≡◌}
+use Prim.Native.Nat.{◌-◌, ◌*◌, ◌/◌, ◌≤◌}
 use lib.ListN.{length}
-use Rattle.meter_memory.specs.Pairs.{pair_row}
 use Rattle.meter_union.specs.Union.{unite_row, unite_groups}
-use Rattle.group.specs.Group.{united_groups}
-use Rattle.meter_memory.proofs.Pairs.{pair-run}
-use Rattle.geometry.proofs.Widths.{stride_is}
 use Rattle.meter_union.proofs.unite_row.Given as goal
 
 abbrev pub invariant-loop-e : goal.invariant-loop-e

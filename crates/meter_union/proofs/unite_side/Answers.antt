@@ -1,7 +1,6 @@
 use Prim.Native.Nat.{◌*◌}
 use Rattle.meter_memory.proofs.Lists.{lent}
 use Rattle.meter_union.proofs.Runs.{united_back}
-use borrow.Author.Rules.{rules}
 use Rattle.meter_union.proofs.unite_side.Goals as goal
 
 pub returns : goal.returns

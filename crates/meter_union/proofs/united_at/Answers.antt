@@ -1,6 +1,4 @@
 use Rattle.meter_memory.specs.Pairs.{paired_at}
-use Rattle.meter_union.specs.Union.{united_at}
-use borrow.Author.Rules.{rules}
 use Rattle.meter_union.proofs.united_at.Goals as goal
 
 pub returns : goal.returns

@@ -1,13 +1,12 @@
 use mathlib.Core.Path.{◌≡◌, refl, sym, ap, ◌∙◌}
 use mathlib.Core.Bool.{true}
-use mathlib.Core.Logic.{⊎_elim}
-use Prim.Native.Nat.{ℕ, zero, suc, ◌+◌, ◌-◌, ◌*◌, ◌/◌, ◌^◌, ◌<◌, min}
+use Prim.Native.Nat.{ℕ, zero, suc, ◌+◌, ◌-◌, ◌/◌, ◌^◌, ◌<◌, min}
 use native.Mathlib.Omega.{arith}
 use borrow.Author.Rules.{rules}
 use mir.Val.{Fits}
 use mir.Syntax.{w64}
 use mathlib.Core.List.{List}
-use lib.ListN.{get_or, drop, set}
+use lib.ListN.{get_or, set}
 use Rattle.group.specs.declared.Group.{Group}
 use Rattle.group.specs.declared.Outcome.{Outcome}
 use Rattle.group.specs.declared.Reading.{Reading}
@@ -15,13 +14,13 @@ use Rattle.group.specs.Group.{read, added}
 use Rattle.group.proofs.Laws.{added-kept}
 use Rattle.geometry.specs.Geometry.{stride}
 use Rattle.answer.specs.Order.{earlier}
-use Rattle.meter_memory.specs.Rows.{row_of, group_at, of_rows, least_or}
+use Rattle.meter_memory.specs.Rows.{row_of, group_at, least_or}
 use Rattle.answer.proofs.Order.{earlier_none}
 use Rattle.geometry.proofs.Widths.{slot_in, group_in, one_row}
 use Rattle.meter_row.specs.Row.{added_in}
 use Rattle.meter_memory.proofs.Gather.{rows_start, least-turn, least-end, least_first}
 use Rattle.meter_memory.proofs.Lists.{rows-read-all}
-use Rattle.meter_memory.proofs.Tried.{Tried, tried-more, tried-all}
+use Rattle.meter_memory.proofs.Tried.{tried-more, tried-all}
 use Rattle.meter_row.specs.Slots.{added_status, added_value}
 use Rattle.meter_update.proofs.try_rows.Invariants.{outcome, Valued}
 use Rattle.meter_update.proofs.try_rows.Goals as goal

@@ -1,4 +1,3 @@
-use Prim.Native.Nat.{ℕ, ◌+◌, ◌-◌, ◌^◌, ◌<◌}
 use Rattle.signed_block.proofs.+add.Given as goal
 
 abbrev pub decreases-add : goal.decreases-add

@@ -1,4 +1,3 @@
-use Prim.Native.Nat.{ℕ, ◌-◌, ◌<◌}
 use Rattle.signed_block.proofs.+total.Given as goal
 
 abbrev pub decreases-total : goal.decreases-total

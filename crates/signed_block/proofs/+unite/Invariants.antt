@@ -1,4 +1,3 @@
-use Prim.Native.Nat.{ℕ, ◌+◌, ◌-◌, ◌^◌, ◌<◌}
 use Rattle.signed_block.proofs.+unite.Given as goal
 
 abbrev pub decreases-unite : goal.decreases-unite

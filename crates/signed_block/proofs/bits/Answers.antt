@@ -8,7 +8,6 @@ use Rattle.signed_number.specs.Number.{integer_of}
 use Rattle.signed_block.specs.Signed.{top, sign_bits}
 use Rattle.signed_block.specs.Passed.{Canonical}
 use Rattle.signed_block.proofs.Counters.{top_most, bits_minus, bits_plus}
-use borrow.Author.Rules.{rules}
 use Rattle.signed_block.proofs.bits.Goals as goal
 
 -- the sign bit and the magnitude

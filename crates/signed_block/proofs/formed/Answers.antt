@@ -6,7 +6,6 @@ use Rattle.group_block.specs.Sum.{held}
 use Rattle.signed_number.proofs.Integers.{size_is}
 use Rattle.signed_block.specs.Signed.{signed}
 use Rattle.signed_block.specs.Passed.{signed_summed}
-use borrow.Author.Rules.{rules}
 use Rattle.signed_block.proofs.formed.Goals as goal
 
 pub held_sum-requires : goal.held_sum-requires

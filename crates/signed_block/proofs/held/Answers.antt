@@ -13,7 +13,6 @@ use Rattle.signed_number.proofs.Integers.{abs_integer}
 use Rattle.signed_block.specs.Signed.{signed, top, sign_bits}
 use Rattle.signed_block.specs.Passed.{sign_bit, signed_summed}
 use Rattle.signed_block.proofs.Counters.{sign_minus, sign_plus}
-use borrow.Author.Rules.{rules}
 use Rattle.signed_block.proofs.held.Goals as goal
 
 -- the two cases of a sum that is tried

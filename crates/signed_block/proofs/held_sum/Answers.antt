@@ -4,7 +4,6 @@ use Rattle.group_block.specs.Sum.{held}
 use Rattle.signed_number.proofs.Integers.{integer_is, canonical_is}
 use Rattle.signed_block.specs.Signed.{signed}
 use Rattle.signed_block.specs.Passed.{signed_summed}
-use borrow.Author.Rules.{rules}
 use Rattle.signed_block.proofs.held_sum.Goals as goal
 
 pub held-requires : goal.held-requires

@@ -4,7 +4,6 @@ use mathlib.Core.Bool.{false}
 use Rattle.group_layout.proofs.Laws.{valid_in}
 use Rattle.signed_block.proofs.Counters.{signed_coded}
 use Rattle.group_block.proofs.Halves.{join-left, join-right, join-both}
-use borrow.Author.Rules.{rules}
 use Rattle.signed_block.proofs.join.Goals as goal
 
 pub returns-then-left : goal.returns-then-left

@@ -1,6 +1,5 @@
 use native.Mathlib.Omega.{arith}
 use Rattle.signed_block.proofs.Counters.{top_twice, top_pos}
-use borrow.Author.Rules.{rules}
 use Rattle.signed_block.proofs.top.Goals as goal
 
 pub returns : goal.returns

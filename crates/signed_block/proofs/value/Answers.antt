@@ -12,7 +12,6 @@ use lib.Dec.{leb}
 use Rattle.signed_block.specs.Signed.{top, sign_read, not_minus_zero}
 use Rattle.signed_block.specs.Passed.{Canonical}
 use Rattle.signed_block.proofs.Counters.{top_twice, top_pos, read_minus}
-use borrow.Author.Rules.{rules}
 use Rattle.signed_block.proofs.value.Goals as goal
 
 -- the bits below the sign

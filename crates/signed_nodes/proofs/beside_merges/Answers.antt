@@ -4,7 +4,6 @@ use native.Mathlib.Omega.{arith}
 use lib.Bits.{or_shifted}
 use native.Mathlib.Nat.{mod-eq_of_lt, mul-le-mul}
 use lib.Pow.{pow_mono}
-use borrow.Author.Rules.{rules}
 use Rattle.signed_nodes.proofs.beside_merges.Goals as goal
 
 pub returns : goal.returns

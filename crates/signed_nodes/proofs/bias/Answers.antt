@@ -5,7 +5,6 @@ use Prim.Native.Nat.{◌+◌}
 use lib.Pow.{shl_exact}
 use Rattle.signed_nodes.specs.Nodes.{bias}
 use Rattle.signed_nodes.proofs.Integers.{bias_large, bias_small}
-use borrow.Author.Rules.{rules}
 use Rattle.signed_nodes.proofs.bias.Goals as goal
 
 pub returns : goal.returns

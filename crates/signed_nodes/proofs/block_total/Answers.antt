@@ -1,6 +1,5 @@
 use mathlib.Core.Path.{sym, ◌∙◌}
 use Rattle.signed_block.proofs.Counters.{total_merged}
-use borrow.Author.Rules.{rules}
 use Rattle.signed_nodes.proofs.block_total.Goals as goal
 
 pub returns-then-is_merged : goal.returns-then-is_merged

@@ -5,7 +5,6 @@ use Rattle.group_layout.specs.Layout.{layout}
 use Rattle.group_layout.specs.Merged.{is_merged}
 use Rattle.signed_nodes.proofs.Integers.{raised_next}
 use Rattle.signed_nodes.proofs.Nodes.{chosen-tells, raised_in}
-use borrow.Author.Rules.{rules}
 use Rattle.signed_nodes.proofs.formed.Goals as goal
 
 pub overflow_add-a : goal.overflow_add-a

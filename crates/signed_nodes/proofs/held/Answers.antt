@@ -1,5 +1,4 @@
 use Rattle.signed_nodes.proofs.Nodes.{held_tells}
-use borrow.Author.Rules.{rules}
 use Rattle.signed_nodes.proofs.held.Goals as goal
 
 pub returns : goal.returns

@@ -4,7 +4,6 @@ use native.Mathlib.Omega.{arith}
 use Rattle.signed_block.proofs.Counters.{top_most}
 use Rattle.signed_nodes.specs.Nodes.{bias}
 use Rattle.signed_nodes.proofs.Integers.{bits_sub_plus, bits_sub_minus}
-use borrow.Author.Rules.{rules}
 use Rattle.signed_nodes.proofs.sum_bits.Goals as goal
 
 pub overflow_add-result : goal.overflow_add-result

@@ -1,6 +1,5 @@
 use native.Mathlib.Omega.{arith}
 use borrow.Author.Tests.{lt-ltb, le-ltb}
-use borrow.Author.Rules.{rules}
 use Rattle.signed_number.proofs.distance.Goals as goal
 
 pub returns-then-a-b : goal.returns-then-a-b

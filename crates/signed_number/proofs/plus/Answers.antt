@@ -2,7 +2,6 @@ use mathlib.Core.Path.{◌≡◌, ap, ap₂, ◌∙◌}
 use mathlib.Core.Bool.{Bool}
 use Prim.Native.Nat.{ℕ}
 use lib.IntN.{◌+ℤ◌}
-use borrow.Author.Rules.{rules}
 use Rattle.signed_number.specs.Number.{integer, integer_of, signed_of}
 use Rattle.signed_number.proofs.Integers.{sum_parts, sum_size}
 use Rattle.signed_number.proofs.plus.Goals as goal

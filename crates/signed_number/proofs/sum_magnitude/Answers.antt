@@ -1,4 +1,3 @@
-use borrow.Author.Rules.{rules}
 use Rattle.signed_number.proofs.sum_magnitude.Goals as goal
 
 pub returns-then-a-b : goal.returns-then-a-b

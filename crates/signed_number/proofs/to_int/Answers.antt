@@ -4,7 +4,6 @@ use lib.IntN.{pos, neg_ℤ, +ℤ_idl}
 use mir.Syntax.{w64}
 use mir.Val.{SFits}
 use mir.Facts.{to_z-of_z, to_z_pos}
-use borrow.Author.Rules.{rules}
 use Rattle.signed_number.specs.Number.{times_sign}
 use Rattle.signed_number.proofs.to_int.Goals as goal
 

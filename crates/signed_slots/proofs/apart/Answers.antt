@@ -1,7 +1,6 @@
 use mathlib.Core.Path.{ap₂}
 use lib.Bits.{bit_xor}
 use Rattle.signed_slots.specs.Slots.{apart}
-use borrow.Author.Rules.{rules}
 use Rattle.signed_slots.proofs.apart.Goals as goal
 
 pub returns : goal.returns

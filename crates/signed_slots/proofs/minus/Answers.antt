@@ -4,7 +4,6 @@ use native.Mathlib.Omega.{arith}
 use lib.Bits.{bit_and, bit_xor}
 use Rattle.signed_slots.specs.Slots.{ones, lows, signs, minus}
 use Rattle.signed_slots.proofs.Unions.{raised_in}
-use borrow.Author.Rules.{rules}
 use Rattle.signed_slots.proofs.minus.Goals as goal
 
 pub overflow_add-size : goal.overflow_add-size

@@ -2,7 +2,6 @@ use mathlib.Core.Path.{ap, ap₂, ◌∙◌}
 use Prim.Native.Nat.{ℕ}
 use lib.Bits.{bit_and, bit_xor}
 use Rattle.signed_slots.specs.Slots.{ones, signs, over}
-use borrow.Author.Rules.{rules}
 use Rattle.signed_slots.proofs.over.Goals as goal
 
 pub returns : goal.returns

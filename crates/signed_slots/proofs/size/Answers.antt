@@ -2,7 +2,6 @@ use mathlib.Core.Path.{◌≡◌, ap, ap₂, ◌∙◌}
 use native.Mathlib.Omega.{arith}
 use Rattle.signed_slots.specs.Slots.{ones, lows, magnitudes, folded, size}
 use Rattle.signed_slots.proofs.Unions.{size_in, past_spread}
-use borrow.Author.Rules.{rules}
 use Rattle.signed_slots.proofs.size.Goals as goal
 use Rattle.signed_slots.proofs.size.Goals.{After-magnitudes}
 

@@ -4,7 +4,6 @@ use native.Mathlib.Omega.{arith}
 use lib.Bits.{bit_or}
 use Rattle.signed_slots.specs.Slots.{sums}
 use Rattle.signed_slots.proofs.Unions.{minus_product}
-use borrow.Author.Rules.{rules}
 use Rattle.signed_slots.proofs.sums.Goals as goal
 
 pub overflow_mul-result : goal.overflow_mul-result

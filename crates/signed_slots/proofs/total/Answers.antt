@@ -3,7 +3,6 @@ use Prim.Native.Nat.{◌+◌}
 use native.Mathlib.Omega.{arith}
 use Rattle.signed_slots.specs.Slots.{ones, lows, magnitudes, folded, apart, total}
 use Rattle.signed_slots.proofs.Unions.{total_in, folded-in, apart_spread}
-use borrow.Author.Rules.{rules}
 use Rattle.signed_slots.proofs.total.Goals as goal
 use Rattle.signed_slots.proofs.total.Goals.{After-folded, After-magnitudes-2}
 

@@ -6,7 +6,6 @@ use Rattle.group_block.specs.Block.{counter_value}
 use Rattle.signed_number.specs.Number.{integer_of}
 use Rattle.signed_block.specs.Signed.{top}
 use Rattle.signed_block.specs.Passed.{signed_block}
-use borrow.Author.Rules.{rules}
 use Rattle.signed_widening.proofs.add_widening.Goals as goal
 
 pub widened-wider-requires : goal.widened-wider-requires

@@ -1,5 +1,5 @@
-use mathlib.Core.Path.{◌≡◌, ap, ap₂, ◌∙◌}
-use Prim.Native.Nat.{ℕ, ◌+◌, ◌/◌, ◌%◌, ◌^◌, ◌≤◌, ◌<◌}
+use mathlib.Core.Path.{ap, ap₂, ◌∙◌}
+use Prim.Native.Nat.{ℕ, ◌+◌, ◌/◌, ◌%◌, ◌^◌, ◌<◌}
 use native.Mathlib.Nat.{mod-lt}
 use native.Mathlib.Numerals.{add-one}
 use native.Mathlib.Omega.{arith}
@@ -9,7 +9,6 @@ use Rattle.group_block.proofs.Laws.{cap_pos, high_lt}
 use Rattle.signed_number.specs.Number.{signed_of}
 use Rattle.signed_block.specs.Signed.{sign_read}
 use Rattle.signed_block.proofs.Counters.{top_half}
-use borrow.Author.Rules.{rules}
 use Rattle.signed_widening.proofs.twin_sum.Goals as goal
 use Rattle.signed_widening.proofs.twin_sum.Goals.{After-value_at-both}
 

@@ -4,7 +4,7 @@ use Prim.Native.Nat.{ℕ, suc, ◌+◌, ◌-◌, ◌*◌, ◌/◌, ◌%◌, ◌^
 use native.Mathlib.Nat.{mul-mod_left}
 use native.Mathlib.Numerals.{add-one}
 use native.Mathlib.Omega.{arith}
-use borrow.Author.Tests.{not-false, eqb-true}
+use borrow.Author.Tests.{eqb-true}
 use lib.IntN.{ℤ, ◌+ℤ◌, nat_abs}
 use Rattle.group_layout.specs.Layout.{layout, level_of}
 use Rattle.group_block.specs.Block.{cap}
@@ -15,7 +15,6 @@ use Rattle.signed_number.proofs.Integers.{integer_is, size_is, canonical_is}
 use Rattle.signed_block.specs.Signed.{top, sign_bits, sign_read}
 use Rattle.signed_block.specs.Passed.{signed_block, signed_summed}
 use Rattle.signed_block.proofs.Counters.{signed_coded}
-use borrow.Author.Rules.{rules}
 use Rattle.signed_widening.proofs.widened.Goals as goal
 use Rattle.signed_widening.proofs.widened.Goals.{After-place-at, After-plus-sum, Else-top-sum}
 

@@ -17,7 +17,6 @@ use Rattle.signed_block.specs.Signed.{top, sign_bits, sign_read}
 use Rattle.signed_block.specs.Passed.{signed_block}
 use Rattle.signed_block.proofs.Counters.{signed_codes}
 use Rattle.signed_words.proofs.Places.{level_of_lem, counter_in, value_is, stays}
-use borrow.Author.Rules.{rules}
 use Rattle.signed_words.proofs.add_in_place.Goals as goal
 use Rattle.signed_words.proofs.add_in_place.Goals.{After-add_to-k, After-counter_at-c, After-place, Else-not-k}
 

@@ -5,16 +5,14 @@ use native.Mathlib.Omega.{arith}
 use borrow.Author.Tests.{lt-ltb, le-ltb}
 use lib.IntN.{ℤ, ◌+ℤ◌, nat_abs}
 use Rattle.group_block.specs.Block.{cap}
-use Rattle.group_block.proofs.Laws.{cap_pos}
 use Rattle.signed_number.specs.Number.{integer_of}
 use Rattle.signed_number.proofs.Raised.{Raised}
 use Rattle.signed_block.specs.Signed.{top, sign_read}
 use Rattle.signed_block.proofs.Counters.{top_twice, top_most}
 use Rattle.signed_words.specs.Words as words
 use Rattle.signed_words.proofs.Raising.{raised_is, holds, lowered_is, moved-is, no_room, room_more}
-use borrow.Author.Rules.{rules}
 use Rattle.signed_words.proofs.add_to.Goals as goal
-use Rattle.signed_words.proofs.add_to.Goals.{After-moved, After-raised-before, After-room, After-top-sign, Else-room-amount}
+use Rattle.signed_words.proofs.add_to.Goals.{After-moved, After-raised-before, After-room, Else-room-amount}
 
 -- the raised value
 module _ (c : After-raised-before) where

@@ -1,10 +1,9 @@
-use mathlib.Core.Path.{◌≡◌, ap, ◌∙◌}
+use mathlib.Core.Path.{ap, ◌∙◌}
 use Prim.Native.Nat.{◌≤◌, ◌<◌}
 use native.Mathlib.Omega.{arith}
 use Rattle.group_block.specs.Block.{cap}
 use Rattle.signed_number.specs.Number.{signed_of}
 use Rattle.signed_words.proofs.Places.{level_of_lem, counter_in, value_is, clean-value}
-use borrow.Author.Rules.{rules}
 use Rattle.signed_words.proofs.counter_at.Goals as goal
 use Rattle.signed_words.proofs.counter_at.Goals.{After-counter_at-c}
 

@@ -1,6 +1,5 @@
 use borrow.Author.Tests.{lt-ltb, le-ltb}
 use Rattle.signed_words.specs.Words.{lowered}
-use borrow.Author.Rules.{rules}
 use Rattle.signed_words.proofs.lowered.Goals as goal
 
 pub returns-then-raised-top : goal.returns-then-raised-top

@@ -1,6 +1,5 @@
 use native.Mathlib.Omega.{arith}
 use Rattle.signed_words.specs.Words.{room, moved}
-use borrow.Author.Rules.{rules}
 use Rattle.signed_words.proofs.moved.Goals as goal
 
 pub overflow_sub-result : goal.overflow_sub-result

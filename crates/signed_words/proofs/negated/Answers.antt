@@ -4,7 +4,6 @@ use lib.Bits.{bit_xor}
 use Rattle.group_layout.specs.Layout.{layout}
 use Rattle.group_block.specs.Block.{cap, block_as}
 use Rattle.signed_words.proofs.Signs.{negated_is}
-use borrow.Author.Rules.{rules}
 use Rattle.signed_words.proofs.negated.Goals as goal
 
 pub returns : goal.returns

@@ -7,7 +7,6 @@ use Rattle.group_layout.specs.Layout.{layout}
 use Rattle.group_block.specs.Block.{cap}
 use Rattle.signed_words.specs.Words.{nonzero}
 use Rattle.signed_words.proofs.Signs.{clean_is}
-use borrow.Author.Rules.{rules}
 use Rattle.signed_words.proofs.no_minus_zero.Goals as goal
 
 pub returns : goal.returns

@@ -6,7 +6,6 @@ use Rattle.group_layout.specs.Layout.{layout}
 use Rattle.group_block.specs.Block.{cap}
 use Rattle.signed_words.specs.Words.{tops}
 use Rattle.signed_words.proofs.Signs.{turned_tops, sum_lt, nonzero_is}
-use borrow.Author.Rules.{rules}
 use Rattle.signed_words.proofs.nonzero.Goals as goal
 
 -- the bits of magnitudes

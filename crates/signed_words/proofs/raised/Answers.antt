@@ -1,6 +1,5 @@
 use borrow.Author.Tests.{lt-ltb, le-ltb}
 use Rattle.signed_words.specs.Words.{raised}
-use borrow.Author.Rules.{rules}
 use Rattle.signed_words.proofs.raised.Goals as goal
 
 pub returns-then-bits-top : goal.returns-then-bits-top

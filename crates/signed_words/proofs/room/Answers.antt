@@ -1,5 +1,4 @@
 use Rattle.signed_words.specs.Words.{room}
-use borrow.Author.Rules.{rules}
 use Rattle.signed_words.proofs.room.Goals as goal
 
 pub returns-then-minus : goal.returns-then-minus

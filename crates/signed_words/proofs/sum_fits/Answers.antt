@@ -3,7 +3,7 @@ use Prim.Native.Nat.{ℕ, ◌^◌}
 use native.Mathlib.Omega.{arith}
 use lib.Dec.{ltb}
 use lib.IntN.{ℤ, ◌+ℤ◌, nat_abs}
-use Rattle.group_block.specs.Block.{cap, total}
+use Rattle.group_block.specs.Block.{cap}
 use Rattle.group_sums.proofs.Places.{both_clear}
 use Rattle.signed_number.specs.declared.Signed.{Signed}
 use Rattle.signed_number.specs.Number.{times_sign}

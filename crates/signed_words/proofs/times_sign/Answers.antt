@@ -7,7 +7,6 @@ use Rattle.signed_block.specs.Signed.{times_block}
 use Rattle.signed_block.specs.Passed.{signed_block}
 use Rattle.signed_block.proofs.Counters.{signed_codes}
 use Rattle.signed_block.proofs.Times.{times_none}
-use borrow.Author.Rules.{rules}
 use Rattle.signed_words.proofs.times_sign.Goals as goal
 
 pub returns-then-minus : goal.returns-then-minus

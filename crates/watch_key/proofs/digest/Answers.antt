@@ -3,7 +3,6 @@ use native.Mathlib.Omega.{arith}
 use borrow.Author.Tests.{le-leb, lt-leb}
 use lib.Bits.{bit_xor}
 use Rattle.watch_key.specs.Digest.{digest_of}
-use borrow.Author.Rules.{rules}
 use Rattle.watch_key.proofs.digest.Goals as goal
 
 pub returns-then-size-ge8 : goal.returns-then-size-ge8

@@ -5,7 +5,6 @@ use native.Mathlib.Omega.{arith}
 use lib.ListN.{length, take, drop}
 use Rattle.meter_keys.specs.Keys.{same_key}
 use Rattle.watch_key.proofs.Keys.{key-of-place, other_length}
-use borrow.Author.Rules.{rules}
 use Rattle.watch_key.proofs.has_key.Goals as goal
 
 pub returns-then-wide-size : goal.returns-then-wide-size

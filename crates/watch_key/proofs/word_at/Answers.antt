@@ -1,6 +1,5 @@
 use mathlib.Core.Path.{ap, ◌∙◌}
 use Rattle.little_endian.specs.Bytes.{number}
-use borrow.Author.Rules.{rules}
 use Rattle.watch_key.proofs.word_at.Goals as goal
 
 pub returns : goal.returns

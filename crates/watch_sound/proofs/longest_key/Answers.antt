@@ -1,6 +1,5 @@
 use native.Mathlib.Omega.{arith}
 use borrow.Author.Tests.{lt-ltb, le-ltb}
-use borrow.Author.Rules.{rules}
 use Rattle.watch_sound.proofs.longest_key.Goals as goal
 
 pub returns-then-k-n-lt128 : goal.returns-then-k-n-lt128

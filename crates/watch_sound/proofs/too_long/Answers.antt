@@ -1,11 +1,10 @@
-use mathlib.Core.Path.{◌≡◌, ap, ◌∙◌}
-use Prim.Native.Nat.{ℕ, ◌+◌, ◌-◌, ◌≤◌}
+use mathlib.Core.Path.{ap, ◌∙◌}
+use Prim.Native.Nat.{ℕ, ◌-◌}
 use native.Mathlib.Nat.{sub-zero}
 use native.Mathlib.Omega.{arith}
-use lib.ListN.{length, get_or, drop}
-use Rattle.watch_sound.specs.Lengths.{above_at, too_long}
+use lib.ListN.{get_or}
+use Rattle.watch_sound.specs.Lengths.{above_at}
 use Rattle.watch_sound.proofs.Lengths.{long-turn, long-end}
-use borrow.Author.Rules.{rules}
 use Rattle.watch_sound.proofs.too_long.Goals as goal
 
 pub loop-k-init : goal.loop-k-init

@@ -1,11 +1,7 @@
-use mathlib.Core.Path.{◌≡◌, ap, ◌∙◌}
-use Prim.Native.Nat.{ℕ, ◌+◌, ◌-◌, ◌≤◌}
-use native.Mathlib.Nat.{sub-zero}
-use native.Mathlib.Omega.{arith}
-use lib.ListN.{length, get_or, drop}
-use Rattle.watch_sound.specs.Lengths.{above_at, too_long}
-use Rattle.watch_sound.proofs.Lengths.{long-turn, long-end}
-use borrow.Author.Rules.{rules}
+use mathlib.Core.Path.{◌≡◌}
+use Prim.Native.Nat.{◌+◌, ◌-◌, ◌≤◌}
+use lib.ListN.{length, drop}
+use Rattle.watch_sound.specs.Lengths.{too_long}
 use Rattle.watch_sound.proofs.too_long.Given as goal
 
 abbrev pub invariant-loop-k : goal.invariant-loop-k

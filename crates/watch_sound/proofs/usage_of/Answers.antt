@@ -1,6 +1,5 @@
 use mathlib.Core.Path.{sym}
 use Rattle.watch_sound.proofs.Lengths.{sound-is}
-use borrow.Author.Rules.{rules}
 use Rattle.watch_sound.proofs.usage_of.Goals as goal
 
 pub returns : goal.returns

@@ -1,6 +1,4 @@
 use mathlib.Core.Path.{sym, ◌∙◌}
-use borrow.Author.Tests.{not-true}
-use borrow.Author.Rules.{rules}
 use Rattle.word.specs.Word.{below}
 use Rattle.word.proofs.Laws.{not_due}
 use Rattle.word.proofs.below.Goals as goal

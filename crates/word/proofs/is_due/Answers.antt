@@ -1,6 +1,5 @@
 use borrow.Author.Tests.{lt-ltb, le-ltb}
 use Rattle.word.specs.Word.{is_due}
-use borrow.Author.Rules.{rules}
 use Rattle.word.proofs.is_due.Goals as goal
 
 pub returns-then-p-words : goal.returns-then-p-words

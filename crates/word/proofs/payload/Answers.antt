@@ -4,7 +4,6 @@ use Prim.Native.Nat.{ℕ, ◌%◌, ◌^◌}
 use native.Mathlib.Omega.{arith}
 use Rattle.word.specs.Word.{payload}
 use lib.Bits.{and_mask}
-use borrow.Author.Rules.{rules}
 use Rattle.word.proofs.payload.Goals as goal
 
 pub returns-then-p-words-clause-value : goal.returns-then-p-words-clause-value

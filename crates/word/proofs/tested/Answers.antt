@@ -1,10 +1,8 @@
 use mathlib.Core.Path.{◌≡◌, sym, ◌∙◌}
 use mathlib.Core.Bool.{true, false}
 use native.Mathlib.Omega.{arith}
-use borrow.Author.Tests.{not-true, not-false}
 use Rattle.word.specs.Word.{is_due, tested}
 use Rattle.word.proofs.Laws.{due_in}
-use borrow.Author.Rules.{rules}
 use Rattle.word.proofs.tested.Goals as goal
 
 pub returns-then-not-is_due : goal.returns-then-not-is_due

@@ -1,10 +1,9 @@
 use lib.Seq.{length-take-le}
 use mathlib.Core.Path.{◌≡◌, refl, sym, ap, ◌∙◌}
 use mathlib.Core.List.{◌++◌}
-use Prim.Native.Nat.{◌-◌, ◌/◌, ◌≤◌, min}
+use Prim.Native.Nat.{◌-◌, ◌≤◌, min}
 use native.Mathlib.Omega.{arith}
 use lib.ListN.{length, take, drop, length-set}
-use borrow.Author.Rules.{rules}
 use Rattle.word_bytes.specs.Words.{whole_words}
 use Rattle.laws.proofs.Lists.{copy_more}
 use Rattle.word_bytes.proofs.Laws.{words_length, lent_words}

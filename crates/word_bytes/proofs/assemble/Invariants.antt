@@ -1,13 +1,8 @@
-use lib.Seq.{length-take-le}
-use mathlib.Core.Path.{◌≡◌, refl, sym, ap, ◌∙◌}
+use mathlib.Core.Path.{◌≡◌}
 use mathlib.Core.List.{◌++◌}
 use Prim.Native.Nat.{◌-◌, ◌/◌, ◌≤◌, min}
-use native.Mathlib.Omega.{arith}
-use lib.ListN.{length, take, drop, length-set}
-use borrow.Author.Rules.{rules}
+use lib.ListN.{length, take, drop}
 use Rattle.word_bytes.specs.Words.{whole_words}
-use Rattle.laws.proofs.Lists.{copy_more}
-use Rattle.word_bytes.proofs.Laws.{words_length, lent_words}
 use Rattle.word_bytes.proofs.assemble.Given as goal
 
 abbrev pub invariant-loop-i : goal.invariant-loop-i

@@ -1,6 +1,5 @@
 use mathlib.Core.Path.{sym, ◌∙◌}
 use Rattle.word_bytes.proofs.Laws.{word_at}
-use borrow.Author.Rules.{rules}
 use Rattle.word_bytes.proofs.word_at.Goals as goal
 
 pub returns : goal.returns

@@ -1,6 +1,5 @@
 use Prim.Native.Nat.{◌/◌, ◌^◌}
 use native.Mathlib.Omega.{arith}
-use borrow.Author.Rules.{rules}
 use lib.Pow.{pow_pos}
 use Rattle.laws.proofs.Shifts.{one_shl}
 use Rattle.group_fields.proofs.Masks.{masked}

@@ -1,4 +1,3 @@
-use borrow.Author.Rules.{rules}
 use Rattle.group_fields.specs.Fields.{counts_of}
 use Rattle.group_fields.proofs.Fields.counts.Goals as goal
 

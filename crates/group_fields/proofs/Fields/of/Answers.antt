@@ -1,6 +1,5 @@
 use mathlib.Core.Path.{ap}
 use Prim.Native.Nat.{ℕ}
-use borrow.Author.Rules.{rules}
 use Rattle.group_fields.specs.Fields.{fields_of}
 use Rattle.group_fields.proofs.Fields.of.Goals as goal
 

@@ -4,7 +4,6 @@ use native.Mathlib.Nat.{mod-lt}
 use native.Mathlib.Omega.{arith}
 use lib.Bits.{bit_and}
 use lib.Pow.{pow_pos, shl_exact}
-use borrow.Author.Rules.{rules}
 use Rattle.laws.proofs.Shifts.{one_shl}
 use Rattle.group_fields.proofs.Masks.{masked}
 use Rattle.group_fields.proofs.Fields.put.Goals as goal

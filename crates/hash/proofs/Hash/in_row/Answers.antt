@@ -1,7 +1,6 @@
 use mathlib.Core.Path.{ap, ◌∙◌}
 use Prim.Native.Nat.{ℕ}
 use Rattle.hash.specs.Hash.{fnv}
-use borrow.Author.Rules.{rules}
 use Rattle.hash.proofs.Hash.in_row.Goals as goal
 
 pub returns : goal.returns

@@ -1,10 +1,7 @@
-use mathlib.Core.Path.{◌≡◌, refl}
+use mathlib.Core.Path.{◌≡◌}
 use Prim.Native.Nat.{◌-◌, ◌≤◌}
-use native.Mathlib.Omega.{arith}
-use borrow.Author.Rules.{rules}
 use lib.ListN.{length, drop}
 use Rattle.hash.specs.Hash.{fnv}
-use Rattle.hash.proofs.Hashing.{run-turn, run_end}
 use Rattle.hash.proofs.Hash.run.Given as goal
 
 abbrev pub invariant-loop-i : goal.invariant-loop-i

@@ -1,9 +1,6 @@
-use mathlib.Core.Path.{◌≡◌, refl}
-use Prim.Native.Nat.{◌-◌, ◌≤◌}
+use mathlib.Core.Path.{refl}
+use Prim.Native.Nat.{◌-◌}
 use native.Mathlib.Omega.{arith}
-use borrow.Author.Rules.{rules}
-use lib.ListN.{length, drop}
-use Rattle.hash.specs.Hash.{fnv}
 use Rattle.hash.proofs.Hashing.{run-turn, run_end}
 use Rattle.meter_keys.proofs.Four.run.Goals as goal
 

@@ -1,0 +1,57 @@
+use mathlib.Core.Path.{sym, ap, ◌∙◌}
+use mathlib.Core.List.{List, ◌++◌}
+use Prim.Native.Nat.{ℕ, ◌+◌, ◌*◌, ◌≤◌}
+use native.Mathlib.Omega.{arith}
+use lib.ListN.{take, drop}
+use Rattle.laws.proofs.Lists.{Bytes}
+use Rattle.watch_list.specs.Layout.{estimates_at}
+use Rattle.watch_list.specs.Parts.{Holds}
+use Rattle.watch_list.proofs.Places.{in-use-most}
+use Rattle.watch_list.proofs.Changes.{renewed-is, below_is, full_is, joined_is}
+use Rattle.watch_places.proofs.Pasting.{put_eight}
+use borrow.Author.Rules.{rules}
+use Rattle.watch_places.proofs.note.Goals as goal
+
+most : (xs : List ℕ) (n : ℕ) → Holds xs n → n ≤ 64
+most xs n h = omega (arith, h.entries, in-use-most xs h.long)
+
+pub overflow_mul-i : goal.overflow_mul-i
+overflow_mul-i c = record { fits = omega (arith, most c.args.list.now c.args.n c.requires.fact_1) }
+
+pub overflow_add-i : goal.overflow_add-i
+overflow_add-i c = record { fits = omega (arith, most c.args.list.now c.args.n c.requires.fact_1) }
+
+pub put_eight-requires : goal.put_eight-requires
+put_eight-requires c = omega (arith, most c.args.list.now c.args.n c.requires.fact_1, c.requires.fact_1.long)
+
+pub returns-then-i-n : goal.returns-then-i-n
+returns-then-i-n c = let a = c.args in
+    let small : Bytes a.list.now = λ i. search rules in
+    let at = estimates_at + c.find-i.result * 8 in
+    c.put_eight.ensures
+    ∙ ap (λ (ys : List ℕ). take at a.list.now ++ ys ++ drop (at + 8) a.list.now) c.bytes_of.ensures
+    ∙ put_eight a.list.now at a.estimate
+    ∙ sym (renewed-is a.list.now a.n c.requires.fact_1 small a.key.now c.find-i.result c.find-i.ensures.value c.if-i-n.true a.estimate a.threshold)
+
+pub returns-then-estimate-threshold : goal.returns-then-estimate-threshold
+returns-then-estimate-threshold c = let a = c.args in
+    let small : Bytes a.list.now = λ i. search rules in
+    let last = c.find-i.ensures.upper_bound in
+    sym (below_is a.list.now a.n c.requires.fact_1 small a.key.now c.find-i.result c.find-i.ensures.value (omega arith) a.estimate a.threshold c.if-estimate-threshold.true)
+
+pub returns-then-n-eq64 : goal.returns-then-n-eq64
+returns-then-n-eq64 c = let a = c.args in
+    let small : Bytes a.list.now = λ i. search rules in
+    let last = c.find-i.ensures.upper_bound in
+    sym (full_is a.list.now a.n c.requires.fact_1 small a.key.now c.find-i.result c.find-i.ensures.value (omega arith) a.estimate a.threshold c.if-estimate-threshold.false c.if-n-eq64.true)
+
+pub join-requires : goal.join-requires
+join-requires c = let m = most c.args.list.now c.args.n c.requires.fact_1 in record { fact_1 = c.requires.fact_1.long; fact_2 = omega arith; fact_3 = c.requires.fact_2.1 }
+
+pub returns : goal.returns
+returns c = let a = c.args in
+    let small : Bytes a.list.now = λ i. search rules in
+    let last = c.find-i.ensures.upper_bound in
+    let m = most a.list.now a.n c.requires.fact_1 in
+    c.join.ensures
+    ∙ sym (joined_is a.list.now a.n c.requires.fact_1 small a.key.now c.find-i.result c.find-i.ensures.value (omega arith) a.estimate a.threshold c.if-estimate-threshold.false (omega arith) c.requires.fact_2)
