@@ -11,7 +11,6 @@ use Rattle.signed_number.specs.Number.{integer}
 use Rattle.signed_block.specs.Signed.{signed}
 use Rattle.signed_group.specs.Group.{bad_group, decode}
 use Rattle.signed_group.proofs.Laws.{Clean, good_clean, stored_is, added-refused, added-settled}
-use borrow.Author.Rules.{rules}
 use Rattle.signed_group.proofs.add.Goals as goal
 use Rattle.signed_group.proofs.add.Goals.{After-number_of-word}
 

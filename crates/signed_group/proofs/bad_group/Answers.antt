@@ -1,12 +1,10 @@
 use mathlib.Core.Path.{◌≡◌, sym, ap, ◌∙◌}
 use mathlib.Core.Bool.{true}
-use borrow.Author.Tests.{not-true, not-false}
 use Rattle.group_layout.specs.Layout.{layout, valid}
 use Rattle.group_block.specs.Block.{all_clean}
 use Rattle.signed_block.specs.Signed.{signed}
 use Rattle.little_endian.specs.Bytes.{number}
 use Rattle.signed_group.proofs.Laws.{bad_invalid, bad_minus_zero, clean_good}
-use borrow.Author.Rules.{rules}
 use Rattle.signed_group.proofs.bad_group.Goals as goal
 use Rattle.signed_group.proofs.bad_group.Goals.{After-no_minus_zero, Else-not-is_valid}
 

@@ -1,7 +1,6 @@
 use mathlib.Core.Path.{sym, ap₂, ◌∙◌}
 use Rattle.answer.specs.Order.{earlier}
 use Rattle.signed_group.specs.Group.{bad_pair}
-use borrow.Author.Rules.{rules}
 use Rattle.signed_group.proofs.bad_pair.Goals as goal
 
 pub returns-then-clean_pair : goal.returns-then-clean_pair

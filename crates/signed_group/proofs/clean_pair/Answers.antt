@@ -1,13 +1,11 @@
 use mathlib.Core.Path.{◌≡◌, sym, ap, ◌∙◌}
 use mathlib.Core.Bool.{true≢false}
 use native.Mathlib.Omega.{arith}
-use borrow.Author.Tests.{not-false}
 use lib.Bits.{or_add_and, and_le_l, and_le_r}
 use Rattle.group_layout.specs.Layout.{layout}
 use Rattle.group_block.specs.Block.{all_clean}
 use Rattle.signed_block.specs.Signed.{signed}
 use Rattle.signed_group.proofs.Laws.{clean_pair, unmerged_valid, unmerged_clean}
-use borrow.Author.Rules.{rules}
 use Rattle.signed_group.proofs.clean_pair.Goals as goal
 
 pub returns-then-target-source-ne0 : goal.returns-then-target-source-ne0

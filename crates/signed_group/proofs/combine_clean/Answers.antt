@@ -11,7 +11,6 @@ use Rattle.signed_block.specs.Passed.{signed_summed, signed_block}
 use Rattle.signed_words.proofs.Totals.{turned-clean, turned-block}
 use Rattle.signed_group.specs.Group.{decode}
 use Rattle.signed_group.proofs.Laws.{Clean, pair_clean, combined-settled}
-use borrow.Author.Rules.{rules}
 use Rattle.signed_group.proofs.combine_clean.Goals as goal
 use Rattle.signed_group.proofs.combine_clean.Goals.{After-number_of}
 

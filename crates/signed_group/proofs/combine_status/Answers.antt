@@ -8,7 +8,6 @@ use Rattle.group.specs.declared.Outcome.{Outcome}
 use Rattle.signed_words.specs.Words.{sum_fits}
 use Rattle.signed_group.specs.Group.{bad_pair, decode}
 use Rattle.signed_group.proofs.Laws.{combined-refused, status-fits, status-full}
-use borrow.Author.Rules.{rules}
 use Rattle.signed_group.proofs.combine_status.Goals as goal
 use Rattle.signed_group.proofs.combine_status.Goals.{After-sum_fits}
 

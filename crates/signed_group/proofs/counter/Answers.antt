@@ -12,7 +12,6 @@ use Rattle.signed_block.specs.Passed.{signed_block}
 use Rattle.signed_block.proofs.Counters.{top_most}
 use Rattle.signed_group.specs.Group.{bad_group, decode, read}
 use Rattle.signed_group.proofs.Laws.{Clean, good_clean}
-use borrow.Author.Rules.{rules}
 use Rattle.signed_group.proofs.counter.Goals as goal
 use Rattle.signed_group.proofs.counter.Goals.{Else-status-ne0}
 

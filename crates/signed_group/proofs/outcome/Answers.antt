@@ -1,6 +1,5 @@
 use mathlib.Core.Path.{◌∙◌}
 use Rattle.signed_group.proofs.Laws.{stored_is, full_is}
-use borrow.Author.Rules.{rules}
 use Rattle.signed_group.proofs.outcome.Goals as goal
 
 pub returns-then-s : goal.returns-then-s

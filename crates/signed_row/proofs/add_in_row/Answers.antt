@@ -2,7 +2,6 @@ use Prim.Native.Nat.{◌/◌}
 use native.Mathlib.Omega.{arith}
 use Rattle.geometry.proofs.Widths.{slot_in, group_in}
 use Rattle.signed_row.specs.Row.{added_in}
-use borrow.Author.Rules.{rules}
 use Rattle.signed_row.proofs.add_in_row.Goals as goal
 
 pub load-requires : goal.load-requires

@@ -1,8 +1,6 @@
 use mathlib.Core.Path.{sym, ◌∙◌}
-use mathlib.Core.Bool.{true, true≢false}
+use mathlib.Core.Bool.{true≢false}
 use Prim.Native.Nat.{◌*◌}
-use borrow.Author.Tests.{not-false}
-use borrow.Author.Rules.{rules}
 use Rattle.meter_memory.proofs.Lists.{lent}
 use Rattle.meter_runs.proofs.Runs.{status-none}
 use Rattle.signed_group.specs.Group.{combined}

@@ -1,16 +1,9 @@
-use mathlib.Core.Path.{◌≡◌, refl, sym, ap, ap₂, ◌∙◌}
-use Prim.Native.Nat.{ℕ, ◌+◌, ◌-◌, ◌≤◌}
-use native.Mathlib.Omega.{arith}
-use borrow.Author.Rules.{rules}
+use mathlib.Core.Path.{◌≡◌}
+use Prim.Native.Nat.{◌+◌, ◌-◌, ◌≤◌}
 use lib.ListN.{length}
-use Rattle.group.specs.declared.Group.{Group}
-use Rattle.meter_memory.specs.Rows.{with_group}
-use Rattle.meter_memory.specs.Pairs.{paired_at, pair_status, pair_groups}
-use Rattle.meter_memory.proofs.Pairs.{pair-run, pair_end}
+use Rattle.meter_memory.specs.Pairs.{pair_groups}
 use Rattle.meter_runs.specs.Runs.{RunTaken}
-use Rattle.meter_runs.proofs.Runs.{taken-after}
 use Rattle.signed_group.specs.Group.{combined}
-use Rattle.signed_group.proofs.Outcomes.{combined-clean, combined-eight}
 use Rattle.signed_row.proofs.combine_groups.Given as goal
 
 abbrev pub invariant-loop-g : goal.invariant-loop-g

@@ -1,19 +1,9 @@
-use mathlib.Core.Path.{◌≡◌, refl, ap, ◌∙◌}
-use mathlib.Core.List.{List}
-use mathlib.Core.Logic.{⊎_elim}
-use Prim.Native.Nat.{ℕ, ◌+◌, ◌-◌, ◌*◌, ◌/◌, ◌%◌, ◌≤◌}
-use native.Mathlib.Omega.{arith}
-use borrow.Author.Tests.{not-true, not-false}
-use borrow.Author.Rules.{rules}
+use mathlib.Core.Path.{◌≡◌}
+use Prim.Native.Nat.{◌-◌, ◌*◌, ◌/◌, ◌≤◌}
 use lib.ListN.{length}
-use Rattle.geometry.proofs.Widths.{stride_is}
-use Rattle.meter_memory.specs.Pairs.{pair_status, pair_groups, pair_row}
-use Rattle.meter_memory.proofs.Pairs.{pair-run}
-use Rattle.meter_memory.proofs.Written.{row_taken}
+use Rattle.meter_memory.specs.Pairs.{pair_groups, pair_row}
 use Rattle.meter_runs.specs.Runs.{RunTaken}
-use Rattle.meter_runs.proofs.Runs.{taken-after}
 use Rattle.signed_group.specs.Group.{combined}
-use Rattle.signed_group.proofs.Outcomes.{combined-eight}
 use Rattle.signed_row.proofs.combine_row.Given as goal
 
 abbrev pub invariant-loop-e : goal.invariant-loop-e

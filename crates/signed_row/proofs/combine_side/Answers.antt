@@ -1,7 +1,5 @@
 use mathlib.Core.Path.{sym, ap, ◌∙◌}
 use Prim.Native.Nat.{◌*◌}
-use borrow.Author.Tests.{not-false}
-use borrow.Author.Rules.{rules}
 use Rattle.group.specs.declared.Outcome.{Outcome}
 use Rattle.meter_memory.proofs.Lists.{lent}
 use Rattle.meter_runs.proofs.Runs.{side-back}

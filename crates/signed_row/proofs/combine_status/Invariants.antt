@@ -1,15 +1,8 @@
-use mathlib.Core.Path.{◌≡◌, refl, sym, ap, ◌∙◌}
-use mathlib.Core.Logic.{⊎_elim}
-use Prim.Native.Nat.{ℕ, ◌+◌, ◌-◌, ◌*◌, ◌/◌, ◌%◌, ◌≤◌}
-use native.Mathlib.Omega.{arith}
-use borrow.Author.Tests.{not-false}
-use borrow.Author.Rules.{rules}
+use mathlib.Core.Path.{◌≡◌}
+use Prim.Native.Nat.{◌-◌, ◌*◌, ◌/◌, ◌≤◌}
 use Rattle.answer.specs.Order.{earlier}
-use Rattle.answer.proofs.Order.{earlier_none}
-use Rattle.geometry.proofs.Widths.{stride_is}
 use Rattle.meter_memory.specs.Pairs.{pairs_status}
 use Rattle.meter_runs.specs.Runs.{run_status}
-use Rattle.meter_runs.proofs.Runs.{status-next}
 use Rattle.signed_group.specs.Group.{combined}
 use Rattle.signed_row.proofs.combine_status.Given as goal
 

@@ -1,13 +1,6 @@
-use mathlib.Core.Path.{◌≡◌, refl, sym, ap, ap₂, ◌∙◌}
-use mathlib.Core.Logic.{⊎_elim}
-use Prim.Native.Nat.{ℕ, ◌+◌, ◌-◌, ◌≤◌}
-use native.Mathlib.Omega.{arith}
-use borrow.Author.Rules.{rules}
+use mathlib.Core.Path.{◌≡◌}
+use Prim.Native.Nat.{◌+◌, ◌-◌, ◌≤◌}
 use Rattle.answer.specs.Order.{earlier}
-use Rattle.answer.proofs.Order.{earlier_none}
-use Rattle.group.specs.declared.Group.{Group}
-use Rattle.meter_memory.specs.Pairs.{paired_at, pair_status}
-use Rattle.meter_memory.proofs.Lists.{status-turn, status-end}
 use Rattle.meter_runs.specs.Runs.{run_status}
 use Rattle.signed_group.specs.Group.{combined}
 use Rattle.signed_row.proofs.groups_status.Given as goal

@@ -1,8 +1,6 @@
-use mathlib.Core.Path.{◌≡◌}
 use Prim.Native.Nat.{◌/◌}
 use native.Mathlib.Omega.{arith}
 use Rattle.geometry.proofs.Widths.{slot_in, group_in}
-use borrow.Author.Rules.{rules}
 use Rattle.signed_row.proofs.read_row.Goals as goal
 
 pub load-requires : goal.load-requires

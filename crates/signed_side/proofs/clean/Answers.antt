@@ -1,5 +1,4 @@
-use Rattle.std.proofs.Common.{◌≡◌, ◌-◌, ◌≤◌, arith, rules, eqb-true}
-use Rattle.signed_side.specs.Side.{NoMinusZeros}
+use Rattle.std.proofs.Common.{arith, eqb-true}
 use Rattle.signed_side.proofs.Sums.{zeros_turn}
 use Rattle.signed_side.proofs.Groups.{side-accepted}
 use Rattle.signed_side.proofs.clean.Goals as goal

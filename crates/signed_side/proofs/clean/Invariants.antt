@@ -1,7 +1,5 @@
-use Rattle.std.proofs.Common.{◌≡◌, ◌-◌, ◌≤◌, arith, rules, eqb-true}
+use Rattle.std.proofs.Common.{◌≡◌, ◌≤◌}
 use Rattle.signed_side.specs.Side.{NoMinusZeros}
-use Rattle.signed_side.proofs.Sums.{zeros_turn}
-use Rattle.signed_side.proofs.Groups.{side-accepted}
 use Rattle.signed_side.proofs.clean.Given as goal
 
 abbrev pub invariant-loop-i : goal.invariant-loop-i

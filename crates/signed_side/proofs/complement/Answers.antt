@@ -1,4 +1,4 @@
-use Rattle.std.proofs.Common.{arith, rules, le-ltb, lt-ltb}
+use Rattle.std.proofs.Common.{arith, le-ltb, lt-ltb}
 use Rattle.signed_side.specs.Side.{complement}
 use Rattle.signed_side.proofs.complement.Goals as goal
 

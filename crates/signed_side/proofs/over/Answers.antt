@@ -1,4 +1,4 @@
-use Rattle.std.proofs.Common.{◌∙◌, arith, rules}
+use Rattle.std.proofs.Common.{◌∙◌, arith}
 use lib.Bits.{bit_and, bit_xor}
 use Rattle.signed_side.proofs.Sums.{or_above, unmarked, no_overflow}
 use Rattle.signed_side.proofs.over.Goals as goal

@@ -1,4 +1,4 @@
-use Rattle.std.proofs.Common.{ap, ◌∙◌, arith, rules}
+use Rattle.std.proofs.Common.{ap, ◌∙◌, arith}
 use lib.Bits.{bit_or}
 use Rattle.signed_side.specs.Side.{times}
 use Rattle.signed_side.proofs.Sums.{or_above, unmarked, slot_held}

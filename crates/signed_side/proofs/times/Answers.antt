@@ -1,4 +1,4 @@
-use Rattle.std.proofs.Common.{arith, rules}
+use Rattle.std.proofs.Common.{arith}
 use Rattle.signed_side.specs.Side.{times}
 use Rattle.signed_side.proofs.times.Goals as goal
 

@@ -1,13 +1,10 @@
-use mathlib.Core.Path.{refl, ◌∙◌, ◌≡◌}
+use mathlib.Core.Path.{refl, ◌∙◌}
 use native.Mathlib.Omega.{arith}
-use lib.ListN.{set, length-set, length, get_or}
+use lib.ListN.{set, length-set, get_or}
 use lib.Seq.{get_or-set_same, get_or-set_other}
 use Rattle.signed_union.proofs.Slots.{halves-slotted, nodes-small, nodes-beside}
-use mathlib.Core.Bool.{false}
-use Prim.Native.Nat.{ℕ, ◌-◌, ◌≤◌, ◌<◌}
-use borrow.Author.Rules.{rules}
+use Prim.Native.Nat.{ℕ, ◌<◌}
 use borrow.Author.Count.{below_more}
-use Rattle.signed_nodes.specs.declared.Node.{Node}
 use Rattle.signed_union.specs.Slotted.{NodeOf, halves_of}
 use Rattle.signed_union.proofs.eight_slots.Invariants.{none}
 use Rattle.signed_union.proofs.eight_slots.Goals as goal

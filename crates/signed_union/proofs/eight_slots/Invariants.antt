@@ -1,12 +1,7 @@
-use mathlib.Core.Path.{refl, ◌∙◌, ◌≡◌}
-use native.Mathlib.Omega.{arith}
-use lib.ListN.{set, length-set, length, get_or}
-use lib.Seq.{get_or-set_same, get_or-set_other}
-use Rattle.signed_union.proofs.Slots.{halves-slotted, nodes-small, nodes-beside}
+use mathlib.Core.Path.{◌≡◌}
+use lib.ListN.{length, get_or}
 use mathlib.Core.Bool.{false}
-use Prim.Native.Nat.{ℕ, ◌-◌, ◌≤◌, ◌<◌}
-use borrow.Author.Rules.{rules}
-use borrow.Author.Count.{below_more}
+use Prim.Native.Nat.{ℕ, ◌≤◌, ◌<◌}
 use Rattle.signed_nodes.specs.declared.Node.{Node}
 use Rattle.signed_union.specs.Slotted.{NodeOf, halves_of}
 use Rattle.signed_union.proofs.eight_slots.Given as goal

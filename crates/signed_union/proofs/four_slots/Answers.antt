@@ -1,7 +1,6 @@
 use native.Mathlib.Omega.{arith}
 use Rattle.signed_union.specs.Slotted.{NodeOf, halves_of}
 use Rattle.signed_union.proofs.Slots.{halves-slotted, nodes-small, nodes-beside}
-use borrow.Author.Rules.{rules}
 use Rattle.signed_union.proofs.four_slots.Goals as goal
 use Rattle.signed_union.proofs.four_slots.Goals.{After-two_slots-right}
 

@@ -4,7 +4,6 @@ use native.Mathlib.Nat.{mul-le-mul}
 use native.Mathlib.Numerals.{add-one}
 use native.Mathlib.Omega.{arith}
 use Rattle.signed_union.proofs.Slots.{half_is}
-use borrow.Author.Rules.{rules}
 use Rattle.signed_union.proofs.half_merge.Goals as goal
 
 pub overflow_mul-h : goal.overflow_mul-h

@@ -5,7 +5,6 @@ use native.Mathlib.Numerals.{add-one}
 use native.Mathlib.Omega.{arith}
 use Rattle.group_block.specs.Block.{cap}
 use Rattle.signed_union.proofs.Slots.{half_is}
-use borrow.Author.Rules.{rules}
 use Rattle.signed_union.proofs.half_word.Goals as goal
 
 pub overflow_mul-h : goal.overflow_mul-h

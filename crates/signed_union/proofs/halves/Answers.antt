@@ -5,7 +5,6 @@ use lib.Dec.{eqb}
 use Rattle.signed_union.specs.declared.Blocks.{Blocks}
 use Rattle.signed_union.specs.Slotted.{lefts_of, rights_of, halves_of}
 use Rattle.signed_union.proofs.Slots.{sums-in, overs-in}
-use borrow.Author.Rules.{rules}
 use Rattle.signed_union.proofs.halves.Goals as goal
 
 -- a choice of two, part by part

@@ -3,7 +3,6 @@ use native.Mathlib.Omega.{arith}
 use native.Mathlib.Nat.{mod-lt}
 use Rattle.group_block.proofs.Laws.{cap_pos, high_lt}
 use Rattle.signed_nodes.proofs.Integers.{raised_sum}
-use borrow.Author.Rules.{rules}
 use Rattle.signed_union.proofs.slots_total.Goals as goal
 
 pub raised-requires : goal.raised-requires

@@ -1,6 +1,5 @@
 use native.Mathlib.Omega.{arith}
 use Rattle.signed_union.proofs.Slots.{two_sides}
-use borrow.Author.Rules.{rules}
 use Rattle.signed_union.proofs.two_slots.Goals as goal
 
 pub formed-requires : goal.formed-requires

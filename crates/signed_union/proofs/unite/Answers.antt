@@ -9,7 +9,6 @@ use Rattle.group_block.specs.Block.{cap}
 use Rattle.signed_slots.proofs.Unions.{stay}
 use Rattle.signed_slots.proofs.Blocks.{sums-eight, over-eight}
 use Rattle.signed_nodes.proofs.Nodes.{or_false}
-use borrow.Author.Rules.{rules}
 use Rattle.signed_union.proofs.unite.Goals as goal
 
 pub returns-then-b-eq0 : goal.returns-then-b-eq0

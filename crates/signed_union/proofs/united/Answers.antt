@@ -4,14 +4,13 @@ use Prim.Native.Nat.{◌+◌, ◌<◌}
 use native.Mathlib.Omega.{arith}
 use lib.IntN.{ℤ, ◌+ℤ◌, nat_abs}
 use Rattle.group_block.specs.Block.{total}
-use Rattle.group_block.specs.Sum.{SumOf, held}
+use Rattle.group_block.specs.Sum.{SumOf}
 use Rattle.signed_block.specs.Signed.{signed, top}
 use Rattle.signed_block.specs.Passed.{signed_block, signed_summed}
 use Rattle.signed_block.proofs.Counters.{signed_sums}
 use Rattle.signed_nodes.specs.Nodes.{bias, Raised}
 use Rattle.signed_nodes.proofs.Integers.{raised_lt, raised_next}
 use Rattle.signed_nodes.proofs.Nodes.{apart_in, held_is}
-use borrow.Author.Rules.{rules}
 use Rattle.signed_union.proofs.united.Goals as goal
 use Rattle.signed_union.proofs.united.Goals.{After-eight_slots-sides}
 

@@ -1,4 +1,3 @@
-use borrow.Author.Rules.{rules}
 use Rattle.geometry.proofs.Widths.{wide}
 use Rattle.meter_memory.specs.Rows.{row_of}
 use Rattle.signed_update.proofs.add_at.Goals as goal

@@ -1,4 +1,3 @@
-use borrow.Author.Rules.{rules}
 use Rattle.geometry.proofs.Widths.{wide}
 use Rattle.signed_update.proofs.store_at.Goals as goal
 

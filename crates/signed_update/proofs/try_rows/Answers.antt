@@ -1,15 +1,9 @@
-use mathlib.Core.List.{List}
-use Prim.Native.Nat.{ℕ, ◌-◌}
 use native.Mathlib.Omega.{arith}
-use borrow.Author.Rules.{rules}
-use lib.ListN.{get_or}
-use lib.IntN.{ℤ}
-use Rattle.group.specs.declared.Outcome.{Outcome}
 use Rattle.geometry.proofs.Widths.{one_row}
 use Rattle.meter_memory.proofs.Gather.{rows_start}
-use Rattle.meter_memory.proofs.Tried.{Tried, tried-more, tried-all}
+use Rattle.meter_memory.proofs.Tried.{tried-more, tried-all}
 use Rattle.signed_number.specs.Number.{integer}
-use Rattle.signed_row.specs.Hashes.{added_by, added_status}
+use Rattle.signed_row.specs.Hashes.{added_status}
 use Rattle.signed_update.proofs.try_rows.Invariants.{outcome}
 use Rattle.signed_update.proofs.try_rows.Goals as goal
 

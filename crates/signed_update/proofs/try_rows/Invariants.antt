@@ -1,15 +1,11 @@
 use mathlib.Core.List.{List}
-use Prim.Native.Nat.{ℕ, ◌-◌}
-use native.Mathlib.Omega.{arith}
-use borrow.Author.Rules.{rules}
+use Prim.Native.Nat.{ℕ}
 use lib.ListN.{get_or}
 use lib.IntN.{ℤ}
 use Rattle.group.specs.declared.Outcome.{Outcome}
-use Rattle.geometry.proofs.Widths.{one_row}
-use Rattle.meter_memory.proofs.Gather.{rows_start}
-use Rattle.meter_memory.proofs.Tried.{Tried, tried-more, tried-all}
+use Rattle.meter_memory.proofs.Tried.{Tried}
 use Rattle.signed_number.specs.Number.{integer}
-use Rattle.signed_row.specs.Hashes.{added_by, added_status}
+use Rattle.signed_row.specs.Hashes.{added_by}
 use Rattle.signed_update.proofs.try_rows.Given as goal
 
 -- what row r is left with

@@ -1,17 +1,12 @@
-use mathlib.Core.Path.{◌≡◌, refl, sym, ap, ◌∙◌}
+use mathlib.Core.Path.{◌≡◌}
 use mathlib.Core.List.{List, []}
-use Prim.Native.Nat.{ℕ, ◌+◌, ◌-◌, ◌*◌, ◌≤◌}
-use native.Mathlib.Omega.{arith}
-use borrow.Author.Rules.{rules}
-use borrow.Author.Tests.{ne_eqb}
+use Prim.Native.Nat.{ℕ, ◌≤◌}
 use lib.ListN.{length, get_or}
 use Rattle.group.specs.declared.Group.{Group}
-use Rattle.geometry.proofs.Widths.{one_row}
 use Rattle.meter_memory.specs.Rows.{map_rows}
-use Rattle.meter_memory.proofs.Lists.{lent, rows_from, rows_start, rows_turn}
-use Rattle.meter_memory.proofs.Tried.{kept_stored, stored_all}
-use Rattle.signed_number.specs.Number.{integer}
-use Rattle.signed_row.specs.Hashes.{added_by, stored_by}
+use Rattle.meter_memory.proofs.Lists.{rows_from}
+use Rattle.meter_memory.proofs.Tried.{kept_stored}
+use Rattle.signed_row.specs.Hashes.{stored_by}
 use Rattle.signed_update.proofs.update_rows.Given as goal
 
 -- what stands for an element that is not there
