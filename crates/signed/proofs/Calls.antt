@@ -1,5 +1,5 @@
 -- What each call answers and leaves, by the tests that led there.
-use mathlib.Core.Path.{◌≡◌, refl, sym, ap, ap₂, ◌∙◌}
+use mathlib.Core.Path.{◌≡◌, refl, sym, ap, ◌∙◌}
 use mathlib.Core.Bool.{Bool, cond}
 use mathlib.Core.List.{List, [], ◌∷◌}
 use Prim.Native.Nat.{ℕ, zero, suc, ◌+◌, ◌*◌, ◌<◌}
@@ -21,7 +21,6 @@ use Rattle.meter_memory.proofs.Agree.{reads_same, maps_same}
 use Rattle.signed_median.specs.Median.{median}
 use Rattle.signed_row.specs.Row.{update_status, update_row, read_row, read_status, row_figure, source_status, source_combined}
 use Rattle.signed_row.specs.Hashes.{added_by, stored_by, added_status, hash_added, read_by, figure_by, hash_status, hash_figure}
-use Rattle.signed.specs.declared.SignedAnswer.{SignedAnswer}
 use Rattle.signed.specs.Signed.{bad_shape, bad_call, cleared, updated, estimated, signed_answer, combined_meters}
 use Rattle.signed.proofs.Tests.{shape_rows}
 

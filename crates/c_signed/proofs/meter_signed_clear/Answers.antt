@@ -1,4 +1,3 @@
-use borrow.Author.Rules.{rules}
 use mathlib.Core.Path.{ap, ◌∙◌}
 use Rattle.answer.specs.declared.Answer.{Answer}
 use Rattle.c_signed.proofs.meter_signed_clear.Goals as goal

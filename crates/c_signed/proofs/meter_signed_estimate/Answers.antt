@@ -1,4 +1,3 @@
-use borrow.Author.Rules.{rules}
 use mathlib.Core.Path.{ap, ◌∙◌}
 use Rattle.signed.specs.declared.SignedAnswer.{SignedAnswer}
 use Rattle.c_signed.proofs.meter_signed_estimate.Goals as goal

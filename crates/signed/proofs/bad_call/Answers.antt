@@ -1,6 +1,5 @@
 use mathlib.Core.Path.{sym, ◌∙◌}
 use Rattle.signed.proofs.Tests.{call_shape_bad, call_key}
-use borrow.Author.Rules.{rules}
 use Rattle.signed.proofs.bad_call.Goals as goal
 
 pub returns-then-shape-ne0 : goal.returns-then-shape-ne0

@@ -1,7 +1,6 @@
 use mathlib.Core.Path.{sym, ap₂, ◌∙◌}
 use Rattle.answer.specs.Order.{earlier}
 use Rattle.signed.proofs.Tests.{shape_is}
-use borrow.Author.Rules.{rules}
 use Rattle.signed.proofs.bad_shape.Goals as goal
 
 pub returns : goal.returns

@@ -1,6 +1,5 @@
 use mathlib.Core.Path.{sym, ◌∙◌}
 use Rattle.signed.proofs.Calls.{cleared-bad, cleared_good}
-use borrow.Author.Rules.{rules}
 use Rattle.signed.proofs.clear.Goals as goal
 
 pub returns-then-bad-ne0 : goal.returns-then-bad-ne0

@@ -1,7 +1,6 @@
 use mathlib.Core.Path.{sym, ◌∙◌}
 use Rattle.signed.proofs.Tests.{shape_rows}
 use Rattle.signed.proofs.Calls.{combined-bad, combined-length, combined-full, combined-good}
-use borrow.Author.Rules.{rules}
 use Rattle.signed.proofs.combine.Goals as goal
 
 pub returns-then-bad-ne0 : goal.returns-then-bad-ne0

@@ -1,8 +1,7 @@
-use mathlib.Core.Path.{◌≡◌, sym, ap, ap₂, ◌∙◌}
+use mathlib.Core.Path.{◌≡◌, sym, ap, ◌∙◌}
 use mathlib.Core.Bool.{cond}
 use mathlib.Core.List.{List}
 use Prim.Native.Nat.{ℕ, ◌<◌}
-use native.Mathlib.Omega.{arith}
 use lib.Dec.{eqb}
 use lib.IntN.{ℤ}
 use lib.ListN.{get_or}
@@ -10,13 +9,11 @@ use mir.Syntax.{w32}
 use mir.Facts.{to_z-of_z}
 use Rattle.hash.specs.Hash.{row_hash}
 use Rattle.meter_keys.proofs.Landing.{hash_lt}
-use Rattle.signed_number.specs.declared.Signed.{Signed}
 use Rattle.signed_number.specs.Number.{integer_of}
 use Rattle.signed_number.proofs.Integers.{integer_of_lem}
 use Rattle.signed_row.specs.Hashes.{tried_status, added_rows}
 use Rattle.signed.proofs.Tests.{call_rows}
 use Rattle.signed.proofs.Calls.{status-by-key, added-by-key, updated-bad, updated-rows}
-use borrow.Author.Rules.{rules}
 use Rattle.signed.proofs.update.Goals as goal
 
 pub returns-then-bad-ne0 : goal.returns-then-bad-ne0

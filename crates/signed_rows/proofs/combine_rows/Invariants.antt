@@ -1,17 +1,9 @@
-use mathlib.Core.Path.{◌≡◌, refl, sym, ap, ap₂, ◌∙◌}
-use Prim.Native.Nat.{ℕ, ◌+◌, ◌-◌, ◌*◌, ◌≤◌}
-use native.Mathlib.Omega.{arith}
-use borrow.Author.Rules.{rules}
-use mathlib.Core.List.{List}
-use lib.ListN.{length, take, drop}
-use Rattle.meter_memory.specs.Pairs.{pairs_status, pair_row, row_status_by, row_paired_by}
+use mathlib.Core.Path.{◌≡◌}
+use Prim.Native.Nat.{◌*◌, ◌≤◌}
+use lib.ListN.{length, drop}
 use Rattle.meter_memory.specs.Rows.{map_rows}
-use Rattle.signed_group.specs.Group.{combined}
-use Rattle.meter_memory.specs.Rows.{row_of}
-use Rattle.signed_row.specs.Row.{source_status, source_combined}
-use Rattle.geometry.proofs.Widths.{one_row}
-use Rattle.meter_memory.proofs.Lists.{lent, behind-kept, rows_from, rows_start, rows_turn, rows_end}
-use Rattle.meter_memory.proofs.Written.{row_none}
+use Rattle.signed_row.specs.Row.{source_combined}
+use Rattle.meter_memory.proofs.Lists.{rows_from}
 use Rattle.signed_rows.proofs.combine_rows.Given as goal
 
 abbrev pub invariant-loop-r : goal.invariant-loop-r

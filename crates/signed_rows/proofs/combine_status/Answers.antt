@@ -1,15 +1,10 @@
-use mathlib.Core.Path.{◌≡◌, sym, ap₂, ◌∙◌}
-use Prim.Native.Nat.{ℕ, ◌-◌, ◌*◌, ◌≤◌}
+use mathlib.Core.Path.{sym, ap₂, ◌∙◌}
+use Prim.Native.Nat.{ℕ}
 use native.Mathlib.Omega.{arith}
-use borrow.Author.Rules.{rules}
 use mathlib.Core.List.{List}
-use Rattle.geometry.specs.Geometry.{stride}
 use Rattle.meter_memory.specs.Pairs.{pairs_status, row_status_by}
 use Rattle.meter_memory.specs.Rows.{row_of}
 use Rattle.signed_row.specs.Row.{source_status}
-use lib.ListN.{drop}
-use Rattle.answer.specs.Order.{earlier, earliest}
-use Rattle.meter_memory.specs.Rows.{of_rows}
 use Rattle.signed_group.specs.Group.{combined}
 use Rattle.geometry.proofs.Widths.{one_row}
 use Rattle.meter_memory.proofs.Gather.{status-turn, status-end, rows_start}

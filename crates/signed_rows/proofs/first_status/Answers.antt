@@ -1,6 +1,5 @@
 use mathlib.Core.Path.{sym}
 use Rattle.answer.proofs.Order.{earlier_none}
-use borrow.Author.Rules.{rules}
 use Rattle.signed_rows.proofs.first_status.Goals as goal
 
 pub returns-then-next-eq0 : goal.returns-then-next-eq0

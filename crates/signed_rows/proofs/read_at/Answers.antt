@@ -11,7 +11,6 @@ use Rattle.signed_group.specs.declared.Reading.{Reading}
 use Rattle.signed_group.specs.Group.{read}
 use Rattle.signed_number.specs.Number.{times_sign, integer_of}
 use Rattle.signed_row.specs.Hashes.{read_by}
-use borrow.Author.Rules.{rules}
 use Rattle.signed_rows.proofs.read_at.Goals as goal
 
 pub scaled-requires : goal.scaled-requires

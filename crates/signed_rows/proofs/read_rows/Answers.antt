@@ -1,14 +1,12 @@
-use mathlib.Core.Path.{◌≡◌, refl, sym, ap, ◌∙◌}
-use mathlib.Core.List.{List}
-use Prim.Native.Nat.{ℕ, ◌+◌, ◌-◌, ◌*◌, ◌≤◌, ◌<◌}
+use mathlib.Core.Path.{◌≡◌, sym, ap, ◌∙◌}
+use Prim.Native.Nat.{ℕ}
 use native.Mathlib.Nat.{zero-add}
 use native.Mathlib.Omega.{arith}
 use borrow.Author.Rules.{rules}
-use lib.IntN.{ℤ, pos}
-use lib.ListN.{length, get_or, take, drop, length-set}
+use lib.IntN.{pos}
+use lib.ListN.{take, length-set}
 use mir.Syntax.{w64}
 use mir.Facts.{to_z-of_z}
-use Rattle.answer.specs.Order.{earlier, earliest}
 use Rattle.geometry.specs.Geometry.{stride}
 use Rattle.geometry.proofs.Widths.{one_row}
 use Rattle.meter_memory.specs.Rows.{row_of, of_rows}

@@ -1,20 +1,10 @@
-use mathlib.Core.Path.{◌≡◌, refl, sym, ap, ◌∙◌}
-use mathlib.Core.List.{List}
-use Prim.Native.Nat.{ℕ, ◌+◌, ◌-◌, ◌*◌, ◌≤◌, ◌<◌}
-use native.Mathlib.Nat.{zero-add}
-use native.Mathlib.Omega.{arith}
-use borrow.Author.Rules.{rules}
-use lib.IntN.{ℤ, pos}
-use lib.ListN.{length, get_or, take, drop, length-set}
-use mir.Syntax.{w64}
-use mir.Facts.{to_z-of_z}
+use mathlib.Core.Path.{◌≡◌}
+use Prim.Native.Nat.{ℕ, ◌-◌, ◌*◌, ◌≤◌, ◌<◌}
+use lib.IntN.{pos}
+use lib.ListN.{length, get_or, drop}
 use Rattle.answer.specs.Order.{earlier, earliest}
 use Rattle.geometry.specs.Geometry.{stride}
-use Rattle.geometry.proofs.Widths.{one_row}
 use Rattle.meter_memory.specs.Rows.{row_of, of_rows}
-use Rattle.meter_memory.proofs.Gather.{status-turn, status-end, rows_start}
-use Rattle.meter_memory.proofs.Lists.{filled_more, rows_list}
-use Rattle.signed_median.specs.Median.{median}
 use Rattle.signed_row.specs.Hashes.{hash_status, hash_figure}
 use Rattle.signed_rows.proofs.read_rows.Given as goal
 
