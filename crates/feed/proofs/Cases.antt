@@ -58,36 +58,36 @@ unfolding leaves
 unchanged s m = cases (eqb s 0) (λ t. rw t) (λ t. rw t)
 
 module _ (d w : ℕ) (memory : List ℕ) where
-  update-left : (key : List ℕ) (a : ℕ) →
+  update_left : (key : List ℕ) (a : ℕ) →
       let u = updated d w memory key a in
       leaves (record_answer (outcome_of u.answer case.Updated)).status u.memory memory ≡ u.memory
   unfolding leaves updated
-  update-left key a =
+  update_left key a =
       let u = updated d w memory key a in
       cases (eqb u.answer.status 0) (λ t. rw (outcome_accepted u.answer case.Updated (eqb-true _ 0 t)))
       (λ t. rw (outcome_refused u.answer case.Updated (eqb-false _ 0 t), t) (sym (finish_kept _ _ _ memory t)))
 
-  update-by-cases : (n : ℕ) (words : List ℕ)
+  update_by_cases : (n : ℕ) (words : List ℕ)
       → finish_record (update_outcome d w memory n words (update_body n words)) (update_memory d w memory n words) memory ≡ carried_update d w memory n words (update_body n words)
   unfolding update_outcome update_memory carried_update update_body body_of
-  update-by-cases n words =
+  update_by_cases n words =
       let s = update_step n words in
-      cases (eqb s.status 0) (λ t. rw t (finished _ _ memory _ (update-left (key_of n words) (amount_of n words))))
+      cases (eqb s.status 0) (λ t. rw t (finished _ _ memory _ (update_left (key_of n words) (amount_of n words))))
       (λ t. rw t (finished _ _ memory memory (left_before s.status _ memory (eqb-false s.status 0 t))))
 
-  opened-by-cases : (words : List ℕ) (o : Opening) → finish_record (opened_outcome d w memory words o) (record_memory d w memory words o) memory ≡ carried d w memory words o
+  opened_by_cases : (words : List ℕ) (o : Opening) → finish_record (opened_outcome d w memory words o) (record_memory d w memory words o) memory ≡ carried d w memory words o
   unfolding opened_outcome record_memory carried
-  opened-by-cases words (opening.Update n) = update-by-cases n words
-  opened-by-cases words (opening.Query n) = finished _ memory memory memory (unchanged _ memory)
-  opened-by-cases words opening.End = finished _ memory memory memory (unchanged _ memory)
-  opened-by-cases words (opening.Refused s) = finished _ memory memory memory (unchanged _ memory)
+  opened_by_cases words (opening.Update n) = update_by_cases n words
+  opened_by_cases words (opening.Query n) = finished _ memory memory memory (unchanged _ memory)
+  opened_by_cases words opening.End = finished _ memory memory memory (unchanged _ memory)
+  opened_by_cases words (opening.Refused s) = finished _ memory memory memory (unchanged _ memory)
 
   pub by_cases : (before : ℕ) (words : List ℕ) → recorded d w memory before words ≡ carried_after (bad_shape d w (length memory)) d w memory before words
   unfolding recorded record_outcome carried_after
   by_cases before words = after (bad_shape d w (length memory))
     where
       after : (s : ℕ) → finish_record (record_outcome s d w memory before words) (record_memory d w memory words (opened before words)) memory ≡ carried_after s d w memory before words
-      after zero = opened-by-cases words (opened before words)
+      after zero = opened_by_cases words (opened before words)
       after (suc s) = finished _ _ memory memory (left_before (suc s) _ memory (λ e. omega arith))
 
   -- what the contract of an update by record says, by cases
@@ -101,14 +101,14 @@ module _ (d w : ℕ) (memory : List ℕ) where
     pub tell : r ≡ did.outcome → m ≡ did.memory → Told
     unfolding finish_record
     tell e f =
-        let z = sym (update-by-cases n words) in
+        let z = sym (update_by_cases n words) in
         let o : r ≡ update_outcome d w memory n words (update_body n words) = e ∙ ap (λ (c : Carried). c.outcome) z in
         (o, rw o (f ∙ ap (λ (c : Carried). c.memory) z))
 
     pub told : Told → (r ≡ did.outcome) × (m ≡ did.memory)
     unfolding finish_record
     told t =
-        let z = update-by-cases n words in (
+        let z = update_by_cases n words in (
           t.0 ∙ ap (λ (c : Carried). c.outcome) z,
           (rw t.0 at t.1) ∙ ap (λ (c : Carried). c.memory) z,
         )

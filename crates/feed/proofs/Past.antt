@@ -16,27 +16,27 @@ use Rattle.feed.specs.Record.{update_outcome, queried, opened_outcome, record_ou
 use Rattle.feed.proofs.Cases.{carried_update, carried, carried_after, by_cases}
 use Rattle.feed_keys.proofs.Places.{key_same}
 use Rattle.feed_lengths.proofs.Laws.{some_needed}
-use Rattle.feed_records.proofs.Past.{taken, opened_needed, update_same, query-same, opened-same}
+use Rattle.feed_records.proofs.Past.{taken, opened_needed, update_same, query_same, opened_same}
 
 module _ (words : List ℕ) (n : ℕ) where
   abbrev front : List ℕ
   front = take n words
 
   module _ (d w : ℕ) (memory : List ℕ) where
-    update-carried : (m : ℕ) (b : Body) → key_of m front ≡ key_of m words → carried_update d w memory m front b ≡ carried_update d w memory m words b
+    update_carried : (m : ℕ) (b : Body) → key_of m front ≡ key_of m words → carried_update d w memory m front b ≡ carried_update d w memory m words b
     unfolding carried_update update_outcome
-    update-carried m (body.Sound a) e = rw e
-    update-carried m (body.Refused s p) e = refl
+    update_carried m (body.Sound a) e = rw e
+    update_carried m (body.Refused s p) e = refl
 
-    query-carried : (m : ℕ) (b : Body) → key_of m front ≡ key_of m words → queried d w memory m front b ≡ queried d w memory m words b
+    query_carried : (m : ℕ) (b : Body) → key_of m front ≡ key_of m words → queried d w memory m front b ≡ queried d w memory m words b
     unfolding queried
-    query-carried m (body.Sound a) e = rw e
-    query-carried m (body.Refused s p) e = refl
+    query_carried m (body.Sound a) e = rw e
+    query_carried m (body.Refused s p) e = refl
 
     carried_same : (o : Opening) → taken o ≤ n → carried d w memory front o ≡ carried d w memory words o
     unfolding carried opened_outcome taken
-    carried_same (opening.Update m) h = rw (update_same words n m h) (update-carried m (update_body m words) (key_same words n m (omega arith)))
-    carried_same (opening.Query m) h = rw (query-same words n m h, query-carried m (query_body m words) (key_same words n m h))
+    carried_same (opening.Update m) h = rw (update_same words n m h) (update_carried m (update_body m words) (key_same words n m (omega arith)))
+    carried_same (opening.Query m) h = rw (query_same words n m h, query_carried m (query_body m words) (key_same words n m h))
     carried_same opening.End h = refl
     carried_same (opening.Refused s) h = refl
 
@@ -44,8 +44,8 @@ module _ (words : List ℕ) (n : ℕ) where
     unfolding carried_after record_outcome
     after_same zero before h =
         let l = some_needed words in
-        rw (opened-same words n before (omega arith)) (carried_same (opened before words) (omega (arith, opened_needed before words)))
+        rw (opened_same words n before (omega arith)) (carried_same (opened before words) (omega (arith, opened_needed before words)))
     after_same (suc s) before h = refl
 
-    pub record-alone : (before : ℕ) → words_needed words ≤ n → recorded d w memory before (take n words) ≡ recorded d w memory before words
-    record-alone before h = rw (by_cases d w memory before front, by_cases d w memory before words) (after_same (bad_shape d w (length memory)) before h)
+    pub record_alone : (before : ℕ) → words_needed words ≤ n → recorded d w memory before (take n words) ≡ recorded d w memory before words
+    record_alone before h = rw (by_cases d w memory before front, by_cases d w memory before words) (after_same (bad_shape d w (length memory)) before h)

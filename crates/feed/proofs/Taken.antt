@@ -42,14 +42,14 @@ module _ (d w : ℕ) (memory : List ℕ) (before : ℕ) (words : List ℕ) where
           ∙ carried_fault d w memory words (opened before words) (λ z. h (sym e ∙ z)) ∙ e
 
   -- an accepted call's own arguments have passed
-  accepted-shape : number ≡ 0 → bad_shape d w (length memory) ≡ 0
+  accepted_shape : number ≡ 0 → bad_shape d w (length memory) ≡ 0
   unfolding recorded record_outcome finish_record
-  accepted-shape e = after (bad_shape d w (length memory)) e
+  accepted_shape e = after (bad_shape d w (length memory)) e
     where
       after : (s : ℕ) → (record_answer (record_outcome s d w memory before words)).status ≡ 0 → s ≡ 0
       after zero h = refl
       after (suc s) h = absurd (omega arith)
 
-  pub taken-accepted : number ≡ 0 → (1 ≤ words_taken words) × (words_taken words ≤ length words)
-  taken-accepted e =
-      (some_taken words, taken_in (accepted-shape e) (λ h. omega arith) (λ h. omega arith) (λ h. omega arith))
+  pub taken_accepted : number ≡ 0 → (1 ≤ words_taken words) × (words_taken words ≤ length words)
+  taken_accepted e =
+      (some_taken words, taken_in (accepted_shape e) (λ h. omega arith) (λ h. omega arith) (λ h. omega arith))

@@ -14,13 +14,13 @@ use Rattle.answer.specs.Numbers.{invalid_width}
 use Rattle.geometry.specs.Geometry.{valid_depth, largest_log}
 use Rattle.geometry.proofs.Widths.{too_wide}
 use Rattle.word.specs.Word.{head_kind, go, stop, next, payload, below}
-use Rattle.word.proofs.Before.{payload_same, below-same}
+use Rattle.word.proofs.Before.{payload_same, below_same}
 use Rattle.word.proofs.Places.{In, below_in, next_in}
 use Rattle.feed_head.specs.Head.{head_depth, head_width, bad_geometry, head_step, headed}
 
 pub head_alone : (words : List ℕ) (n : ℕ) → 1 ≤ n → headed (take n words) ≡ headed words
 unfolding headed head_step
-head_alone words n h = rw (below-same words n 0 head_kind (2 ^ 9) h, payload_same words n 0 h)
+head_alone words n h = rw (below_same words n 0 head_kind (2 ^ 9) h, payload_same words n 0 h)
 
 step_in : (words : List ℕ) → In (length words) (head_step words)
 unfolding head_step

@@ -10,7 +10,7 @@ use Rattle.word.specs.declared.Step.{Step}
 use Rattle.word.specs.Word.{go, payload}
 use Rattle.word.proofs.Passed.{passed, tested_is}
 use Rattle.word.proofs.Places.{In, tested_in, next_in, tested_on, next_on, tested_status, next_status}
-use Rattle.word.proofs.Before.{next_same, payload_same, tested-same}
+use Rattle.word.proofs.Before.{next_same, payload_same, tested_same}
 use Rattle.feed_keys.specs.Keys.{key_kind, key_words, key_payload, key_word, check_key, key_byte, key_from, key_of}
 
 -- inside the words lent
@@ -50,22 +50,22 @@ module _ (words : List ℕ) (n : ℕ) where
   abbrev front : List ℕ
   front = take n words
 
-  key-word-same : (m p : ℕ) → p < n → key_word m front p ≡ key_word m words p
+  key_word_same : (m p : ℕ) → p < n → key_word m front p ≡ key_word m words p
   unfolding key_word
-  key-word-same m p l = tested-same words n p key_kind bad_payload (key_payload m (payload words p)) (key_payload m (payload front p)) l (ap (key_payload m) (payload_same words n p l))
+  key_word_same m p l = tested_same words n p key_kind bad_payload (key_payload m (payload words p)) (key_payload m (payload front p)) l (ap (key_payload m) (payload_same words n p l))
 
-  pub key-words-same : (k m p : ℕ) → p + k ≤ n → check_key k m front p ≡ check_key k m words p
+  pub key_words_same : (k m p : ℕ) → p + k ≤ n → check_key k m front p ≡ check_key k m words p
   unfolding check_key key_word
-  key-words-same zero m p h = refl
-  key-words-same (suc k) m p h =
+  key_words_same zero m p h = refl
+  key_words_same (suc k) m p h =
       let l = tested_on words p key_kind (key_payload m (payload words p)) bad_payload in
-      next_same (key_word m front p) (key_word m words p) (λ q. check_key k (m - 3) front q) (λ q. check_key k (m - 3) words q) (key-word-same m p (omega arith))
-      (key-words-same k (m - 3) (key_word m words p).position (omega arith))
+      next_same (key_word m front p) (key_word m words p) (λ q. check_key k (m - 3) front q) (λ q. check_key k (m - 3) words q) (key_word_same m p (omega arith))
+      (key_words_same k (m - 3) (key_word m words p).position (omega arith))
 
-  key-from-same : (k i : ℕ) → 1 + key_words (i + k) ≤ n → key_from k front i ≡ key_from k words i
+  key_from_same : (k i : ℕ) → 1 + key_words (i + k) ≤ n → key_from k front i ≡ key_from k words i
   unfolding key_from key_byte
-  key-from-same zero i h = refl
-  key-from-same (suc k) i h = rw (payload_same words n (1 + i / 3) (omega arith), key-from-same k (i + 1) (omega arith))
+  key_from_same zero i h = refl
+  key_from_same (suc k) i h = rw (payload_same words n (1 + i / 3) (omega arith), key_from_same k (i + 1) (omega arith))
 
   pub key_same : (m : ℕ) → 1 + key_words m ≤ n → key_of m front ≡ key_of m words
-  key_same m h = key-from-same m 0 (omega arith)
+  key_same m h = key_from_same m 0 (omega arith)

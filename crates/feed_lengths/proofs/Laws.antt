@@ -12,7 +12,7 @@ use Rattle.answer.specs.Order.{unless}
 use Rattle.geometry.specs.Checks.{bad_key}
 use Rattle.word.specs.Word.{payload, is_due}
 use Rattle.word.proofs.Laws.{both}
-use Rattle.word.proofs.Before.{payload_same, due-same}
+use Rattle.word.proofs.Before.{payload_same, due_same}
 use Rattle.feed_keys.specs.Keys.{key_words}
 use Rattle.feed_lengths.specs.Lengths.{update_kind, query_kind, words_taken, words_needed}
 
@@ -58,10 +58,10 @@ module _ (words : List ℕ) (n : ℕ) where
   front = take n words
 
   -- the first word tells how many words are taken and needed
-  pub taken-same : 1 ≤ n → words_taken front ≡ words_taken words
+  pub taken_same : 1 ≤ n → words_taken front ≡ words_taken words
   unfolding words_taken
-  taken-same h = rw (due-same words n 0 update_kind h, due-same words n 0 query_kind h, payload_same words n 0 h)
+  taken_same h = rw (due_same words n 0 update_kind h, due_same words n 0 query_kind h, payload_same words n 0 h)
 
-  pub needed-same : 1 ≤ n → words_needed front ≡ words_needed words
+  pub needed_same : 1 ≤ n → words_needed front ≡ words_needed words
   unfolding words_needed
-  needed-same h = rw (payload_same words n 0 h, taken-same h)
+  needed_same h = rw (payload_same words n 0 h, taken_same h)

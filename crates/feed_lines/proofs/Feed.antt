@@ -10,10 +10,10 @@ use lib.Seq.{drop-append-le}
 use Rattle.geometry.specs.Geometry.{size}
 use Rattle.geometry.specs.Checks.{bad_shape}
 use Rattle.feed_lengths.specs.Lengths.{words_taken, words_needed}
-use Rattle.feed_lengths.proofs.Laws.{some_taken, some_needed, needed_most, taken-same, needed-same}
+use Rattle.feed_lengths.proofs.Laws.{some_taken, some_needed, needed_most, taken_same, needed_same}
 use Rattle.feed.specs.Head.{headed}
 use Rattle.feed.specs.Record.{Carried, recorded}
-use Rattle.feed.proofs.Past.{record-alone}
+use Rattle.feed.proofs.Past.{record_alone}
 use Rattle.feed_head.proofs.Laws.{head_alone}
 use Rattle.feed_line.specs.declared.Line.{Line}
 use Rattle.feed_line.specs.declared.Line.TheVariants as line
@@ -27,7 +27,7 @@ use Rattle.feed_lines.specs.Step.{taken_by, progress, lines_from, bytes_needed, 
 use Rattle.feed_lines.specs.Bounds.{Fitting}
 use Rattle.feed_lines.proofs.Heads.{accepted_some, head_fits, head_geometry, fitting_shape}
 use borrow.Table.Steps.{cases}
-use Rattle.feed_lines.proofs.Record.{record-keeps, record-lies}
+use Rattle.feed_lines.proofs.Record.{record_keeps, record_lies}
 
 -- lines after a line, where they are printed
 pub followed_same : (l : Line) (a b x y : List Line) → (continues l ≡ true → a ≡ b) → (is_end l ≡ true → x ≡ y) → followed l a x ≡ followed l b y
@@ -58,11 +58,11 @@ enough d w (suc n) (suc m) memory before records bytes shape h k =
     followed_same l _ _ _ _
     (λ t.
     let all = taken_on l ws t in
-    let lies = record-lies d w memory before ws shape records in
+    let lies = record_lies d w memory before ws shape records in
     let less : length (whole_words (past bytes)) < length ws =
     omega (arith, all, lies, some_taken ws, words_length bytes, words_length (past bytes), length-drop (4 * words_taken ws) bytes) in
     enough d w n m after (before + words_taken ws) (records + 1) (past bytes)
-    (ap (bad_shape d w) (record-keeps d w memory before ws shape) ∙ shape) (omega arith) (omega arith))
+    (ap (bad_shape d w) (record_keeps d w memory before ws shape) ∙ shape) (omega arith) (omega arith))
     (λ t. refl)
 
 -- the words at hand are those of all bytes
@@ -79,9 +79,9 @@ one_more n d w memory before records bytes c k e f = rw (e, f)
 -- the first word tells how many words are needed
 pub first_needs : (lent rest : List ℕ) → Enough 4 lent rest → words_needed (whole_words (lent ++ rest)) ≡ words_needed (whole_words lent)
 first_needs lent rest held =
-    sym (needed-same (whole_words (lent ++ rest)) 1 (omega arith))
+    sym (needed_same (whole_words (lent ++ rest)) 1 (omega arith))
     ∙ ap words_needed (lent_front 1 lent rest (⊎_elim (λ l. inl (omega arith)) (λ e. inr e) held))
-    ∙ needed-same (whole_words lent) 1 (omega arith)
+    ∙ needed_same (whole_words lent) 1 (omega arith)
 
 -- A record's words at hand are enough: with them alone, or any after them, it does the same.
 module _ (lent rest : List ℕ) (held : Enough (bytes_needed lent) lent rest) where
@@ -94,20 +94,20 @@ module _ (lent rest : List ℕ) (held : Enough (bytes_needed lent) lent rest) wh
   front : take need (whole_words (lent ++ rest)) ≡ take need hand
   front = lent_front need lent rest held
 
-  need-same : words_needed (whole_words (lent ++ rest)) ≡ need
-  need-same = first_needs lent rest (⊎_elim (λ l. inl (omega (arith, some_needed hand))) (λ e. inr e) held)
+  need_same : words_needed (whole_words (lent ++ rest)) ≡ need
+  need_same = first_needs lent rest (⊎_elim (λ l. inl (omega (arith, some_needed hand))) (λ e. inr e) held)
 
   record_same : (d w : ℕ) (memory : List ℕ) (before : ℕ) → recorded d w memory before (whole_words (lent ++ rest)) ≡ recorded d w memory before (take 25 hand)
   record_same d w memory before =
-      sym (record-alone (whole_words (lent ++ rest)) need d w memory before (omega (arith, need-same)))
+      sym (record_alone (whole_words (lent ++ rest)) need d w memory before (omega (arith, need_same)))
       ∙ ap (recorded d w memory before) front
-      ∙ record-alone hand need d w memory before (omega arith)
-      ∙ sym (record-alone hand 25 d w memory before (needed_most hand))
+      ∙ record_alone hand need d w memory before (omega arith)
+      ∙ sym (record_alone hand 25 d w memory before (needed_most hand))
 
-  took-same : words_taken (whole_words (lent ++ rest)) ≡ words_taken (take 25 hand)
-  took-same =
-      sym (taken-same (whole_words (lent ++ rest)) need (some_needed hand)) ∙ ap words_taken front ∙ taken-same hand need (some_needed hand)
-      ∙ sym (taken-same hand 25 (omega arith))
+  took_same : words_taken (whole_words (lent ++ rest)) ≡ words_taken (take 25 hand)
+  took_same =
+      sym (taken_same (whole_words (lent ++ rest)) need (some_needed hand)) ∙ ap words_taken front ∙ taken_same hand need (some_needed hand)
+      ∙ sym (taken_same hand 25 (omega arith))
 
 module _ (d w : ℕ) (memory : List ℕ) (before records : ℕ) (lent rest : List ℕ) (shape : bad_shape d w (length memory) ≡ 0)
     (held : Enough (bytes_needed lent) lent rest) where
@@ -134,8 +134,8 @@ module _ (d w : ℕ) (memory : List ℕ) (before records : ℕ) (lent rest : Lis
       let all = whole_words (lent ++ rest) in
       let l = record_line d w memory before records words in
       let same = record_same lent rest held d w memory before in
-      let took = took-same lent rest held in
-      let lies = record-lies d w memory before words shape records in
+      let took = took_same lent rest held in
+      let lies = record_lies d w memory before words shape records in
       one_more (length all) d w memory before records (lent ++ rest) (recorded d w memory before words) (words_taken words) same took
       ∙ followed_same l _ _ _ _
       (λ t.
@@ -144,7 +144,7 @@ module _ (d w : ℕ) (memory : List ℕ) (before records : ℕ) (lent rest : Lis
       (rw (cut (words_taken words) (omega (arith, k, lies)))
       (enough d w (length all) (suc (length (whole_words (drop (4 * words_taken words) lent ++ rest)))) (recorded d w memory before words).memory (before + words_taken words) (records + 1)
       (drop (4 * words_taken words) lent ++ rest)
-      (ap (bad_shape d w) (record-keeps d w memory before words shape) ∙ shape)
+      (ap (bad_shape d w) (record_keeps d w memory before words shape) ∙ shape)
       (fewer (words_taken words) (some_taken words) (omega (arith, k, lies)))
       (omega arith))))
       (λ t.
@@ -161,14 +161,14 @@ module _ (lent rest : List ℕ) (held : Enough 4 lent rest) where
       ∙ ap headed (lent_front 1 lent rest (⊎_elim (λ l. inl (omega arith)) (λ e. inr e) held))
 
   -- The head's line is the only one, or the records' follow, on a cleared meter.
-  pub head-stops : continues (head_line (headed first)) ≡ false → feed_lines (lent ++ rest) ≡ head_line (headed first) ∷ []
+  pub head_stops : continues (head_line (headed first)) ≡ false → feed_lines (lent ++ rest) ≡ head_line (headed first) ∷ []
   unfolding feed_lines followed
-  head-stops e = rw (head_same, e) (cases (is_end (head_line (headed first))) (λ t. rw t) (λ t. rw t))
+  head_stops e = rw (head_same, e) (cases (is_end (head_line (headed first))) (λ t. rw t) (λ t. rw t))
 
-  pub head-lines : (d w : ℕ) → head_line (headed first) ≡ line.Geometry d w
+  pub head_lines : (d w : ℕ) → head_line (headed first) ≡ line.Geometry d w
       → feed_lines (lent ++ rest) ≡ line.Geometry d w ∷ lines_from d w (replicate (size d w) 0) 1 0 (drop 4 lent ++ rest)
   unfolding feed_lines after_head followed continues
-  head-lines d w e =
+  head_lines d w e =
       let g = head_geometry (headed first) d w e in
       let fits : Fitting d w = rw e at (head_fits first) in
       let some : 4 ≤ length lent = omega (arith, accepted_some first g.0, length-take 1 (whole_words lent), words_length lent) in

@@ -24,8 +24,8 @@ use Rattle.feed_lines.specs.Pieces.{Held, joined, read_on, head_needs, end_needs
 use Rattle.word_bytes.proofs.Laws.{words_length}
 use Rattle.feed_lines.proofs.Heads.{accepted_some, head_fits, head_geometry, goes_on, fitting_shape}
 use borrow.Table.Steps.{cases}
-use Rattle.feed_lines.proofs.Record.{record-keeps, record-lies}
-use Rattle.feed_lines.proofs.Feed.{followed_same, taken_on, fewer, step_lines_lem, head-lines, head-stops}
+use Rattle.feed_lines.proofs.Record.{record_keeps, record_lies}
+use Rattle.feed_lines.proofs.Feed.{followed_same, taken_on, fewer, step_lines_lem, head_lines, head_stops}
 
 -- all bytes that are at hand or still to come
 abbrev all : Held → List ℕ
@@ -59,8 +59,8 @@ steps_are (suc n) d w memory before records h shape held few =
     followed_same p.line _ _ _ _
     (λ t.
     let k = taken_on p.line (lent h) t in
-    let less = fewer d w memory before records h.bytes (joined h.pieces) shape held p.taken (omega (arith, k, some_taken (lent h))) (record-lies d w memory before (lent h) shape records) in
-    steps_are n d w after p.words p.records (next bytes_needed p.taken h) (ap (bad_shape d w) (record-keeps d w memory before (lent h) shape) ∙ shape) on.1
+    let less = fewer d w memory before records h.bytes (joined h.pieces) shape held p.taken (omega (arith, k, some_taken (lent h))) (record_lies d w memory before (lent h) shape records) in
+    steps_are n d w after p.words p.records (next bytes_needed p.taken h) (ap (bad_shape d w) (record_keeps d w memory before (lent h) shape) ∙ shape) on.1
     (omega (arith, less, ap (λ (b : List ℕ). length (whole_words b)) on.0))
     ∙ ap (lines_from d w after p.words p.records) on.0)
     (λ t. after_same p.words (next end_needs p.taken h).bytes (joined (next end_needs p.taken h).pieces) end.1 ∙ ap (after_end p.words) end.0)
@@ -99,6 +99,6 @@ pieces_are ps =
     followed_on (head_line a) _ [] t
     ∙ ap (λ (ls : List Line). head_line a ∷ ls) (steps_are (length (whole_words (joined ps))) d w zeros 1 0 (next bytes_needed 1 h) shape then.1 few ∙ ap (lines_from d w zeros 1 0) then.0)
     ∙ ap (λ (l : Line). l ∷ lines_from d w zeros 1 0 (drop (4 * 1) h.bytes ++ rest)) g
-    ∙ sym (head-lines h.bytes rest on.1 d w g)
+    ∙ sym (head_lines h.bytes rest on.1 d w g)
     ∙ ap feed_lines on.0)
-    (λ t. followed_off (head_line a) _ t ∙ sym (head-stops h.bytes rest on.1 t) ∙ ap feed_lines on.0)
+    (λ t. followed_off (head_line a) _ t ∙ sym (head_stops h.bytes rest on.1 t) ∙ ap feed_lines on.0)

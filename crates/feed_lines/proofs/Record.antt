@@ -172,14 +172,14 @@ module _ (d w : ℕ) (memory : List ℕ) (before : ℕ) (words : List ℕ) (shap
         (λ e. rw e (cases (eqb n (before % 2 ^ 28)) (λ b. rw b (ends (end_words_lem words u q e))) (λ b. rw b (stopping 9 0 nine))))
         (λ e. rw e (stopping 8 0 eight))))))
 
-    record-cases : P (recorded d w memory before words)
-    record-cases = rw (record_good d w memory before words shape) sound
+    record_cases : P (recorded d w memory before words)
+    record_cases = rw (record_good d w memory before words shape) sound
 
   -- a record keeps the memory's length
-  pub record-keeps : length (recorded d w memory before words).memory ≡ length memory
+  pub record_keeps : length (recorded d w memory before words).memory ≡ length memory
   unfolding updated
-  record-keeps =
-      record-cases (λ c. length c.memory ≡ length memory) (λ s p h. refl)
+  record_keeps =
+      record_cases (λ c. length c.memory ≡ length memory) (λ s p h. refl)
       (λ h.
       cases (eqb (updated d w memory key amount).answer.status 0)
       (λ t. (update_accepted d w memory key amount (eqb-true _ 0 t)).long)
@@ -188,10 +188,10 @@ module _ (d w : ℕ) (memory : List ℕ) (before : ℕ) (words : List ℕ) (shap
       (λ h. refl)
 
   -- what it takes is lent
-  pub record-lies : (records : ℕ) → taken_by (record_line d w memory before records words) words ≤ length words
+  pub record_lies : (records : ℕ) → taken_by (record_line d w memory before records words) words ≤ length words
   unfolding taken_by line_of refused_line continues is_end
-  record-lies records =
-      record-cases (λ c. taken_by (line_of c.outcome before records) words ≤ length words) (λ s p h. rw h (omega arith))
+  record_lies records =
+      record_cases (λ c. taken_by (line_of c.outcome before records) words ≤ length words) (λ s p h. rw h (omega arith))
       (λ h. omega (arith, taken_most (line_of (outcome_of (updated d w memory key amount).answer case.Updated) before records) words))
       (λ h. omega (arith, taken_most (line_of (outcome_of (estimated d w memory key) (case.Estimate (estimated d w memory key).value)) before records) words))
       (λ h. h)
@@ -199,4 +199,4 @@ module _ (d w : ℕ) (memory : List ℕ) (before : ℕ) (words : List ℕ) (shap
 -- the same of what the code finds one after another
 pub step_lies : (d w : ℕ) (memory : List ℕ) (before records : ℕ) (words : List ℕ) (r : Recorded) (l : Line) (n : ℕ) → bad_shape d w (length memory) ≡ 0
     → r ≡ (recorded d w memory before words).outcome → l ≡ line_of r before records → n ≡ taken_by l words → n ≤ length words
-step_lies d w memory before records words r l n shape e f g = rw (g, f, e) (record-lies d w memory before words shape records)
+step_lies d w memory before records words r l n shape e f g = rw (g, f, e) (record_lies d w memory before words shape records)

@@ -11,8 +11,8 @@ use Rattle.answer.specs.Numbers.{bad_payload, bad_word}
 use Rattle.geometry.specs.Checks.{bad_key}
 use Rattle.word.specs.Word.{end_kind, next, payload, is_due, below}
 use Rattle.word.proofs.Places.{below_on}
-use Rattle.word.proofs.Before.{next_same, payload_same, due-same, below-same}
-use Rattle.feed_keys.proofs.Places.{key_on, key-words-same}
+use Rattle.word.proofs.Before.{next_same, payload_same, due_same, below_same}
+use Rattle.feed_keys.proofs.Places.{key_on, key_words_same}
 use Rattle.feed_records.specs.declared.Opening.{Opening}
 use Rattle.feed_records.specs.declared.Opening.TheVariants as opening
 use Rattle.feed_keys.specs.Keys.{key_words, check_key}
@@ -79,26 +79,26 @@ module _ (words : List ℕ) (n : ℕ) where
   abbrev front : List ℕ
   front = take n words
 
-  amount-same : (p : ℕ) → p + 2 ≤ n → check_amount front p ≡ check_amount words p
+  amount_same : (p : ℕ) → p + 2 ≤ n → check_amount front p ≡ check_amount words p
   unfolding check_amount
-  amount-same p h =
+  amount_same p h =
       let l = below_on words p amount_kind (2 ^ 16) in
       next_same (below front p amount_kind (2 ^ 16)) (below words p amount_kind (2 ^ 16)) (λ q. below front q amount_kind (2 ^ 16)) (λ q. below words q amount_kind (2 ^ 16))
-      (below-same words n p amount_kind (2 ^ 16) (omega arith)) (below-same words n (below words p amount_kind (2 ^ 16)).position amount_kind (2 ^ 16) (omega arith))
+      (below_same words n p amount_kind (2 ^ 16) (omega arith)) (below_same words n (below words p amount_kind (2 ^ 16)).position amount_kind (2 ^ 16) (omega arith))
 
   pub update_same : (m : ℕ) → 1 + key_words m + 2 ≤ n → update_body m front ≡ update_body m words
   unfolding update_body update_step amount_of
   update_same m h =
       let l = key_on (key_words m) m words 1 in
       let s : next (check_key (key_words m) m front 1) (λ p. check_amount front p) ≡ next (check_key (key_words m) m words 1) (λ p. check_amount words p) =
-      next_same (check_key (key_words m) m front 1) (check_key (key_words m) m words 1) (λ p. check_amount front p) (λ p. check_amount words p) (key-words-same words n (key_words m) m 1 (omega arith))
-      (amount-same (check_key (key_words m) m words 1).position (omega arith)) in
+      next_same (check_key (key_words m) m front 1) (check_key (key_words m) m words 1) (λ p. check_amount front p) (λ p. check_amount words p) (key_words_same words n (key_words m) m 1 (omega arith))
+      (amount_same (check_key (key_words m) m words 1).position (omega arith)) in
       rw (s, payload_same words n (1 + key_words m) (omega arith), payload_same words n (2 + key_words m) (omega arith))
 
-  pub query-same : (m : ℕ) → 1 + key_words m ≤ n → query_body m front ≡ query_body m words
+  pub query_same : (m : ℕ) → 1 + key_words m ≤ n → query_body m front ≡ query_body m words
   unfolding query_body query_step
-  query-same m h = rw (key-words-same words n (key_words m) m 1 h)
+  query_same m h = rw (key_words_same words n (key_words m) m 1 h)
 
-  pub opened-same : (before : ℕ) → 1 ≤ n → opened before front ≡ opened before words
+  pub opened_same : (before : ℕ) → 1 ≤ n → opened before front ≡ opened before words
   unfolding opened
-  opened-same before h = rw (due-same words n 0 update_kind h, due-same words n 0 query_kind h, due-same words n 0 end_kind h, payload_same words n 0 h)
+  opened_same before h = rw (due_same words n 0 update_kind h, due_same words n 0 query_kind h, due_same words n 0 end_kind h, payload_same words n 0 h)

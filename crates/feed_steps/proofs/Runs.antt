@@ -69,8 +69,8 @@ module _ (d w : ℕ) (memory : List ℕ) (n : ℕ) (s : State) (input output : L
   chosen i o input' rest = cases o.failed (λ t. rw t) (λ t. rw t)
 
   -- bytes received, and lines written, are a part of a run
-  pub received-ran : (r : State) (input' : List ℕ) → Received n s input output r input' → Ran d w memory s input output memory r input' output
-  received-ran r input' c =
+  pub received_ran : (r : State) (input' : List ℕ) → Received n s input output r input' → Ran d w memory s input output memory r input' output
+  received_ran r input' c =
       let i = r.input in
       let o = r.output in
       let f = c.filled in
@@ -114,38 +114,38 @@ module _ (d w : ℕ) (memory : List ℕ) (s : State) (input output : List ℕ) (
   abbrev hand₁ : List ℕ
   hand₁ = unused s.input input
 
-  first-spared : bytes_needed hand₁ ≤ length hand₁ → c.filled.read ≡ []
-  first-spared l = c.filled.spared (omega (arith, some_needed (whole_words hand₁), l))
+  first_spared : bytes_needed hand₁ ≤ length hand₁ → c.filled.read ≡ []
+  first_spared l = c.filled.spared (omega (arith, some_needed (whole_words hand₁), l))
 
-  pub stepped-first : Stepped d w memory s input output memory a input₁ output
-  unfolding received-ran
-  stepped-first = record { ran = received-ran d w memory 4 s input output a input₁ c; spared = first-spared }
+  pub stepped_first : Stepped d w memory s input output memory a input₁ output
+  unfolding received_ran
+  stepped_first = record { ran = received_ran d w memory 4 s input output a input₁ c; spared = first_spared }
 
   module _ (n : ℕ) (b : State) (input₂ : List ℕ) (e : Received n a input₁ output b input₂) (q : n ≡ bytes_needed (unused a.input input₁)) (on : a.output.failed ≡ false) where
-    same-hand : bytes_needed hand₁ ≤ length hand₁ → unused a.input input₁ ≡ hand₁
-    same-hand l = c.filled.joined ∙ ap (λ (x : List ℕ). hand₁ ++ x) (first-spared l) ∙ append-nil hand₁
+    same_hand : bytes_needed hand₁ ≤ length hand₁ → unused a.input input₁ ≡ hand₁
+    same_hand l = c.filled.joined ∙ ap (λ (x : List ℕ). hand₁ ++ x) (first_spared l) ∙ append-nil hand₁
 
-    next-spared : bytes_needed hand₁ ≤ length hand₁ → e.filled.read ≡ []
-    next-spared l = let same = same-hand l in e.filled.spared (omega (arith, q, ap bytes_needed same, ap length same, l))
+    next_spared : bytes_needed hand₁ ≤ length hand₁ → e.filled.read ≡ []
+    next_spared l = let same = same_hand l in e.filled.spared (omega (arith, q, ap bytes_needed same, ap length same, l))
 
-    pub stepped-next : Stepped d w memory s input output memory b input₂ output
-    unfolding received-ran ran_then
-    stepped-next =
+    pub stepped_next : Stepped d w memory s input output memory b input₂ output
+    unfolding received_ran ran_then
+    stepped_next =
         record {
-          ran = ran_then d w memory s input output memory a input₁ output memory b input₂ output on (received-ran d w memory 4 s input output a input₁ c)
-              (received-ran d w memory n a input₁ output b input₂ e);
-          spared = λ l. ap₂ (λ (x y : List ℕ). x ++ y) (first-spared l) (next-spared l);
+          ran = ran_then d w memory s input output memory a input₁ output memory b input₂ output on (received_ran d w memory 4 s input output a input₁ c)
+              (received_ran d w memory n a input₁ output b input₂ e);
+          spared = λ l. ap₂ (λ (x y : List ℕ). x ++ y) (first_spared l) (next_spared l);
         }
 
-    pub stepped-all : b.output.failed ≡ false → (memory' : List ℕ) (r : State) (output' : List ℕ) → Stepped d w memory b input₂ output memory' r input₂ output'
+    pub stepped_all : b.output.failed ≡ false → (memory' : List ℕ) (r : State) (output' : List ℕ) → Stepped d w memory b input₂ output memory' r input₂ output'
         → Stepped d w memory s input output memory' r input₂ output'
     unfolding ran_then
-    stepped-all on₂ memory' r output' g =
+    stepped_all on₂ memory' r output' g =
         record {
-          ran = ran_then d w memory s input output memory b input₂ output memory' r input₂ output' on₂ stepped-next.ran g.ran;
+          ran = ran_then d w memory s input output memory b input₂ output memory' r input₂ output' on₂ stepped_next.ran g.ran;
           spared = λ l.
-              let same : unused b.input input₂ ≡ hand₁ = e.filled.joined ∙ ap₂ (λ (x y : List ℕ). x ++ y) (same-hand l) (next-spared l) ∙ append-nil hand₁ in
-              ap₂ (λ (x y : List ℕ). x ++ y) (stepped-next.spared l) (g.spared (rw same l));
+              let same : unused b.input input₂ ≡ hand₁ = e.filled.joined ∙ ap₂ (λ (x y : List ℕ). x ++ y) (same_hand l) (next_spared l) ∙ append-nil hand₁ in
+              ap₂ (λ (x y : List ℕ). x ++ y) (stepped_next.spared l) (g.spared (rw same l));
         }
 
 -- where a step leads
@@ -179,11 +179,11 @@ module _ (d w : ℕ) (memory : List ℕ) (s : State) (input output memory' outpu
   did = progress d w memory s.words s.records words
 
   -- one record or the end: its line comes behind the text at hand
-  step-ran : bad_shape d w (length memory) ≡ 0 → s.runs ≡ true → Within s.input input → Held (bytes_needed hand₀) s.input input
+  step_ran : bad_shape d w (length memory) ≡ 0 → s.runs ≡ true → Within s.input input → Held (bytes_needed hand₀) s.input input
       → memory' ≡ (recorded d w memory s.words words).memory → s.input.start + 4 * did.taken ≤ s.input.end → did.words ≡ s.words + did.taken
       → take out output' ≡ take s.output.at output ++ text did.line
       → Ran d w memory s input output memory' (state_after s.input did out) input output'
-  step-ran shape runs inside held m lies count put =
+  step_ran shape runs inside held m lies count put =
       record {
         read = [];
         sent = [];
@@ -212,9 +212,9 @@ module _ (d w : ℕ) (memory : List ℕ) (s : State) (input output memory' outpu
   pub stepped : bad_shape d w (length memory) ≡ 0 → s.runs ≡ true → Within s.input input → Held (bytes_needed hand₀) s.input input
       → memory' ≡ (recorded d w memory s.words words).memory → (p : Progress) (r : State) → p ≡ did → s.input.start + 4 * p.taken ≤ s.input.end
       → take out output' ≡ take s.output.at output ++ text p.line → r ≡ state_after s.input p out → Stepped d w memory s input output memory' r input output'
-  unfolding progress step-ran
+  unfolding progress step_ran
   stepped shape runs inside held m p r e lies put q =
-      rw (q, e) (record { ran = step-ran shape runs inside held m (rw e at lies) refl (rw e at put); spared = λ l. refl })
+      rw (q, e) (record { ran = step_ran shape runs inside held m (rw e at lies) refl (rw e at put); spared = λ l. refl })
 
 -- the counts after a step
 pub progressed : (d w : ℕ) (memory : List ℕ) (before records : ℕ) (words : List ℕ) (p : Progress) → p ≡ progress d w memory before records words

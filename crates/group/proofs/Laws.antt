@@ -105,48 +105,48 @@ unfolding cap
 settle_over g x f h = settle_past plain g x (over_of_lem ordinary_sums plain x f h)
 
 module _ (g : Group) (slot amount : ℕ) where
-  pub added-invalid : valid 3 g.merge ≡ false → added g slot amount ≡ unchanged invalid_content g
+  pub added_invalid : valid 3 g.merge ≡ false → added g slot amount ≡ unchanged invalid_content g
   unfolding added
-  added-invalid v = rw v
+  added_invalid v = rw v
 
   module _ (h : number g.counts < cap 3) (v : valid 3 g.merge ≡ true) where
-    add-is-sound : Sound (add (decode g) (slot % 8) amount)
+    add_is_sound : Sound (add (decode g) (slot % 8) amount)
     unfolding decode
-    add-is-sound = add_sound (decode g) (slot % 8) amount (block_fits 3 (number g.counts) g.merge h)
+    add_is_sound = add_sound (decode g) (slot % 8) amount (block_fits 3 (number g.counts) g.merge h)
 
     pub added_full : 2 ^ 64 ≤ total (decode g) + amount → added g slot amount ≡ unchanged counter_full g
     unfolding added
-    added_full k = rw v (settle_over g (add (decode g) (slot % 8) amount) add-is-sound (omega (arith, add_total (decode g) (slot % 8) amount)))
+    added_full k = rw v (settle_over g (add (decode g) (slot % 8) amount) add_is_sound (omega (arith, add_total (decode g) (slot % 8) amount)))
 
-  pub added-summed : (s : Summed) → valid 3 g.merge ≡ true → s.over ≡ false → s ≡ summed (add (decode g) (slot % 8) amount) → stored s ≡ added g slot amount
+  pub added_summed : (s : Summed) → valid 3 g.merge ≡ true → s.over ≡ false → s ≡ summed (add (decode g) (slot % 8) amount) → stored s ≡ added g slot amount
   unfolding added
-  added-summed s v o e = rw (v, e) (sym (settle_summed plain g (add (decode g) (slot % 8) amount) (sym (ap (λ (x : Summed). x.over) e) ∙ o)))
+  added_summed s v o e = rw (v, e) (sym (settle_summed plain g (add (decode g) (slot % 8) amount) (sym (ap (λ (x : Summed). x.over) e) ∙ o)))
 
   -- whether the counter holds the sum, by the group's validity
-  pub holds-invalid : valid 3 g.merge ≡ false → holds g slot amount ≡ false
+  pub holds_invalid : valid 3 g.merge ≡ false → holds g slot amount ≡ false
   unfolding holds
-  holds-invalid v = rw v
+  holds_invalid v = rw v
 
   pub holds_valid : valid 3 g.merge ≡ true
       → holds g slot amount ≡ ltb ((counter_at (decode g) (slot % 8)).value + amount) (cap (counter_at (decode g) (slot % 8)).level)
   unfolding holds
   holds_valid v = rw v
 
-  pub not-held : valid 3 g.merge ≡ true → holds g slot amount ≡ false → cap (counter_at (decode g) (slot % 8)).level ≤ (counter_at (decode g) (slot % 8)).value + amount
-  not-held v h = ltb-false _ _ (sym (holds_valid v) ∙ h)
+  pub not_held : valid 3 g.merge ≡ true → holds g slot amount ≡ false → cap (counter_at (decode g) (slot % 8)).level ≤ (counter_at (decode g) (slot % 8)).value + amount
+  not_held v h = ltb-false _ _ (sym (holds_valid v) ∙ h)
 
   -- where it does, the addition is accepted and the layout stays
-  added-held : holds g slot amount ≡ true → added g slot amount ≡ record { status = 0; group = record { counts = (added g slot amount).group.counts; merge = g.merge } }
+  added_held : holds g slot amount ≡ true → added g slot amount ≡ record { status = 0; group = record { counts = (added g slot amount).group.counts; merge = g.merge } }
   unfolding holds added settle encode decode
-  added-held h =
+  added_held h =
       let v = (and-eq-true_iff (valid 3 g.merge) _).0 h in
       let s = add_in_place (decode g) (slot % 8) amount (ltb-true _ _ v.1) in
       rw (v.0, s.1, s.2, marks_block 3 (number g.counts) g.merge v.0)
 
-  pub added-kept : (r : Kept) → r.held ≡ true → r.held ≡ holds g slot amount → r.counts ≡ cond r.held (added g slot amount).group.counts g.counts
+  pub added_kept : (r : Kept) → r.held ≡ true → r.held ≡ holds g slot amount → r.counts ≡ cond r.held (added g slot amount).group.counts g.counts
       → added g slot amount ≡ record { status = 0; group = record { counts = r.counts; merge = g.merge } }
-  added-kept r t h e =
-      added-held (sym h ∙ t) ∙ ap (λ (l : List ℕ). record { status = 0; group = record { counts = l; merge = g.merge } }) (sym (rw t at e))
+  added_kept r t h e =
+      added_held (sym h ∙ t) ∙ ap (λ (l : List ℕ). record { status = 0; group = record { counts = l; merge = g.merge } }) (sym (rw t at e))
 
   -- and the counter has the amount more
   pub read_held : number g.counts < cap 3 → holds g slot amount ≡ true → (read (added g slot amount).group slot).value ≡ (counter_at (decode g) (slot % 8)).value + amount
@@ -154,42 +154,42 @@ module _ (g : Group) (slot amount : ℕ) where
   read_held w h =
       let v = (and-eq-true_iff (valid 3 g.merge) _).0 h in
       let s = add_in_place (decode g) (slot % 8) amount (ltb-true _ _ v.1) in
-      rw (v.0, s.1, encode_valid s.0, decode_encode s.0 (rw s.1 at (add-is-sound w v.0)), s.4)
+      rw (v.0, s.1, encode_valid s.0, decode_encode s.0 (rw s.1 at (add_is_sound w v.0)), s.4)
 
 module _ (g source : Group) where
-  pub united-invalid : valid 3 g.merge ≡ false → united_groups g source ≡ unchanged invalid_content g
+  pub united_invalid : valid 3 g.merge ≡ false → united_groups g source ≡ unchanged invalid_content g
   unfolding united_groups
-  united-invalid v = rw v
+  united_invalid v = rw v
 
-  pub united-source-invalid : valid 3 g.merge ≡ true → valid 3 source.merge ≡ false → united_groups g source ≡ unchanged invalid_content g
+  pub united_source_invalid : valid 3 g.merge ≡ true → valid 3 source.merge ≡ false → united_groups g source ≡ unchanged invalid_content g
   unfolding united_groups
-  united-source-invalid v w = rw (v, w)
+  united_source_invalid v w = rw (v, w)
 
   -- a union that leaves the target's layout
-  pub united-fits : (w : ℕ) → w < cap 3 → valid 3 g.merge ≡ true → valid 3 source.merge ≡ true
+  pub united_fits : (w : ℕ) → w < cap 3 → valid 3 g.merge ≡ true → valid 3 source.merge ≡ true
       → unite (decode g) (decode source) ≡ fits (block 3 w g.merge)
       → stored (record { over = false; word = w; merge = g.merge }) ≡ united_groups g source
   unfolding united_groups settle stored encode
-  united-fits w h v v' e = rw (v, v', e, word_block 3 w g.merge h, marks_block 3 w g.merge v)
+  united_fits w h v v' e = rw (v, v', e, word_block 3 w g.merge h, marks_block 3 w g.merge v)
 
   module _ (h : number g.counts < cap 3) (k : number source.counts < cap 3) (v : valid 3 g.merge ≡ true) (w : valid 3 source.merge ≡ true) where
-    unite-is-sound : Sound (unite (decode g) (decode source))
+    unite_is_sound : Sound (unite (decode g) (decode source))
     unfolding decode
-    unite-is-sound =
+    unite_is_sound =
         unite_sound (decode g) (decode source) (block_fits 3 (number g.counts) g.merge h) (block_fits 3 (number source.counts) source.merge k)
 
-    pub united-full : 2 ^ 64 ≤ total (decode g) + total (decode source) → united_groups g source ≡ unchanged counter_full g
+    pub united_full : 2 ^ 64 ≤ total (decode g) + total (decode source) → united_groups g source ≡ unchanged counter_full g
     unfolding united_groups
-    united-full k = rw (v, w) (settle_over g (unite (decode g) (decode source)) unite-is-sound (omega (arith, unite_total (decode g) (decode source))))
+    united_full k = rw (v, w) (settle_over g (unite (decode g) (decode source)) unite_is_sound (omega (arith, unite_total (decode g) (decode source))))
 
-    pub united-stored : total (decode g) + total (decode source) < 2 ^ 64 → united_groups g source ≡ stored (summed (unite (decode g) (decode source)))
+    pub united_stored : total (decode g) + total (decode source) < 2 ^ 64 → united_groups g source ≡ stored (summed (unite (decode g) (decode source)))
     unfolding united_groups
-    united-stored k = rw (v, w) (settle_fits g (unite (decode g) (decode source)) unite-is-sound (omega (arith, unite_total (decode g) (decode source))))
+    united_stored k = rw (v, w) (settle_fits g (unite (decode g) (decode source)) unite_is_sound (omega (arith, unite_total (decode g) (decode source))))
 
   -- by its status alone a union is refused, or both groups are valid and one counter would hold all their counters
-  pub united-refused : ((united_groups g source).status ≡ 0 → ⊥) → united_groups g source ≡ unchanged (united_groups g source).status g
+  pub united_refused : ((united_groups g source).status ≡ 0 → ⊥) → united_groups g source ≡ unchanged (united_groups g source).status g
   unfolding united_groups settle
-  united-refused = go (valid 3 g.merge && valid 3 source.merge) (unite (decode g) (decode source))
+  united_refused = go (valid 3 g.merge && valid 3 source.merge) (unite (decode g) (decode source))
     where
       go : (t : Bool) (x : Sum 3) → ((cond t (settle g x) (unchanged invalid_content g)).status ≡ 0 → ⊥)
           → cond t (settle g x) (unchanged invalid_content g) ≡ unchanged (cond t (settle g x) (unchanged invalid_content g)).status g
@@ -197,19 +197,19 @@ module _ (g source : Group) where
       go true (over s) n = refl
       go false x n = refl
 
-  both-valid : (united_groups g source).status ≡ 0 → (valid 3 g.merge && valid 3 source.merge) ≡ true
+  both_valid : (united_groups g source).status ≡ 0 → (valid 3 g.merge && valid 3 source.merge) ≡ true
   unfolding united_groups
-  both-valid = go (valid 3 g.merge && valid 3 source.merge)
+  both_valid = go (valid 3 g.merge && valid 3 source.merge)
     where
       go : (t : Bool) → (cond t (settle g (unite (decode g) (decode source))) (unchanged invalid_content g)).status ≡ 0 → t ≡ true
       go true e = refl
       go false e = absurd (omega arith)
 
-  pub united-taken : number g.counts < cap 3 → number source.counts < cap 3 → (united_groups g source).status ≡ 0
+  pub united_taken : number g.counts < cap 3 → number source.counts < cap 3 → (united_groups g source).status ≡ 0
       → (valid 3 g.merge ≡ true) × (valid 3 source.merge ≡ true) × (total (decode g) + total (decode source) < 2 ^ 64)
-  united-taken h k e =
-      let v = (and-eq-true_iff (valid 3 g.merge) (valid 3 source.merge)).0 (both-valid e) in
+  united_taken h k e =
+      let v = (and-eq-true_iff (valid 3 g.merge) (valid 3 source.merge)).0 (both_valid e) in
       elim (dec_lt (total (decode g) + total (decode source)) (2 ^ 64)) [
         | yes l ↦ (v.0, v.1, l)
-        | no l ↦ absurd (omega (arith, sym e ∙ ap (λ (o : Outcome). o.status) (united-full h k v.0 v.1 (omega arith))))
+        | no l ↦ absurd (omega (arith, sym e ∙ ap (λ (o : Outcome). o.status) (united_full h k v.0 v.1 (omega arith))))
       ]

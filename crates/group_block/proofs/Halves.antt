@@ -31,20 +31,20 @@ module _ {K : Kind} (D : Coded K) where
   sum_is (over s) f = ap over (D.back_is s)
 
   -- what the code's join does in each of its cases
-  pub join-left : (n : ℕ) (l r : Summed) → l.over ≡ true
+  pub join_left : (n : ℕ) (l r : Summed) → l.over ≡ true
       → passed (held (n + 1) (K.plus (sum_total (taken n l)) (sum_total (taken n r)))) ≡ passed (join (taken n l) (taken n r))
   unfolding sum_as sum_total join
-  join-left n l r e = rw (add-one n, e)
+  join_left n l r e = rw (add-one n, e)
 
-  pub join-right : (n : ℕ) (l r : Summed) → l.over ≡ false → r.over ≡ true
+  pub join_right : (n : ℕ) (l r : Summed) → l.over ≡ false → r.over ≡ true
       → passed (held (n + 1) (K.plus (sum_total (taken n l)) (sum_total (taken n r)))) ≡ passed (join (taken n l) (taken n r))
   unfolding sum_as sum_total join
-  join-right n l r e f = rw (add-one n, e, f)
+  join_right n l r e f = rw (add-one n, e, f)
 
-  pub join-both : (n : ℕ) (l r : Summed) → l.over ≡ false → r.over ≡ false → AptAs K n l → AptAs K n r
+  pub join_both : (n : ℕ) (l r : Summed) → l.over ≡ false → r.over ≡ false → AptAs K n l → AptAs K n r
       → record { over = false; word = r.word * cap n + l.word; merge = r.merge * 2 ^ (2 ^ n) + l.merge } ≡ passed (join (taken n l) (taken n r))
   unfolding sum_as summed_as join number_of shape marks
-  join-both n l r e f p q =
+  join_both n l r e f p q =
       rw (
         e,
         f,
@@ -55,13 +55,13 @@ module _ {K : Kind} (D : Coded K) where
       )
 
   -- a struct that was made of a sound Sum stands for it
-  summed-apt : {n : ℕ} (x : SumOf K n) → Sound x → (s : Summed) → s ≡ passed x → AptAs K n s
+  summed_apt : {n : ℕ} (x : SumOf K n) → Sound x → (s : Summed) → s ≡ passed x → AptAs K n s
   unfolding summed_as Sound
-  summed-apt (fits b) f s e = rw e (λ o. ((word_lt_of D.codes b f, valid_marks (shape b)), rw (layout_marks (shape b)) (word_clean D.codes b f)))
-  summed-apt (over t) f s e = rw e (λ o. absurd (true≢false o))
+  summed_apt (fits b) f s e = rw e (λ o. ((word_lt_of D.codes b f, valid_marks (shape b)), rw (layout_marks (shape b)) (word_clean D.codes b f)))
+  summed_apt (over t) f s e = rw e (λ o. absurd (true≢false o))
 
-  summed-is : {n : ℕ} (x : SumOf K n) → Sound x → (s : Summed) → s ≡ passed x → taken n s ≡ x
-  summed-is {n} x f s e = ap (taken n) e ∙ sum_is x f
+  summed_is : {n : ℕ} (x : SumOf K n) → Sound x → (s : Summed) → s ≡ passed x → taken n s ≡ x
+  summed_is {n} x f s e = ap (taken n) e ∙ sum_is x f
 
   -- what the code's join asks
   abbrev pub JoinAsked : ℕ → Summed → Summed → Type 0
@@ -69,17 +69,17 @@ module _ {K : Kind} (D : Coded K) where
 
   module _ {n : ℕ} (x y : SumOf K n) (x-sound : Sound x) (y-sound : Sound y) (s t : Summed) (s-is : s ≡ passed x) (t-is : t ≡ passed y) where
     -- what the code's join asks, and what it gives
-    pub join-asks : n ≤ 2 → K.size (sum_total x) + K.size (sum_total y) < 2 ^ 64 → JoinAsked n s t
-    join-asks h k = (h, (summed-apt x x-sound s s-is, (summed-apt y y-sound t t-is, rw (summed-is x x-sound s s-is, summed-is y y-sound t t-is) k)))
+    pub join_asks : n ≤ 2 → K.size (sum_total x) + K.size (sum_total y) < 2 ^ 64 → JoinAsked n s t
+    join_asks h k = (h, (summed_apt x x-sound s s-is, (summed_apt y y-sound t t-is, rw (summed_is x x-sound s s-is, summed_is y y-sound t t-is) k)))
 
-    pub join-gives : passed (join (taken n s) (taken n t)) ≡ passed (join x y)
-    join-gives = rw (summed-is x x-sound s s-is, summed-is y y-sound t t-is)
+    pub join_gives : passed (join (taken n s) (taken n t)) ≡ passed (join x y)
+    join_gives = rw (summed_is x x-sound s s-is, summed_is y y-sound t t-is)
 
   -- a block as the code passes it
-  pub block-summed : (n : ℕ) (s : Summed) → s.over ≡ false → Sane n s.word s.merge → all_clean K (layout n s.merge) s.word ≡ true
+  pub block_summed : (n : ℕ) (s : Summed) → s.over ≡ false → Sane n s.word s.merge → all_clean K (layout n s.merge) s.word ≡ true
       → s ≡ passed (fits (block_as K n s.word s.merge))
   unfolding summed_as
-  block-summed n s e h c =
+  block_summed n s e h c =
       rw (word_block_of D.codes n s.word s.merge h.0 c, marks_block_of K n s.word s.merge h.1)
       (ap (λ (o : Bool). record { over = o; word = s.word; merge = s.merge }) e)
 
@@ -119,53 +119,53 @@ both_apart K {n} {w} {m} {w'} {m'} p q f = rw (p.l_is, p.r_is, q.l_is, q.r_is) (
     go (suc n) e e' = rw (sub-one (suc n)) (ap₂ (f (suc n)) (block_suc K n w m e) (block_suc K n w' m' e'))
 
 module _ {n w m : ℕ} {l r : Summed} (p : Apart n w m l r) where
-  pub apart-is : (K : Kind) {A : Type 0} (f : (n : ℕ) → BlockOf K n → A)
+  pub apart_is : (K : Kind) {A : Type 0} (f : (n : ℕ) → BlockOf K n → A)
       → f n (block_as K n w m) ≡ f (suc (n - 1)) (split (block_as K (n - 1) l.word l.merge) (block_as K (n - 1) r.word r.merge))
-  apart-is K f = both_apart K p p (λ n b c. f n b)
+  apart_is K f = both_apart K p p (λ n b c. f n b)
 
-  pub words-in : w < cap n → (l.word < cap (n - 1)) × (r.word < cap (n - 1))
+  pub words_in : w < cap n → (l.word < cap (n - 1)) × (r.word < cap (n - 1))
   unfolding left_half right_half
-  words-in h = rw (p.l_is, p.r_is) (halves_in n w (above_slot n m p.apart) h)
+  words_in h = rw (p.l_is, p.r_is) (halves_in n w (above_slot n m p.apart) h)
 
-  pub left-sane : Sane n w m → Sane (n - 1) l.word l.merge
+  pub left_sane : Sane n w m → Sane (n - 1) l.word l.merge
   unfolding left_half
-  left-sane h = ((words-in h.0).0, rw p.l_is (valid_apart n m p.apart h.1).0)
+  left_sane h = ((words_in h.0).0, rw p.l_is (valid_apart n m p.apart h.1).0)
 
-  pub right-sane : Sane n w m → Sane (n - 1) r.word r.merge
+  pub right_sane : Sane n w m → Sane (n - 1) r.word r.merge
   unfolding right_half
-  right-sane h = ((words-in h.0).1, rw p.r_is (valid_apart n m p.apart h.1).1)
+  right_sane h = ((words_in h.0).1, rw p.r_is (valid_apart n m p.apart h.1).1)
 
   module _ {K : Kind} (D : Coded K) where
-    pub left-clean : all_clean K (layout n m) w ≡ true → all_clean K (layout (n - 1) l.merge) l.word ≡ true
+    pub left_clean : all_clean K (layout n m) w ≡ true → all_clean K (layout (n - 1) l.merge) l.word ≡ true
     unfolding left_half
-    left-clean c = rw p.l_is (halves_clean K n w m p.apart c).0
+    left_clean c = rw p.l_is (halves_clean K n w m p.apart c).0
 
-    pub right-clean : all_clean K (layout n m) w ≡ true → all_clean K (layout (n - 1) r.merge) r.word ≡ true
+    pub right_clean : all_clean K (layout n m) w ≡ true → all_clean K (layout (n - 1) r.merge) r.word ≡ true
     unfolding right_half
-    right-clean c = rw p.r_is (halves_clean K n w m p.apart c).1
+    right_clean c = rw p.r_is (halves_clean K n w m p.apart c).1
 
     -- the halves as sound Sums
     pub left_is : Sane n w m → all_clean K (layout n m) w ≡ true → l ≡ summed_as D.passing (fits (block_as K (n - 1) l.word l.merge))
     unfolding left_half
-    left_is h c = block-summed D (n - 1) l (ap (λ (s : Summed). s.over) p.l_is) (left-sane h) (left-clean c)
+    left_is h c = block_summed D (n - 1) l (ap (λ (s : Summed). s.over) p.l_is) (left_sane h) (left_clean c)
 
     pub right_is : Sane n w m → all_clean K (layout n m) w ≡ true → r ≡ summed_as D.passing (fits (block_as K (n - 1) r.word r.merge))
     unfolding right_half
-    right_is h c = block-summed D (n - 1) r (ap (λ (s : Summed). s.over) p.r_is) (right-sane h) (right-clean c)
+    right_is h c = block_summed D (n - 1) r (ap (λ (s : Summed). s.over) p.r_is) (right_sane h) (right_clean c)
 
-    pub left-fits : w < cap n → Fits (block_as K (n - 1) l.word l.merge)
-    left-fits h = block_fits_of D.codes (n - 1) l.word l.merge (words-in h).0
+    pub left_fits : w < cap n → Fits (block_as K (n - 1) l.word l.merge)
+    left_fits h = block_fits_of D.codes (n - 1) l.word l.merge (words_in h).0
 
-    pub right-fits : w < cap n → Fits (block_as K (n - 1) r.word r.merge)
-    right-fits h = block_fits_of D.codes (n - 1) r.word r.merge (words-in h).1
+    pub right_fits : w < cap n → Fits (block_as K (n - 1) r.word r.merge)
+    right_fits h = block_fits_of D.codes (n - 1) r.word r.merge (words_in h).1
 
     -- the halves' totals are held by counters of their level
-    pub totals-in : w < cap n
+    pub totals_in : w < cap n
         → (K.size (total (block_as K (n - 1) l.word l.merge)) < K.bound (n - 1)) × (K.size (total (block_as K (n - 1) r.word r.merge)) < K.bound (n - 1))
-    totals-in h =
-        (total_size D.sums (block_as K (n - 1) l.word l.merge) (left-fits h), total_size D.sums (block_as K (n - 1) r.word r.merge) (right-fits h))
+    totals_in h =
+        (total_size D.sums (block_as K (n - 1) l.word l.merge) (left_fits h), total_size D.sums (block_as K (n - 1) r.word r.merge) (right_fits h))
 
     -- and make the block's
-    pub total-apart : K.plus (total (block_as K (n - 1) l.word l.merge)) (total (block_as K (n - 1) r.word r.merge)) ≡ total (block_as K n w m)
+    pub total_apart : K.plus (total (block_as K (n - 1) l.word l.merge)) (total (block_as K (n - 1) r.word r.merge)) ≡ total (block_as K n w m)
     unfolding total
-    total-apart = sym (apart-is K (λ k b. total b))
+    total_apart = sym (apart_is K (λ k b. total b))

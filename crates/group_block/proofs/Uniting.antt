@@ -9,7 +9,7 @@ use Rattle.group_block.specs.Sum.{held, join, unite}
 use Rattle.group_block.specs.Passed.{summed_as, sum_as}
 use Rattle.group_block.proofs.Adding.{Sound, unite_total_of, unite_sound}
 use Rattle.group_block.proofs.Coded.{Coded}
-use Rattle.group_block.proofs.Halves.{Apart, JoinAsked, both_apart, join-asks, join-gives, left-fits, right-fits}
+use Rattle.group_block.proofs.Halves.{Apart, JoinAsked, both_apart, join_asks, join_gives, left_fits, right_fits}
 
 -- a union with one counter
 pub unite_counter : {K : Kind} {n : ℕ} (x : BlockOf K n) (v : K.Value) → unite x (counter v) ≡ held n (K.plus (total x) v)
@@ -27,16 +27,16 @@ module _ {K : Kind} (D : Coded K) {n w m w' m' : ℕ} {l r l' r' : Summed} (p : 
 
   module _ (s t : Summed) (s-is : s ≡ summed_as D.passing (unite (lefts (n - 1)).0 (lefts (n - 1)).1))
       (t-is : t ≡ summed_as D.passing (unite (rights (n - 1)).0 (rights (n - 1)).1)) where
-    lefts-sound : Sound (unite (lefts (n - 1)).0 (lefts (n - 1)).1)
-    lefts-sound = unite_sound (lefts (n - 1)).0 (lefts (n - 1)).1 (left-fits p D h) (left-fits q D h')
+    lefts_sound : Sound (unite (lefts (n - 1)).0 (lefts (n - 1)).1)
+    lefts_sound = unite_sound (lefts (n - 1)).0 (lefts (n - 1)).1 (left_fits p D h) (left_fits q D h')
 
-    rights-sound : Sound (unite (rights (n - 1)).0 (rights (n - 1)).1)
-    rights-sound = unite_sound (rights (n - 1)).0 (rights (n - 1)).1 (right-fits p D h) (right-fits q D h')
+    rights_sound : Sound (unite (rights (n - 1)).0 (rights (n - 1)).1)
+    rights_sound = unite_sound (rights (n - 1)).0 (rights (n - 1)).1 (right_fits p D h) (right_fits q D h')
 
-    pub both-join : K.size (total (lefts (n - 1)).0) + K.size (total (lefts (n - 1)).1) + (K.size (total (rights (n - 1)).0) + K.size (total (rights (n - 1)).1)) < 2 ^ 64
+    pub both_join : K.size (total (lefts (n - 1)).0) + K.size (total (lefts (n - 1)).1) + (K.size (total (rights (n - 1)).0) + K.size (total (rights (n - 1)).1)) < 2 ^ 64
         → JoinAsked D (n - 1) s t
-    both-join room =
-        join-asks D _ _ lefts-sound rights-sound s t s-is t-is (omega arith)
+    both_join room =
+        join_asks D _ _ lefts_sound rights_sound s t s-is t-is (omega arith)
         (rw (unite_total_of D.sums (lefts (n - 1)).0 (lefts (n - 1)).1, unite_total_of D.sums (rights (n - 1)).0 (rights (n - 1)).1)
         (omega (
           arith,
@@ -44,8 +44,8 @@ module _ {K : Kind} (D : Coded K) {n w m w' m' : ℕ} {l r l' r' : Summed} (p : 
           D.sums.triangle (total (rights (n - 1)).0) (total (rights (n - 1)).1),
         )))
 
-    pub both-sum : summed_as D.passing (join (sum_as D.passing (n - 1) s) (sum_as D.passing (n - 1) t)) ≡ summed_as D.passing (unite (block_as K n w m) (block_as K n w' m'))
+    pub both_sum : summed_as D.passing (join (sum_as D.passing (n - 1) s) (sum_as D.passing (n - 1) t)) ≡ summed_as D.passing (unite (block_as K n w m) (block_as K n w' m'))
     unfolding unite
-    both-sum =
-        join-gives D _ _ lefts-sound rights-sound s t s-is t-is
+    both_sum =
+        join_gives D _ _ lefts_sound rights_sound s t s-is t-is
         ∙ sym (both_apart K p q (λ j b c. summed_as D.passing (unite b c)))

@@ -104,23 +104,23 @@ module _ {K : Kind} {m : ℕ} (d : ℕ) (joined : SumOf K m → SumOf K (suc m))
   try false p q p' q' e f = f
 
   -- a climb that starts in a half goes on in the whole where the half's is over
-  climb-in : (f n i j : ℕ) (s : K.Value) → n + f ≡ m → i < 2 ^ f → j ≡ d * 2 ^ f + i → climb b (suc f) n j s ≡ joined (climb x f n i s)
+  climb_in : (f n i j : ℕ) (s : K.Value) → n + f ≡ m → i < 2 ^ f → j ≡ d * 2 ^ f + i → climb b (suc f) n j s ≡ joined (climb x f n i s)
   unfolding climb
-  climb-in zero n i j s e k q =
+  climb_in zero n i j s e k q =
       let en : n ≡ m = omega arith in
       let ej : j ≡ d = omega (arith, q) in
       let side : total_at b n (sibling j) ≡ total y = rw (en, ej) h.beside in
       try (ltb (K.size s) (K.bound n)) _ _ _ _
       (ap fits (h.form_in n 0 i j s e k q) ∙ sym (h.joined_fits (form_at x n i s)))
       (ap (λ (z : K.Value). climb b 0 (suc n) (j / 2) (K.plus s z)) side ∙ rw en (climb_whole b (j / 2) (K.plus s (total y))) ∙ sym (h.joined_over s))
-  climb-in (suc f) n i j s e k q =
+  climb_in (suc f) n i j s e k q =
       let sib : sibling j ≡ d * 2 ^ suc f + sibling i = ap sibling q ∙ sibling_in d f i in
       let up : j / 2 ≡ d * 2 ^ f + i / 2 = ap (λ (z : ℕ). z / 2) q ∙ parent_in d f i in
       let side : total_at b n (sibling j) ≡ total_at x n (sibling i) = h.total_in n (suc f) (sibling i) (sibling j) e (sibling_lt f i k) sib in
       try (ltb (K.size s) (K.bound n)) _ _ _ _
       (ap fits (h.form_in n (suc f) i j s e k q) ∙ sym (h.joined_fits (form_at x n i s)))
       (ap (λ (z : K.Value). climb b (suc f) (suc n) (j / 2) (K.plus s z)) side
-      ∙ climb-in f (suc n) (i / 2) (j / 2) (K.plus s (total_at x n (sibling i))) (omega (arith, e)) (parent_lt f i k) up)
+      ∙ climb_in f (suc n) (i / 2) (j / 2) (K.plus s (total_at x n (sibling i))) (omega (arith, e)) (parent_lt f i k) up)
 
 -- the block of level n that slot k of a half is in
 slot_in : (d m n k : ℕ) → n ≤ m → (d * 2 ^ m + k) / 2 ^ n ≡ d * 2 ^ (m - n) + k / 2 ^ n
@@ -140,7 +140,7 @@ from_in {K} {m} {d} {joined} {b} {x} {y} h k j a p q el ev =
     let f : suc m - n ≡ suc (m - n) = omega arith in
     let g : m ≡ m - n + n = omega arith in
     rw (el, ev, f)
-    (climb-in d joined b x y h (m - n) n (k / 2 ^ n) (j / 2 ^ n) (K.plus (counter_value x k) a) e
+    (climb_in d joined b x y h (m - n) n (k / 2 ^ n) (j / 2 ^ n) (K.plus (counter_value x k) a) e
     (shr_lt (m - n) n (rw (← g) p)) (ap (λ (z : ℕ). z / 2 ^ n) q ∙ slot_in d m n k le))
 
 counter_climbs : (K : Kind) (m : ℕ) (v : K.Value) (k : ℕ) (a : K.Value) → climb_from {K = K} {m = m} (counter v) k a ≡ held m (K.plus v a)

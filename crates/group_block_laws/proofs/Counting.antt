@@ -25,23 +25,23 @@ unfolding SumCounts Counts
 held_counts K t n i s e = held_cases n s (SumCounts t i) (λ h. e) (λ h. e)
 
 module _ (K : Kind) (t : Totals K) (adds : Adds K t) where
-  pub total-counts : {n : ℕ} (i : ℕ) (b : BlockOf K n) → Counts t i b → total b ≡ t n i
+  pub total_counts : {n : ℕ} (i : ℕ) (b : BlockOf K n) → Counts t i b → total b ≡ t n i
   unfolding Counts total
-  total-counts i (counter v) c = c
-  total-counts i (split {n} l r) c = ap₂ K.plus (total-counts (2 * i) l c.0) (total-counts (2 * i + 1) r c.1) ∙ sym (adds n i)
+  total_counts i (counter v) c = c
+  total_counts i (split {n} l r) c = ap₂ K.plus (total_counts (2 * i) l c.0) (total_counts (2 * i + 1) r c.1) ∙ sym (adds n i)
 
-  sum-counts : {n : ℕ} (i : ℕ) (x : SumOf K n) → SumCounts t i x → sum_total x ≡ t n i
+  sum_counts : {n : ℕ} (i : ℕ) (x : SumOf K n) → SumCounts t i x → sum_total x ≡ t n i
   unfolding SumCounts sum_total
-  sum-counts i (fits b) c = total-counts i b c
-  sum-counts i (over s) c = c
+  sum_counts i (fits b) c = total_counts i b c
+  sum_counts i (over s) c = c
 
-  join-counts : {n : ℕ} (i : ℕ) (x y : SumOf K n) → SumCounts t (2 * i) x → SumCounts t (2 * i + 1) y → SumCounts t i (join x y)
+  join_counts : {n : ℕ} (i : ℕ) (x y : SumOf K n) → SumCounts t (2 * i) x → SumCounts t (2 * i + 1) y → SumCounts t i (join x y)
   unfolding SumCounts Counts join
-  join-counts i (fits l) (fits r) c d = (c, d)
-  join-counts {n} i (fits l) (over s) c d =
-      held_counts K t (suc n) i (K.plus (total l) s) (ap₂ K.plus (total-counts (2 * i) l c) d ∙ sym (adds n i))
-  join-counts {n} i (over s) y c d =
-      held_counts K t (suc n) i (K.plus s (sum_total y)) (ap₂ K.plus c (sum-counts (2 * i + 1) y d) ∙ sym (adds n i))
+  join_counts i (fits l) (fits r) c d = (c, d)
+  join_counts {n} i (fits l) (over s) c d =
+      held_counts K t (suc n) i (K.plus (total l) s) (ap₂ K.plus (total_counts (2 * i) l c) d ∙ sym (adds n i))
+  join_counts {n} i (over s) y c d =
+      held_counts K t (suc n) i (K.plus s (sum_total y)) (ap₂ K.plus c (sum_counts (2 * i + 1) y d) ∙ sym (adds n i))
 
 -- cleared counters hold totals of nothing
 pub clear_counts : (K : Kind) (z : K.Value) → ((n : ℕ) → K.read n 0 ≡ z) → {n : ℕ} (i : ℕ) (L : Layout n) → Counts (λ m j. z) i (fill {K = K} L 0)
@@ -56,26 +56,26 @@ pub record Plus (K : Kind) (t t' : Totals K) (s : ℕ) (a : K.Value) : Type 0 wh
 
 module _ (K : Kind) (t t' : Totals K) (s : ℕ) (a : K.Value) (p : Plus K t t' s a) where
   -- a block that the slot is not in
-  pub off-counts : {n : ℕ} (i : ℕ) (b : BlockOf K n) → (s / 2 ^ n ≡ i → ⊥) → Counts t i b → Counts t' i b
+  pub off_counts : {n : ℕ} (i : ℕ) (b : BlockOf K n) → (s / 2 ^ n ≡ i → ⊥) → Counts t i b → Counts t' i b
   unfolding Counts
-  off-counts {n} i (counter v) e c = c ∙ sym (p.off n i e)
-  off-counts i (split {n} l r) e c =
-      (off-counts (2 * i) l (λ h. e (half s n ∙ omega arith)) c.0, off-counts (2 * i + 1) r (λ h. e (half s n ∙ omega arith)) c.1)
+  off_counts {n} i (counter v) e c = c ∙ sym (p.off n i e)
+  off_counts i (split {n} l r) e c =
+      (off_counts (2 * i) l (λ h. e (half s n ∙ omega arith)) c.0, off_counts (2 * i + 1) r (λ h. e (half s n ∙ omega arith)) c.1)
 
   -- an addition to counters that hold the old totals leaves counters that hold the new, or the block's new total
-  pub add-counts : Adds K t' → {n : ℕ} (i : ℕ) (b : BlockOf K n) → s / 2 ^ n ≡ i → Counts t i b → SumCounts t' i (add b (s % 2 ^ n) a)
+  pub add_counts : Adds K t' → {n : ℕ} (i : ℕ) (b : BlockOf K n) → s / 2 ^ n ≡ i → Counts t i b → SumCounts t' i (add b (s % 2 ^ n) a)
   unfolding Counts SumCounts add
-  add-counts adds {n} i (counter v) e c = held_counts K t' n i (K.plus v a) (ap (λ (x : K.Value). K.plus x a) c ∙ sym (p.at n i e))
-  add-counts adds i (split {n} l r) e c = ⊎_elim
+  add_counts adds {n} i (counter v) e c = held_counts K t' n i (K.plus v a) (ap (λ (x : K.Value). K.plus x a) c ∙ sym (p.at n i e))
+  add_counts adds i (split {n} l r) e c = ⊎_elim
       (λ x. rw (x.test, x.place)
-      (join-counts K t' adds i (add l (s % 2 ^ n) a) (fits r) (add-counts adds (2 * i) l x.is c.0) (off-counts (2 * i + 1) r (λ h. omega (arith, x.is)) c.1)))
+      (join_counts K t' adds i (add l (s % 2 ^ n) a) (fits r) (add_counts adds (2 * i) l x.is c.0) (off_counts (2 * i + 1) r (λ h. omega (arith, x.is)) c.1)))
       (λ x. rw (x.test, x.place)
-      (join-counts K t' adds i (fits l) (add r (s % 2 ^ n) a) (off-counts (2 * i) l (λ h. omega (arith, x.is)) c.0) (add-counts adds (2 * i + 1) r x.is c.1)))
+      (join_counts K t' adds i (fits l) (add r (s % 2 ^ n) a) (off_counts (2 * i) l (λ h. omega (arith, x.is)) c.0) (add_counts adds (2 * i + 1) r x.is c.1)))
       (by_half s n i e)
 
   -- the new totals are sums of halves too
-  pub plus-adds : Sums K → Adds K t → Adds K t'
-  plus-adds S adds n i = elim (ℕ_discrete (s / 2 ^ suc n) i) [
+  pub plus_adds : Sums K → Adds K t → Adds K t'
+  plus_adds S adds n i = elim (ℕ_discrete (s / 2 ^ suc n) i) [
     | yes e ↦ ⊎_elim
         (λ x.
         rw (p.at (suc n) i e, p.at n (2 * i) x.is, p.off n (2 * i + 1) (λ h. omega (arith, x.is)), adds n i)
@@ -89,21 +89,21 @@ module _ (K : Kind) (t t' : Totals K) (s : ℕ) (a : K.Value) (p : Plus K t t' s
 
 -- the sums of two totals
 module _ (K : Kind) (t u v : Totals K) (sum : (n i : ℕ) → v n i ≡ K.plus (t n i) (u n i)) where
-  pub both-adds : Sums K → Adds K t → Adds K u → Adds K v
-  both-adds S at au n i =
+  pub both_adds : Sums K → Adds K t → Adds K u → Adds K v
+  both_adds S at au n i =
       sum (suc n) i ∙ ap₂ K.plus (at n i) (au n i) ∙ cross S (t n (2 * i)) (t n (2 * i + 1)) (u n (2 * i)) (u n (2 * i + 1))
       ∙ ap₂ K.plus (sym (sum n (2 * i))) (sym (sum n (2 * i + 1)))
 
   -- a union of counters that hold totals leaves counters that hold the sums of both, or the block's sum
-  pub unite-counts : Adds K t → Adds K u → Adds K v → {n : ℕ} (i : ℕ) (x y : BlockOf K n) → Counts t i x → Counts u i y → SumCounts v i (unite x y)
+  pub unite_counts : Adds K t → Adds K u → Adds K v → {n : ℕ} (i : ℕ) (x y : BlockOf K n) → Counts t i x → Counts u i y → SumCounts v i (unite x y)
   unfolding Counts SumCounts unite
-  unite-counts at au av {n} i (counter w) y c d =
-      held_counts K v n i (K.plus w (total y)) (ap₂ K.plus c (total-counts K u au i y d) ∙ sym (sum n i))
-  unite-counts at au av i (split {n} l r) (counter w) c d =
+  unite_counts at au av {n} i (counter w) y c d =
+      held_counts K v n i (K.plus w (total y)) (ap₂ K.plus c (total_counts K u au i y d) ∙ sym (sum n i))
+  unite_counts at au av i (split {n} l r) (counter w) c d =
       held_counts K v (suc n) i (K.plus (K.plus (total l) (total r)) w)
-      (ap₂ K.plus (ap₂ K.plus (total-counts K t at (2 * i) l c.0) (total-counts K t at (2 * i + 1) r c.1) ∙ sym (at n i)) d ∙ sym (sum (suc n) i))
-  unite-counts at au av i (split l r) (split l' r') c d =
-      join-counts K v av i (unite l l') (unite r r') (unite-counts at au av (2 * i) l l' c.0 d.0) (unite-counts at au av (2 * i + 1) r r' c.1 d.1)
+      (ap₂ K.plus (ap₂ K.plus (total_counts K t at (2 * i) l c.0) (total_counts K t at (2 * i + 1) r c.1) ∙ sym (at n i)) d ∙ sym (sum (suc n) i))
+  unite_counts at au av i (split l r) (split l' r') c d =
+      join_counts K v av i (unite l l') (unite r r') (unite_counts at au av (2 * i) l l' c.0 d.0) (unite_counts at au av (2 * i + 1) r r' c.1 d.1)
 
 -- a slot's counter holds the total of the block of its level that the slot is in
 pub value_counts : (K : Kind) (t : Totals K) {n : ℕ} (i s : ℕ) (b : BlockOf K n) → s / 2 ^ n ≡ i → Counts t i b

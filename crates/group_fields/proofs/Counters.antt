@@ -13,10 +13,10 @@ use Rattle.group_block.specs.Block.{cap, block, counter_at}
 use Rattle.group.specs.declared.Group.{Group}
 use Rattle.group.specs.Group.{valid_merge, decode, read, changed}
 use Rattle.group.proofs.Changing.{Good}
-use Rattle.group.proofs.Places.{value-put}
+use Rattle.group.proofs.Places.{value_put}
 use Rattle.group_fields.specs.declared.Fields.{Fields}
 use Rattle.group_fields.specs.Fields.{no_fields, fields_of, counts_of, group_of, bits_at, put}
-use Rattle.group_fields.proofs.Readings.{value_is, valid-level}
+use Rattle.group_fields.proofs.Readings.{value_is, valid_level}
 
 -- bits of a field are bits of the number that the field is in
 within : (x p w i j : ℕ) → i + j ≤ w → x / 2 ^ p % 2 ^ w / 2 ^ i % 2 ^ j ≡ x / 2 ^ (p + i) % 2 ^ j
@@ -44,21 +44,21 @@ module _ (m k x : ℕ) (f : Fields) (v : valid_merge m ≡ true) (h : k < 8) (l 
   level = (read (group_of m f) k).level
 
   -- the next counter finds no bit set either
-  pub put-below : (put f (8 * k) (8 * 2 ^ level) x).word < 2 ^ (8 * (k + 2 ^ level))
-  put-below =
+  pub put_below : (put f (8 * k) (8 * 2 ^ level) x).word < 2 ^ (8 * (k + 2 ^ level))
+  put_below =
       let e : 2 ^ (8 * (k + 2 ^ level)) ≡ 2 ^ (8 * 2 ^ level) * 2 ^ (8 * k) = ap (λ (i : ℕ). 2 ^ i) (omega arith) ∙ pow-add 2 (8 * 2 ^ level) (8 * k) in
       omega (arith, e, digits_lt {q = x % 2 ^ (8 * 2 ^ level)} {m = 2 ^ (8 * 2 ^ level)} {r = f.word} {c = 2 ^ (8 * k)} (mod-lt x (pow_pos (8 * 2 ^ level))) l)
 
-  pub changed-put : k % 2 ^ level ≡ 0 → (changed (group_of m f) k x).group ≡ group_of m (put f (8 * k) (8 * 2 ^ level) x)
+  pub changed_put : k % 2 ^ level ≡ 0 → (changed (group_of m f) k x).group ≡ group_of m (put f (8 * k) (8 * 2 ^ level) x)
   unfolding changed decode counts_of cap
-  changed-put z =
+  changed_put z =
       let w = f.word in
       let c = 2 ^ (8 * 2 ^ level) in
       let w< : w < 2 ^ 64 = omega (arith, l, pow_mono {i = 8 * k} {j = 64} (omega arith)) in
       let n : number (bytes 8 w) ≡ w = number_bytes 8 w w< in
-      let e : (counter_at (block 3 w m) k).level ≡ level = sym (rw n at (valid-level (group_of m f) k v h)) in
+      let e : (counter_at (block 3 w m) k).level ≡ level = sym (rw n at (valid_level (group_of m f) k v h)) in
       let k8 : k % 8 ≡ k = mod-eq_of_lt {n = k} {m = 8} h in
       let q : 8 * k ≡ 8 * (k / 2 ^ level * 2 ^ level) = omega (arith, div-add-mod' k (2 ^ level)) in
       let none : w / 2 ^ (8 * k) % c * 2 ^ (8 * k) ≡ 0
       = ap (λ (i : ℕ). i % c * 2 ^ (8 * k)) (div-eq_of_lt l) ∙ ap (λ (i : ℕ). i * 2 ^ (8 * k)) (zero-mod c) ∙ zero-mul (2 ^ (8 * k)) in
-      rw (v, n, k8) (ap (λ (y : ℕ). record { counts = bytes 8 y; merge = m }) (sym (value-put w m k level (8 * k) w< h e q x (x % c) refl (w + x % c * 2 ^ (8 * k)) (omega (arith, none)))))
+      rw (v, n, k8) (ap (λ (y : ℕ). record { counts = bytes 8 y; merge = m }) (sym (value_put w m k level (8 * k) w< h e q x (x % c) refl (w + x % c * 2 ^ (8 * k)) (omega (arith, none)))))

@@ -33,30 +33,30 @@ none_merged_lem = refl
 
 module _ (g : Group) where
   -- a valid group, or one of which nothing is read
-  by-merge : {A : Type 0} → (valid_merge g.merge ≡ true → A) → (valid_merge g.merge ≡ false → A) → A
-  by-merge {A} f h = go (valid_merge g.merge) refl
+  by_merge : {A : Type 0} → (valid_merge g.merge ≡ true → A) → (valid_merge g.merge ≡ false → A) → A
+  by_merge {A} f h = go (valid_merge g.merge) refl
     where
       go : (b : Bool) → valid_merge g.merge ≡ b → A
       go true e = f e
       go false e = h e
 
-  pub invalid-reading : (k : ℕ) → valid_merge g.merge ≡ false → read g k ≡ record { status = invalid_content; value = 0; level = 0 }
+  pub invalid_reading : (k : ℕ) → valid_merge g.merge ≡ false → read g k ≡ record { status = invalid_content; value = 0; level = 0 }
   unfolding read
-  invalid-reading k e = rw e
+  invalid_reading k e = rw e
 
   invalid_level : (k : ℕ) → valid_merge g.merge ≡ false → (read g k).level ≡ 0
-  invalid_level k e = ap (λ (r : Reading). r.level) (invalid-reading k e)
+  invalid_level k e = ap (λ (r : Reading). r.level) (invalid_reading k e)
 
   -- the counter of a slot, by the block
-  pub valid-level : (k : ℕ) → valid_merge g.merge ≡ true → k < 8 → (read g k).level ≡ (counter_at (decode g) k).level
+  pub valid_level : (k : ℕ) → valid_merge g.merge ≡ true → k < 8 → (read g k).level ≡ (counter_at (decode g) k).level
   unfolding reading
-  valid-level k v h = ap (λ (r : Reading). r.level) (read_is g k v h)
+  valid_level k v h = ap (λ (r : Reading). r.level) (read_is g k v h)
 
-  same-reading : (j k : ℕ) → valid_merge g.merge ≡ true → j < 8 → k < 8 → counter_at (decode g) j ≡ counter_at (decode g) k → read g j ≡ read g k
-  same-reading j k v h i e = read_is g j v h ∙ ap reading e ∙ sym (read_is g k v i)
+  same_reading : (j k : ℕ) → valid_merge g.merge ≡ true → j < 8 → k < 8 → counter_at (decode g) j ≡ counter_at (decode g) k → read g j ≡ read g k
+  same_reading j k v h i e = read_is g j v h ∙ ap reading e ∙ sym (read_is g k v i)
 
   first_slot : (k : ℕ) → valid_merge g.merge ≡ true → k < 8 → k % 2 ^ (read g k).level ≡ 0 → k % 2 ^ (counter_at (decode g) k).level ≡ 0
-  first_slot k v h z = rw (valid-level k v h) at z
+  first_slot k v h z = rw (valid_level k v h) at z
 
 -- a level is at most 3
 pub level_most : (g : Group) (k : ℕ) → (read g k).level ≤ 3
@@ -89,26 +89,26 @@ value_below g k o h = rw (read_is g k o.merges h) (value_lt (decode g) k (good_f
 -- the slots of the counter that starts at slot k lie in the group
 pub counter_end : (g : Group) (k : ℕ) → k < 8 → k % 2 ^ (read g k).level ≡ 0 → k + 2 ^ (read g k).level ≤ 8
 counter_end g k h z =
-    by-merge g
-    (λ v. rw (valid-level g k v h) (slots.counter_in (decode g) k h (first_slot g k v h z)))
+    by_merge g
+    (λ v. rw (valid_level g k v h) (slots.counter_in (decode g) k h (first_slot g k v h z)))
     (λ v. rw (invalid_level g k v) (omega arith))
 
 -- and are all in that counter
 pub counter_slots : (g : Group) (k j : ℕ) → k < 8 → k % 2 ^ (read g k).level ≡ 0 → j < 2 ^ (read g k).level → read g (k + j) ≡ read g k
 counter_slots g k j h z i =
-    by-merge g
+    by_merge g
     (λ v.
     let e : k + j < 8 = omega (arith, counter_end g k h z) in
-    same-reading g (k + j) k v e h (slots.counter_slots (decode g) k j h (first_slot g k v h z) (rw (valid-level g k v h) at i)))
-    (λ v. invalid-reading g (k + j) v ∙ sym (invalid-reading g k v))
+    same_reading g (k + j) k v e h (slots.counter_slots (decode g) k j h (first_slot g k v h z) (rw (valid_level g k v h) at i)))
+    (λ v. invalid_reading g (k + j) v ∙ sym (invalid_reading g k v))
 
 -- a slot that is not its counter's first is in the counter of the slot before it
 pub same_before : (g : Group) (k : ℕ) → k < 8 → (k % 2 ^ (read g k).level ≡ 0 → ⊥) → (0 < k) × (read g k ≡ read g (k - 1))
 same_before g k h f =
-    by-merge g
+    by_merge g
     (λ v.
-    let s = slots.same_before (decode g) k h (λ z. f (rw (valid-level g k v h) z)) in
-    (s.0, same-reading g k (k - 1) v h (omega arith) s.1))
+    let s = slots.same_before (decode g) k h (λ z. f (rw (valid_level g k v h) z)) in
+    (s.0, same_reading g k (k - 1) v h (omega arith) s.1))
     (λ v. absurd (f (rw (invalid_level g k v) (mod-one k))))
 
 -- what is left over a multiple
@@ -142,13 +142,13 @@ next_first g k h z i =
 -- the counter changes
 pub changed_merge : (g : Group) (k v : ℕ) → (changed g k v).group.merge ≡ g.merge
 unfolding changed
-changed_merge g k v = by-merge g (λ e. rw e) (λ e. rw e)
+changed_merge g k v = by_merge g (λ e. rw e) (λ e. rw e)
 
 pub changed_at : (g : Group) (k v : ℕ) → Good g → k < 8
     → read (changed g k v).group k ≡ record { status = 0; value = v % 2 ^ (8 * 2 ^ (read g k).level); level = (read g k).level }
 unfolding reading cap
 changed_at g k v o h =
-    read_is (changed g k v).group k (good_changed g k v o).merges h ∙ ap reading (changing.changed_at k g v o h) ∙ rw (valid-level g k o.merges h)
+    read_is (changed g k v).group k (good_changed g k v o).merges h ∙ ap reading (changing.changed_at k g v o h) ∙ rw (valid_level g k o.merges h)
 
 pub changed_before : (g : Group) (k v j : ℕ) → Good g → k < 8 → k % 2 ^ (read g k).level ≡ 0 → j < k → read (changed g k v).group j ≡ read g j
 changed_before g k v j o h z l =
@@ -172,7 +172,7 @@ pub value_is : (g : Group) (k : ℕ) → Good g → k < 8 → k % 2 ^ (read g k)
 unfolding decode reading cap
 value_is g k o h z =
     let L = (read g k).level in
-    let l : (counter_at (decode g) k).level ≡ L = sym (valid-level g k o.merges h) in
+    let l : (counter_at (decode g) k).level ≡ L = sym (valid_level g k o.merges h) in
     let q : 8 * k ≡ 8 * (k / 2 ^ L * 2 ^ L) = omega (arith, div-add-mod' k (2 ^ L)) in
     ap (λ (r : Reading). r.value) (read_is g k o.merges h)
     ∙ ap (λ (c : Counter). c.value) (counter_at_lem (number g.counts) g.merge k L (8 * k) (number_in g.counts o.eight) h l q)
@@ -202,10 +202,10 @@ plain_reading xs k o h =
     let g : Group = record { counts = xs; merge = 0 } in
     let good : Good g = record { merges = none_merged_lem; eight = o } in
     let l : (read g k).level ≡ 0
-    = valid-level g k none_merged_lem h ∙ level_is (decode g) k ∙ ap (λ (L : Layout 3). level_of L k) (shape_decode g) ∙ plain_level 3 k in
+    = valid_level g k none_merged_lem h ∙ level_is (decode g) k ∙ ap (λ (L : Layout 3). level_of L k) (shape_decode g) ∙ plain_level 3 k in
     let v : (read g k).value ≡ get_or xs k 0 = value_is g k good h (rw l (mod-one k)) ∙ rw l (number_byte xs k o.small) in
     let s : (read g k).status ≡ 0 = ap (λ (r : Reading). r.status) (read_is g k none_merged_lem h) in
-    read-ext s v l
+    read_ext s v l
   where
-    read-ext : {r : Reading} {s v l : ℕ} → r.status ≡ s → r.value ≡ v → r.level ≡ l → r ≡ record { status = s; value = v; level = l }
-    read-ext e f i = rw (← e, ← f, ← i)
+    read_ext : {r : Reading} {s v l : ℕ} → r.status ≡ s → r.value ≡ v → r.level ≡ l → r ≡ record { status = s; value = v; level = l }
+    read_ext e f i = rw (← e, ← f, ← i)

@@ -58,13 +58,13 @@ own_ones n j i h = ones_bit (2 ^ n - 1) (i * 2 ^ suc j + (2 ^ j - 1)) (omega (ar
 
 -- in the left half of a block and in the right one
 module _ (n j i a b : ℕ) where
-  own-left : i * 2 ^ suc j + 2 ^ suc j ≤ 2 ^ n → own_bit j (a * 2 ^ (2 ^ n) + b) i ≡ own_bit j b i
+  own_left : i * 2 ^ suc j + 2 ^ suc j ≤ 2 ^ n → own_bit j (a * 2 ^ (2 ^ n) + b) i ≡ own_bit j b i
   unfolding own_bit
-  own-left h = low_bit a b (2 ^ n) (i * 2 ^ suc j + (2 ^ j - 1)) (omega (arith, pow_pos j))
+  own_left h = low_bit a b (2 ^ n) (i * 2 ^ suc j + (2 ^ j - 1)) (omega (arith, pow_pos j))
 
-  own-right : b < 2 ^ (2 ^ n) → j < n → own_bit j (a * 2 ^ (2 ^ n) + b) (2 ^ (n - suc j) + i) ≡ own_bit j a i
+  own_right : b < 2 ^ (2 ^ n) → j < n → own_bit j (a * 2 ^ (2 ^ n) + b) (2 ^ (n - suc j) + i) ≡ own_bit j a i
   unfolding own_bit
-  own-right h g =
+  own_right h g =
       let p = i * 2 ^ suc j + (2 ^ j - 1) in
       let e : (2 ^ (n - suc j) + i) * 2 ^ suc j + (2 ^ j - 1) ≡ 2 ^ n + p = omega (arith, add-mul (2 ^ (n - suc j)) i (2 ^ suc j), multiple n j g) in
       ap (λ (x : ℕ). (a * 2 ^ (2 ^ n) + b) / 2 ^ x % 2) e ∙ high_bit a b (2 ^ n) p h
@@ -103,7 +103,7 @@ own_around (halves {n} l r) j k g h = elim (dec_lt j n) [
       rw (e, div-eq_of_lt {n = k} {m = 2 ^ suc n} h) (own_split l r ∙ sym (over_no n (level_of (halves l r) k) (below_split l r k)))
   | yes i ↦ elim (dec_lt k (2 ^ n)) [
     | yes m ↦
-        own-left n j (k / 2 ^ suc j) (marks r) (marks l) (whole_left n j (k / 2 ^ suc j) k i (div-mul-le_self k (2 ^ suc j)) m)
+        own_left n j (k / 2 ^ suc j) (marks r) (marks l) (whole_left n j (k / 2 ^ suc j) k i (div-mul-le_self k (2 ^ suc j)) m)
         ∙ own_around l j k i m
         ∙ ap (over j) (sym (level_left l r k m))
     | no m' ↦
@@ -111,7 +111,7 @@ own_around (halves {n} l r) j k g h = elim (dec_lt j n) [
         let e : k / 2 ^ suc j ≡ 2 ^ (n - suc j) + (k - 2 ^ n) / 2 ^ suc j =
         ap (λ (x : ℕ). x / 2 ^ suc j) (omega (arith, multiple n j i)) ∙ mul-add-div_right (pow_pos (suc j)) (2 ^ (n - suc j)) (k - 2 ^ n) in
         ap (own_bit j (marks r * 2 ^ (2 ^ n) + marks l)) e
-        ∙ own-right n j ((k - 2 ^ n) / 2 ^ suc j) (marks r) (marks l) (marks_in l) i
+        ∙ own_right n j ((k - 2 ^ n) / 2 ^ suc j) (marks r) (marks l) (marks_in l) i
         ∙ own_around r j (k - 2 ^ n) i (omega arith)
         ∙ ap (over j) (sym (level_right l r k m))
   ]
@@ -159,16 +159,16 @@ module _ (n j a b : ℕ) (g : j < n) where
   some_left zero h = refl
   some_left (suc c) h =
       let last : c * 2 ^ suc j + 2 ^ suc j ≤ 2 ^ n = omega (arith, multiple n j g, mul-le-mul_right {m = suc c} {n = 2 ^ (n - suc j)} (2 ^ suc j) h, suc-mul c (2 ^ suc j)) in
-      ap₂ max (some_left c (omega arith)) (own-left n j c a b last)
+      ap₂ max (some_left c (omega arith)) (own_left n j c a b last)
 
   some_right : b < 2 ^ (2 ^ n) → (c : ℕ)
       → some_own j (a * 2 ^ (2 ^ n) + b) (2 ^ (n - suc j) + c) ≡ max (some_own j (a * 2 ^ (2 ^ n) + b) (2 ^ (n - suc j))) (some_own j a c)
   unfolding some_own
   some_right h zero = rw (add-zero (2 ^ (n - suc j))) (omega arith)
-  some_right h (suc c) = rw (add-suc (2 ^ (n - suc j)) c) (omega (arith, some_right h c, own-right n j c a b h g))
+  some_right h (suc c) = rw (add-suc (2 ^ (n - suc j)) c) (omega (arith, some_right h c, own_right n j c a b h g))
 
-  some-both : b < 2 ^ (2 ^ n) → some_own j (a * 2 ^ (2 ^ n) + b) (2 ^ (suc n - suc j)) ≡ max (some_own j b (2 ^ (n - suc j))) (some_own j a (2 ^ (n - suc j)))
-  some-both h =
+  some_both : b < 2 ^ (2 ^ n) → some_own j (a * 2 ^ (2 ^ n) + b) (2 ^ (suc n - suc j)) ≡ max (some_own j b (2 ^ (n - suc j))) (some_own j a (2 ^ (n - suc j)))
+  some_both h =
       let e : suc n - suc j ≡ suc (n - suc j) = omega arith in
       let f : 2 ^ suc (n - suc j) ≡ 2 ^ (n - suc j) + 2 ^ (n - suc j) = omega arith in
       rw (e, f) (omega (arith, some_right h (2 ^ (n - suc j)), some_left (2 ^ (n - suc j)) (omega arith)))
@@ -182,7 +182,7 @@ pub some_widest : {n : ℕ} (L : Layout n) (j : ℕ) → j < n → some_own j (m
 unfolding marks widest_in
 some_widest {n} merged j g = some_ones n j g ∙ sym (over_yes j n g)
 some_widest (halves {n} l r) j g = elim (dec_lt j n) [
-  | yes i ↦ some-both n j (marks r) (marks l) i (marks_in l) ∙ ap₂ max (some_widest l j i) (some_widest r j i) ∙ over_max j (widest_in l) (widest_in r)
+  | yes i ↦ some_both n j (marks r) (marks l) i (marks_in l) ∙ ap₂ max (some_widest l j i) (some_widest r j i) ∙ over_max j (widest_in l) (widest_in r)
   | no i ↦
       let e : j ≡ n = omega arith in
       let f : suc n - suc n ≡ 0 = omega arith in

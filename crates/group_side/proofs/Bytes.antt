@@ -25,15 +25,15 @@ not_both false q = refl
 
 -- merge bytes taken together, one by one
 module _ (ms : List ℕ) (i any : ℕ) where
-  pub any-turn : i < length ms → (not (eqb (bit_or any (get_or ms i 0)) 0) || any_merged (drop (i + 1) ms)) ≡ (not (eqb any 0) || any_merged (drop i ms))
+  pub any_turn : i < length ms → (not (eqb (bit_or any (get_or ms i 0)) 0) || any_merged (drop (i + 1) ms)) ≡ (not (eqb any 0) || any_merged (drop i ms))
   unfolding any_merged
-  any-turn h =
+  any_turn h =
       rw (drop-cons ms i 0 h, add-one i, or_zero any (get_or ms i 0), not_both (eqb any 0) (eqb (get_or ms i 0) 0))
       (or_assoc (not (eqb any 0)) (not (eqb (get_or ms i 0) 0)) (any_merged (drop (suc i) ms)))
 
-  pub any-end : length ms ≤ i → (not (eqb any 0) || any_merged (drop i ms)) ≡ not (eqb any 0)
+  pub any_end : length ms ≤ i → (not (eqb any 0) || any_merged (drop i ms)) ≡ not (eqb any 0)
   unfolding any_merged
-  any-end h = rw (drop_of_length-le ms h) (or-false (not (eqb any 0)))
+  any_end h = rw (drop_of_length-le ms h) (or-false (not (eqb any 0)))
 
 -- none merged: each byte is 0
 pub none_merged_lem : (ms : List ℕ) → any_merged ms ≡ false → (i : ℕ) → get_or ms i 0 ≡ 0
@@ -69,15 +69,15 @@ carry_none a b = elim (dec_lt (a + b) 256) [
 ]
 
 module _ (xs ys : List ℕ) (i : ℕ) (h : i < length xs) (k : i < length ys) where
-  fit-cons : fit (drop i xs) (drop i ys) ≡ (ltb (get_or xs i 0 + get_or ys i 0) 256 && fit (drop (i + 1) xs) (drop (i + 1) ys))
+  fit_cons : fit (drop i xs) (drop i ys) ≡ (ltb (get_or xs i 0 + get_or ys i 0) 256 && fit (drop (i + 1) xs) (drop (i + 1) ys))
   unfolding fit
-  fit-cons = rw (drop-cons xs i 0 h, drop-cons ys i 0 k, add-one i)
+  fit_cons = rw (drop-cons xs i 0 h, drop-cons ys i 0 k, add-one i)
 
   -- sums tested one by one
-  pub fit-turn : (carries : ℕ)
+  pub fit_turn : (carries : ℕ)
       → (eqb (bit_or carries ((get_or xs i 0 + get_or ys i 0) / 256)) 0 && fit (drop (i + 1) xs) (drop (i + 1) ys)) ≡ (eqb carries 0 && fit (drop i xs) (drop i ys))
-  fit-turn carries =
-      rw (or_zero carries ((get_or xs i 0 + get_or ys i 0) / 256), carry_none (get_or xs i 0) (get_or ys i 0), fit-cons)
+  fit_turn carries =
+      rw (or_zero carries ((get_or xs i 0 + get_or ys i 0) / 256), carry_none (get_or xs i 0) (get_or ys i 0), fit_cons)
       (and_assoc (eqb carries 0) (ltb (get_or xs i 0 + get_or ys i 0) 256) (fit (drop (i + 1) xs) (drop (i + 1) ys)))
 
 pub fit_end : (xs ys : List ℕ) (i carries : ℕ) → length xs ≤ i → (eqb carries 0 && fit (drop i xs) (drop i ys)) ≡ eqb carries 0

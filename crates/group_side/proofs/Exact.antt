@@ -11,7 +11,7 @@ use Rattle.group.specs.Group.{decode, encode, settle, united_groups}
 use Rattle.group.proofs.Laws.{Eight}
 use Rattle.group_side.specs.Side.{fit, unmerged, stay_unmerged}
 use Rattle.group_side.proofs.Bytes.{fit_split}
-use Rattle.group_side.proofs.Slots.{clear_halves, Slots, low-slots, high-slots, number-halves}
+use Rattle.group_side.proofs.Slots.{clear_halves, Slots, low_slots, high_slots, number_halves}
 use Rattle.group_side.proofs.Unions.{filled, unmerged_valid, unmerged_status, fit_united}
 
 -- bytes tested in two parts
@@ -69,11 +69,11 @@ unite_fit : (n : ℕ) (xs ys : List ℕ) → Slots n xs → Slots n ys
 unfolding unite fill total layout
 unite_fit zero xs ys s t e = slot_fit xs ys s.long t.long (slot_marks (number xs + number ys) e)
 unite_fit (suc n) xs ys s t e =
-    let x = number-halves s in
-    let y = number-halves t in
+    let x = number_halves s in
+    let y = number_halves t in
     let p = join_marks _ _ (rw (clear_halves n, x.0, x.1, y.0, y.1) at e) in
-    fit_both (2 ^ n) xs ys (unite_fit n (take (2 ^ n) xs) (take (2 ^ n) ys) (low-slots s) (low-slots t) p.0)
-    (unite_fit n (drop (2 ^ n) xs) (drop (2 ^ n) ys) (high-slots s) (high-slots t) p.1)
+    fit_both (2 ^ n) xs ys (unite_fit n (take (2 ^ n) xs) (take (2 ^ n) ys) (low_slots s) (low_slots t) p.0)
+    (unite_fit n (drop (2 ^ n) xs) (drop (2 ^ n) ys) (high_slots s) (high_slots t) p.1)
 
 -- two groups
 settle_marks : (g : Group) (x : Sum 3) → (settle g x).status ≡ 0 → (settle g x).group.merge ≡ marks_of x
@@ -82,22 +82,22 @@ settle_marks g (fits b) e = refl
 settle_marks g (over s) e = absurd (omega arith)
 
 module _ (counts source : List ℕ) (e : Eight counts) (f : Eight source) where
-  united-is : united_groups (unmerged counts) (unmerged source) ≡ settle (unmerged counts) (unite (decode (unmerged counts)) (decode (unmerged source)))
+  united_is : united_groups (unmerged counts) (unmerged source) ≡ settle (unmerged counts) (unite (decode (unmerged counts)) (decode (unmerged source)))
   unfolding united_groups
-  united-is = rw unmerged_valid
+  united_is = rw unmerged_valid
 
-  merged-fit : (united_groups (unmerged counts) (unmerged source)).group.merge ≡ 0 → fit counts source ≡ true
+  merged_fit : (united_groups (unmerged counts) (unmerged source)).group.merge ≡ 0 → fit counts source ≡ true
   unfolding decode block_as
-  merged-fit z =
-      let s = rw united-is at (unmerged_status counts source e f) in
+  merged_fit z =
+      let s = rw united_is at (unmerged_status counts source e f) in
       unite_fit 3 counts source (record { long = e.long; small = e.small }) (record { long = f.long; small = f.small })
-      (sym (settle_marks (unmerged counts) (unite (decode (unmerged counts)) (decode (unmerged source))) s) ∙ rw united-is at z)
+      (sym (settle_marks (unmerged counts) (unite (decode (unmerged counts)) (decode (unmerged source))) s) ∙ rw united_is at z)
 
-  pub fit-exact : fit counts source ≡ eqb (united_groups (unmerged counts) (unmerged source)).group.merge 0
-  fit-exact =
+  pub fit_exact : fit counts source ≡ eqb (united_groups (unmerged counts) (unmerged source)).group.merge 0
+  fit_exact =
       both_ways (fit counts source) (eqb (united_groups (unmerged counts) (unmerged source)).group.merge 0)
       (λ t. eq-eqb _ 0 (ap (λ (g : Group). g.merge) (fit_united counts source e.long f.long t)))
-      (λ t. merged-fit (eqb-true _ 0 t))
+      (λ t. merged_fit (eqb-true _ 0 t))
 
 -- n groups side by side
 fit_empty : (xs ys : List ℕ) → length xs ≡ 0 → fit xs ys ≡ true
@@ -113,7 +113,7 @@ pub fit_side : (n : ℕ) (counts source : List ℕ) → length counts ≡ 8 * n 
 unfolding stay_unmerged
 fit_side zero counts source l m b c = fit_empty counts source l
 fit_side (suc n) counts source l m b c =
-    let first = fit-exact (take 8 counts) (take 8 source) (eight_first n counts l b) (eight_first n source m c) in
+    let first = fit_exact (take 8 counts) (take 8 source) (eight_first n counts l b) (eight_first n source m c) in
     let rest = fit_side n (drop 8 counts) (drop 8 source) (rw (length-drop 8 counts) (omega arith)) (rw (length-drop 8 source) (omega arith))
     (bytes_drop 8 counts b) (bytes_drop 8 source c) in
     fit_split 8 counts source ∙ ap₂ ◌&&◌ first rest

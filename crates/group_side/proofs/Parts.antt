@@ -5,11 +5,11 @@ use Rattle.group.proofs.Laws.{Eight}
 use Rattle.group_side.specs.Side.{part}
 
 module _ (n : ℕ) (xs : List ℕ) (l : length xs ≡ 8 * n) (i : ℕ) (h : i < n) where
-  pub part-long : length (part i xs) ≡ 8
-  part-long = length-take-le 8 (drop (8 * i) xs) (rw (length-drop (8 * i) xs) (omega arith))
+  pub part_long : length (part i xs) ≡ 8
+  part_long = length-take-le 8 (drop (8 * i) xs) (rw (length-drop (8 * i) xs) (omega arith))
 
-  pub part-eight : Bytes xs → Eight (part i xs)
-  part-eight b = record { long = part-long; small = bytes_take 8 (drop (8 * i) xs) (bytes_drop (8 * i) xs b) }
+  pub part_eight : Bytes xs → Eight (part i xs)
+  part_eight b = record { long = part_long; small = bytes_take 8 (drop (8 * i) xs) (bytes_drop (8 * i) xs b) }
 
 pub part_at : (xs : List ℕ) (i k : ℕ) → k < 8 → get_or (part i xs) k 0 ≡ get_or xs (8 * i + k) 0
 part_at xs i k h = get_or-take 8 (drop (8 * i) xs) k 0 h ∙ get_or-drop (8 * i) xs k 0

@@ -55,16 +55,16 @@ pub record Slots (n : ℕ) (xs : List ℕ) : Type 0 where
   pub small : Bytes xs
 
 module _ {n : ℕ} {xs : List ℕ} (s : Slots (suc n) xs) where
-  pub low-slots : Slots n (take (2 ^ n) xs)
-  low-slots = let l = s.long in
+  pub low_slots : Slots n (take (2 ^ n) xs)
+  low_slots = let l = s.long in
       record { long = length-take-le (2 ^ n) xs (omega arith); small = bytes_take (2 ^ n) xs s.small }
 
-  pub high-slots : Slots n (drop (2 ^ n) xs)
-  high-slots = let l = s.long in
+  pub high_slots : Slots n (drop (2 ^ n) xs)
+  high_slots = let l = s.long in
       record { long = rw (length-drop (2 ^ n) xs) (omega arith); small = bytes_drop (2 ^ n) xs s.small }
 
-  pub number-halves : (number xs % cap n ≡ number (take (2 ^ n) xs)) × (number xs / cap n ≡ number (drop (2 ^ n) xs))
-  number-halves = halves_of_lem n xs (number_below n (take (2 ^ n) xs) low-slots.long low-slots.small)
+  pub number_halves : (number xs % cap n ≡ number (take (2 ^ n) xs)) × (number xs / cap n ≡ number (drop (2 ^ n) xs))
+  number_halves = halves_of_lem n xs (number_below n (take (2 ^ n) xs) low_slots.long low_slots.small)
 
 -- one slot
 pub number_slot : (xs : List ℕ) → length xs ≡ 1 → number xs ≡ get_or xs 0 0
@@ -77,9 +77,9 @@ pub slots_clean : (K : Kind) (n : ℕ) (xs : List ℕ) → Slots n xs → ((i : 
 unfolding all_clean layout
 slots_clean K zero xs s f = rw (number_slot xs s.long) (f 0 (omega arith))
 slots_clean K (suc n) xs s f =
-    let x = number-halves s in
-    let low = slots_clean K n (take (2 ^ n) xs) (low-slots s) (λ i h. rw (get_or-take (2 ^ n) xs i 0 h) (f i (omega arith))) in
-    let high = slots_clean K n (drop (2 ^ n) xs) (high-slots s) (λ i h. rw (get_or-drop (2 ^ n) xs i 0) (f (2 ^ n + i) (omega arith))) in
+    let x = number_halves s in
+    let low = slots_clean K n (take (2 ^ n) xs) (low_slots s) (λ i h. rw (get_or-take (2 ^ n) xs i 0 h) (f i (omega arith))) in
+    let high = slots_clean K n (drop (2 ^ n) xs) (high_slots s) (λ i h. rw (get_or-drop (2 ^ n) xs i 0) (f (2 ^ n + i) (omega arith))) in
     rw (clear_halves n, x.0, x.1, low, high)
 
 -- three lists related element by element
@@ -93,10 +93,10 @@ module _ {R : ℕ → ℕ → ℕ → Type 0} where
   each_take (suc k) none = none
   each_take (suc k) (more r s) = more r (each_take k s)
 
-  pub each-drop : (k : ℕ) {xs ys zs : List ℕ} → Each R xs ys zs → Each R (drop k xs) (drop k ys) (drop k zs)
-  each-drop zero s = s
-  each-drop (suc k) none = none
-  each-drop (suc k) (more r s) = each-drop k s
+  pub each_drop : (k : ℕ) {xs ys zs : List ℕ} → Each R xs ys zs → Each R (drop k xs) (drop k ys) (drop k zs)
+  each_drop zero s = s
+  each_drop (suc k) none = none
+  each_drop (suc k) (more r s) = each_drop k s
 
   pub each_long : {xs ys zs : List ℕ} → Each R xs ys zs → (length ys ≡ length xs) × (length zs ≡ length xs)
   each_long none = (refl, refl)
@@ -124,62 +124,62 @@ module _ {K : Kind} (C : Codes K) where
   unfolding cap
   third r = rw r.is (C.bits_lt 0 _ r.small)
 
-  pub each-bytes : {xs ys zs : List ℕ} → Each (Holds K) xs ys zs → Bytes xs × Bytes ys × Bytes zs
-  each-bytes s = (λ i. (at s i).0, λ i. (at s i).1, λ i. (at s i).2)
+  pub each_bytes : {xs ys zs : List ℕ} → Each (Holds K) xs ys zs → Bytes xs × Bytes ys × Bytes zs
+  each_bytes s = (λ i. (at s i).0, λ i. (at s i).1, λ i. (at s i).2)
     where
       at : {xs ys zs : List ℕ} → Each (Holds K) xs ys zs → (i : ℕ) → (get_or xs i 0 < 256) × (get_or ys i 0 < 256) × (get_or zs i 0 < 256)
       at none i = (omega arith, omega arith, omega arith)
       at (more r s) zero = (r.first, r.second, third r)
       at (more r s) (suc i) = at s i
 
-  slot-united : {a b c : ℕ} → Holds K a b c
+  slot_united : {a b c : ℕ} → Holds K a b c
       → unite {K = K} (counter {n = 0} (K.read 0 a)) (counter (K.read 0 b)) ≡ fits (counter (K.read 0 c))
   unfolding unite total held
-  slot-united {a} {b} {c} r =
+  slot_united {a} {b} {c} r =
       rw (lt-ltb (K.size (K.plus (K.read 0 a) (K.read 0 b))) (K.bound 0) r.small, r.is, C.read_bits 0 _ r.small)
 
-  one-united : {xs ys zs : List ℕ} → length xs ≡ 1 → Each (Holds K) xs ys zs
+  one_united : {xs ys zs : List ℕ} → length xs ≡ 1 → Each (Holds K) xs ys zs
       → unite {K = K} (counter {n = 0} (K.read 0 (number xs))) (counter (K.read 0 (number ys))) ≡ fits (counter (K.read 0 (number zs)))
-  one-united l none = absurd (omega arith)
-  one-united l (more {a} {b} {c} r none) = rw (number_one a, number_one b, number_one c) (slot-united r)
-  one-united l (more r (more q s)) = absurd (omega arith)
+  one_united l none = absurd (omega arith)
+  one_united l (more {a} {b} {c} r none) = rw (number_one a, number_one b, number_one c) (slot_united r)
+  one_united l (more r (more q s)) = absurd (omega arith)
 
-  each-clean : {xs ys zs : List ℕ} → Each (Holds K) xs ys zs → (i : ℕ) → i < length xs → K.clean 0 (get_or zs i 0) ≡ true
-  each-clean none i h = absurd (omega arith)
-  each-clean (more r s) zero h = rw r.is (C.bits_clean 0 _ r.small)
-  each-clean (more r s) (suc i) h = each-clean s i (omega arith)
+  each_clean : {xs ys zs : List ℕ} → Each (Holds K) xs ys zs → (i : ℕ) → i < length xs → K.clean 0 (get_or zs i 0) ≡ true
+  each_clean none i h = absurd (omega arith)
+  each_clean (more r s) zero h = rw r.is (C.bits_clean 0 _ r.small)
+  each_clean (more r s) (suc i) h = each_clean s i (omega arith)
 
-  each-slots : (n : ℕ) {xs ys zs : List ℕ} → length xs ≡ 2 ^ n → Each (Holds K) xs ys zs → Slots n xs × Slots n ys × Slots n zs
-  each-slots n l s = let m = each_long s in
-      let b = each-bytes s in
+  each_slots : (n : ℕ) {xs ys zs : List ℕ} → length xs ≡ 2 ^ n → Each (Holds K) xs ys zs → Slots n xs × Slots n ys × Slots n zs
+  each_slots n l s = let m = each_long s in
+      let b = each_bytes s in
       (record { long = l; small = b.0 }, record { long = m.0 ∙ l; small = b.1 }, record { long = m.1 ∙ l; small = b.2 })
 
   -- the union of unmerged blocks of any level
-  slots-united : (n : ℕ) {xs ys zs : List ℕ} → length xs ≡ 2 ^ n → Each (Holds K) xs ys zs
+  slots_united : (n : ℕ) {xs ys zs : List ℕ} → length xs ≡ 2 ^ n → Each (Holds K) xs ys zs
       → unite (fill {K = K} (layout n 0) (number xs)) (fill (layout n 0) (number ys)) ≡ fits (fill (layout n 0) (number zs))
   unfolding fill unite join layout
-  slots-united zero l s = one-united l s
-  slots-united (suc n) {xs} {ys} {zs} l s =
-      let b = each-slots (suc n) l s in
-      let x = number-halves b.0 in
-      let y = number-halves b.1 in
-      let z = number-halves b.2 in
-      let low = slots-united n (low-slots b.0).long (each_take (2 ^ n) s) in
-      let high = slots-united n (high-slots b.0).long (each-drop (2 ^ n) s) in
+  slots_united zero l s = one_united l s
+  slots_united (suc n) {xs} {ys} {zs} l s =
+      let b = each_slots (suc n) l s in
+      let x = number_halves b.0 in
+      let y = number_halves b.1 in
+      let z = number_halves b.2 in
+      let low = slots_united n (low_slots b.0).long (each_take (2 ^ n) s) in
+      let high = slots_united n (high_slots b.0).long (each_drop (2 ^ n) s) in
       rw (clear_halves n, x.0, x.1, y.0, y.1, z.0, z.1, low, high)
 
   module _ (n : ℕ) {xs ys zs : List ℕ} (l : length xs ≡ 2 ^ n) (s : Each (Holds K) xs ys zs) where
-    pub sums-below : number zs < cap n
-    sums-below = number_below n zs ((each_long s).1 ∙ l) (each-bytes s).2
+    pub sums_below : number zs < cap n
+    sums_below = number_below n zs ((each_long s).1 ∙ l) (each_bytes s).2
 
-    pub sums-united : unite (block_as K n (number xs) 0) (block_as K n (number ys) 0) ≡ fits (block_as K n (number zs) 0)
+    pub sums_united : unite (block_as K n (number xs) 0) (block_as K n (number ys) 0) ≡ fits (block_as K n (number zs) 0)
     unfolding block_as
-    sums-united = slots-united n l s
+    sums_united = slots_united n l s
 
     -- as the code passes it
-    pub sums-passed : (P : Passing K)
+    pub sums_passed : (P : Passing K)
         → record { over = false; word = number zs; merge = 0 } ≡ summed_as P (unite (block_as K n (number xs) 0) (block_as K n (number ys) 0))
     unfolding summed_as
-    sums-passed P =
-        let clean = slots_clean K n zs (each-slots n l s).2 (λ i h. each-clean s i (omega arith)) in
-        rw (sums-united, word_block_of C n (number zs) 0 sums-below clean, marks_block_of K n (number zs) 0 (clear_valid n))
+    sums_passed P =
+        let clean = slots_clean K n zs (each_slots n l s).2 (λ i h. each_clean s i (omega arith)) in
+        rw (sums_united, word_block_of C n (number zs) 0 sums_below clean, marks_block_of K n (number zs) 0 (clear_valid n))

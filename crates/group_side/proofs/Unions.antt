@@ -13,9 +13,9 @@ use Rattle.group.specs.declared.Group.{Group}
 use Rattle.group.specs.declared.Outcome.{Outcome}
 use Rattle.group.specs.Group.{decode, united_groups, valid_merge}
 use Rattle.group.specs.Stored.{stored}
-use Rattle.group.proofs.Laws.{Eight, number_in, united-stored, united-fits}
+use Rattle.group.proofs.Laws.{Eight, number_in, united_stored, united_fits}
 use Rattle.group_side.proofs.Bytes.{fit_split}
-use Rattle.group_side.proofs.Slots.{clear_halves, clear_valid, Each, none, more, each_long, Holds, each-bytes, sums-below, sums-united}
+use Rattle.group_side.proofs.Slots.{clear_halves, clear_valid, Each, none, more, each_long, Holds, each_bytes, sums_below, sums_united}
 use Rattle.group_side.specs.Side.{fit, sums, unmerged, united_side}
 
 -- the block of a layout and count bytes, taken as one number
@@ -47,7 +47,7 @@ unmerged_status counts source e f =
     let h = number_in counts e in
     let k = number_in source f in
     ap (λ (o : Outcome). o.status)
-    (united-stored (unmerged counts) (unmerged source) h k unmerged_valid unmerged_valid (omega (arith, small_total counts h, small_total source k, below_64)))
+    (united_stored (unmerged counts) (unmerged source) h k unmerged_valid unmerged_valid (omega (arith, small_total counts h, small_total source k, below_64)))
 
 -- the sums of two lists of bytes, where none passes 255
 fit_sums : (xs ys : List ℕ) → length xs ≡ length ys → fit xs ys ≡ true → Each (Holds ordinary) xs ys (sums xs ys)
@@ -66,9 +66,9 @@ groups_united : (counts source zs : List ℕ) → length counts ≡ 8 → Each (
     → (united_groups (unmerged counts) (unmerged source)).group ≡ unmerged zs
 unfolding decode stored
 groups_united counts source zs long s =
-    let back : bytes 8 (number zs) ≡ zs = rw (← (each_long s).1 ∙ long) (bytes_number zs (each-bytes ordinary_codes s).2) in
+    let back : bytes 8 (number zs) ≡ zs = rw (← (each_long s).1 ∙ long) (bytes_number zs (each_bytes ordinary_codes s).2) in
     ap (λ (o : Outcome). o.group)
-    (sym (united-fits (unmerged counts) (unmerged source) (number zs) (sums-below ordinary_codes 3 long s) unmerged_valid unmerged_valid (sums-united ordinary_codes 3 long s)))
+    (sym (united_fits (unmerged counts) (unmerged source) (number zs) (sums_below ordinary_codes 3 long s) unmerged_valid unmerged_valid (sums_united ordinary_codes 3 long s)))
     ∙ rw back
 
 pub fit_united : (counts source : List ℕ) → length counts ≡ 8 → length source ≡ 8 → fit counts source ≡ true

@@ -16,7 +16,7 @@ use Rattle.group_block.specs.Block.{BlockOf, Block, counter, split, cap, Fits, s
 use Rattle.group_block.specs.Change.{change}
 use Rattle.group_block.specs.Sum.{fits, held, join, add}
 use Rattle.group_block.proofs.Laws.{word_lt}
-use Rattle.group_slots.proofs.Slots.{in_left, in_right, level_le, shifted, change-left, change-right}
+use Rattle.group_slots.proofs.Slots.{in_left, in_right, level_le, shifted, change_left, change_right}
 
 -- the first slot of the counter that slot k is in
 unfoldable pub first : {n : ℕ} → Block n → ℕ → ℕ
@@ -25,13 +25,13 @@ first (split {n} l r) k = cond (ltb k (2 ^ n)) (first l k) (2 ^ n + first r (k -
 
 -- what is in each half
 module _ {n : ℕ} (l r : Block n) (k : ℕ) where
-  first-left : k < 2 ^ n → first (split l r) k ≡ first l k
+  first_left : k < 2 ^ n → first (split l r) k ≡ first l k
   unfolding first
-  first-left h = rw (lt-ltb k (2 ^ n) h)
+  first_left h = rw (lt-ltb k (2 ^ n) h)
 
-  first-right : 2 ^ n ≤ k → first (split l r) k ≡ 2 ^ n + first r (k - 2 ^ n)
+  first_right : 2 ^ n ≤ k → first (split l r) k ≡ 2 ^ n + first r (k - 2 ^ n)
   unfolding first
-  first-right h = rw (le-ltb k (2 ^ n) h)
+  first_right h = rw (le-ltb k (2 ^ n) h)
 
 module _ {K : Kind} {n : ℕ} (l r : BlockOf K n) (k : ℕ) (a : K.Value) where
   pub add_left : k < 2 ^ n → add (split l r) k a ≡ join (add l k a) (fits r)
@@ -47,10 +47,10 @@ first_and : {n : ℕ} (b : Block n) (k : ℕ) → k < 2 ^ n → first b k + k % 
 unfolding first counter_at
 first_and {n} (counter v) k h = omega (arith, mod-eq_of_lt {n = k} {m = 2 ^ n} h)
 first_and (split {n} l r) k h = elim (dec_lt k (2 ^ n)) [
-  | yes m ↦ rw (first-left l r k m, in_left l r k m) (first_and l k m)
+  | yes m ↦ rw (first_left l r k m, in_left l r k m) (first_and l k m)
   | no m' ↦
       let m : 2 ^ n ≤ k = omega arith in
-      rw (first-right l r k m, in_right l r k m, shifted n (counter_at r (k - 2 ^ n)).level k (level_le r (k - 2 ^ n)) m)
+      rw (first_right l r k m, in_right l r k m, shifted n (counter_at r (k - 2 ^ n)).level k (level_le r (k - 2 ^ n)) m)
       (omega (arith, first_and r (k - 2 ^ n) (omega arith)))
 ]
 
@@ -62,10 +62,10 @@ pub first_in : {n : ℕ} (b : Block n) (k : ℕ) → first b k + 2 ^ (counter_at
 unfolding first counter_at
 first_in (counter v) k = omega arith
 first_in (split {n} l r) k = elim (dec_lt k (2 ^ n)) [
-  | yes m ↦ rw (first-left l r k m, in_left l r k m) (omega (arith, first_in l k))
+  | yes m ↦ rw (first_left l r k m, in_left l r k m) (omega (arith, first_in l k))
   | no m' ↦
       let m : 2 ^ n ≤ k = omega arith in
-      rw (first-right l r k m, in_right l r k m) (omega (arith, first_in r (k - 2 ^ n)))
+      rw (first_right l r k m, in_right l r k m) (omega (arith, first_in r (k - 2 ^ n)))
 ]
 
 -- bits above a field are not in it
@@ -83,12 +83,12 @@ value_is (split {n} l r) k f = elim (dec_lt k (2 ^ n)) [
       let i = 8 * first l k in
       let j = 8 * 2 ^ (counter_at l k).level in
       let e : 8 * 2 ^ n ≡ 8 * 2 ^ n - (j + i) + j + i = omega (arith, first_in l k) in
-      rw (first-left l r k m, in_left l r k m, e) (above (number_of r) (number_of l) i j (8 * 2 ^ n - (j + i)) ∙ value_is l k f.0)
+      rw (first_left l r k m, in_left l r k m, e) (above (number_of r) (number_of l) i j (8 * 2 ^ n - (j + i)) ∙ value_is l k f.0)
   | no m' ↦
       let m : 2 ^ n ≤ k = omega arith in
       let e : 8 * (2 ^ n + first r (k - 2 ^ n)) ≡ 8 * 2 ^ n + 8 * first r (k - 2 ^ n) = omega arith in
       rw (
-        first-right l r k m,
+        first_right l r k m,
         in_right l r k m,
         e,
         ← shr-shr (number_of r * 2 ^ (8 * 2 ^ n) + number_of l) (8 * 2 ^ n) (8 * first r (k - 2 ^ n)),
@@ -111,7 +111,7 @@ add_in_place (split {n} l r) k a h = elim (dec_lt k (2 ^ n)) [
         split s.0 r,
         rw (add_left l r k a m, s.1),
         ap (λ (L : Layout n). halves L (shape r)) s.2,
-        rw (first-left l r k m) (omega (arith, s.3)),
+        rw (first_left l r k m) (omega (arith, s.3)),
         rw (in_left s.0 r k m, in_left l r k m) s.4,
       )
   | no m' ↦
@@ -120,7 +120,7 @@ add_in_place (split {n} l r) k a h = elim (dec_lt k (2 ^ n)) [
         split l s.0,
         rw (add_right l r k a m, s.1),
         ap (λ (L : Layout n). halves (shape l) L) s.2,
-        rw (first-right l r k m, s.3) (higher (number_of r) (number_of l) a (2 ^ n) (first r (k - 2 ^ n))),
+        rw (first_right l r k m, s.3) (higher (number_of r) (number_of l) a (2 ^ n) (first r (k - 2 ^ n))),
         rw (in_right l s.0 k m, in_right l r k m) s.4,
       )
 ]
@@ -149,9 +149,9 @@ pub change_word : {n : ℕ} (b : Block n) (k x : ℕ)
 unfolding change number_of first counter_at cap
 change_word (counter v) k x = omega arith
 change_word (split {n} l r) k x = elim (dec_lt k (2 ^ n)) [
-  | yes m ↦ rw (change-left l r k x m, first-left l r k m, in_left l r k m) (omega (arith, change_word l k x))
+  | yes m ↦ rw (change_left l r k x m, first_left l r k m, in_left l r k m) (omega (arith, change_word l k x))
   | no m' ↦
       let m : 2 ^ n ≤ k = omega arith in
-      rw (change-right l r k x m, first-right l r k m, in_right l r k m)
+      rw (change_right l r k x m, first_right l r k m, in_right l r k m)
       (higher_both (2 ^ n) (first r (k - 2 ^ n)) (number_of (change r (k - 2 ^ n) x)) (number_of r) (number_of l) (counter_at r (k - 2 ^ n)).value (x % cap (counter_at r (k - 2 ^ n)).level) (change_word r (k - 2 ^ n) x))
 ]

@@ -70,21 +70,21 @@ module _ {n : ℕ} (l r : Block n) where
   pub from_right : (k : ℕ) → counter_at (split l r) (2 ^ n + k) ≡ counter_at r k
   from_right k = in_right (2 ^ n + k) (omega arith) ∙ ap (counter_at r) (add-sub_cancel_left (2 ^ n) k)
 
-  pub change-left : (k x : ℕ) → k < 2 ^ n → change (split l r) k x ≡ split (change l k x) r
+  pub change_left : (k x : ℕ) → k < 2 ^ n → change (split l r) k x ≡ split (change l k x) r
   unfolding change
-  change-left k x h = rw (lt-ltb k (2 ^ n) h)
+  change_left k x h = rw (lt-ltb k (2 ^ n) h)
 
-  pub change-right : (k x : ℕ) → 2 ^ n ≤ k → change (split l r) k x ≡ split l (change r (k - 2 ^ n) x)
+  pub change_right : (k x : ℕ) → 2 ^ n ≤ k → change (split l r) k x ≡ split l (change r (k - 2 ^ n) x)
   unfolding change
-  change-right k x h = rw (le-ltb k (2 ^ n) h)
+  change_right k x h = rw (le-ltb k (2 ^ n) h)
 
 -- another value is read back from its slot
 pub change_at : {n : ℕ} (b : Block n) (k x : ℕ) → counter_at (change b k x) k ≡ record { value = x % cap (counter_at b k).level; level = (counter_at b k).level }
 unfolding change counter_at
 change_at (counter v) k x = refl
 change_at (split {n} l r) k x = elim (dec_lt k (2 ^ n)) [
-  | yes h ↦ rw (change-left l r k x h, in_left (change l k x) r k h, in_left l r k h) (change_at l k x)
-  | no h ↦ let m : 2 ^ n ≤ k = omega arith in rw (change-right l r k x m, in_right l (change r (k - 2 ^ n) x) k m, in_right l r k m) (change_at r (k - 2 ^ n) x)
+  | yes h ↦ rw (change_left l r k x h, in_left (change l k x) r k h, in_left l r k h) (change_at l k x)
+  | no h ↦ let m : 2 ^ n ≤ k = omega arith in rw (change_right l r k x m, in_right l (change r (k - 2 ^ n) x) k m, in_right l r k m) (change_at r (k - 2 ^ n) x)
 ]
 
 -- a multiple of a counter's size is one in the right half too
@@ -99,15 +99,15 @@ pub change_before : {n : ℕ} (b : Block n) (k j x : ℕ) → j < k → k < 2 ^ 
 unfolding counter_at
 change_before {n} (counter v) k j x h i z = absurd (omega (arith, mod-eq_of_lt {n = k} {m = 2 ^ n} i))
 change_before (split {n} l r) k j x h i z = elim (dec_lt k (2 ^ n)) [
-  | yes m ↦ rw (change-left l r k x m, in_left (change l k x) r j (omega arith), in_left l r j (omega arith)) (change_before l k j x h m (rw (in_left l r k m) at z))
+  | yes m ↦ rw (change_left l r k x m, in_left (change l k x) r j (omega arith), in_left l r j (omega arith)) (change_before l k j x h m (rw (in_left l r k m) at z))
   | no m' ↦
       let m : 2 ^ n ≤ k = omega arith in
       elim (dec_lt j (2 ^ n)) [
-        | yes q ↦ rw (change-right l r k x m, in_left l (change r (k - 2 ^ n) x) j q, in_left l r j q)
+        | yes q ↦ rw (change_right l r k x m, in_left l (change r (k - 2 ^ n) x) j q, in_left l r j q)
         | no q' ↦
             let q : 2 ^ n ≤ j = omega arith in
             let y : (k - 2 ^ n) % 2 ^ (counter_at r (k - 2 ^ n)).level ≡ 0 = sym (shifted n (counter_at r (k - 2 ^ n)).level k (level_le r (k - 2 ^ n)) m) ∙ (rw (in_right l r k m) at z) in
-            rw (change-right l r k x m, in_right l (change r (k - 2 ^ n) x) j q, in_right l r j q) (change_before r (k - 2 ^ n) (j - 2 ^ n) x (omega arith) (omega arith) y)
+            rw (change_right l r k x m, in_right l (change r (k - 2 ^ n) x) j q, in_right l r j q) (change_before r (k - 2 ^ n) (j - 2 ^ n) x (omega arith) (omega arith) y)
       ]
 ]
 

@@ -19,13 +19,13 @@ use Rattle.group_slots.proofs.Places.{add_left, add_right, higher_both}
 
 -- what is in each half
 module _ {K : Kind} {n : ℕ} (l r : BlockOf K n) (k : ℕ) where
-  value-left : k < 2 ^ n → counter_value (split l r) k ≡ counter_value l k
+  value_left : k < 2 ^ n → counter_value (split l r) k ≡ counter_value l k
   unfolding counter_value
-  value-left h = rw (lt-ltb k (2 ^ n) h)
+  value_left h = rw (lt-ltb k (2 ^ n) h)
 
-  value-right : 2 ^ n ≤ k → counter_value (split l r) k ≡ counter_value r (k - 2 ^ n)
+  value_right : 2 ^ n ≤ k → counter_value (split l r) k ≡ counter_value r (k - 2 ^ n)
   unfolding counter_value
-  value-right h = rw (le-ltb k (2 ^ n) h)
+  value_right h = rw (le-ltb k (2 ^ n) h)
 
   level_left : k < 2 ^ n → level_of (shape (split l r)) k ≡ level_of (shape l) k
   unfolding level_of shape
@@ -66,10 +66,10 @@ pub ones_twice : (n : ℕ) → ones (suc n) ≡ ones n * 2 ^ (2 ^ n) + ones n + 
 unfolding ones
 ones_twice n =
     let e : 2 ^ (2 ^ suc n - 1) ≡ 2 ^ (2 ^ n - 1) * 2 ^ (2 ^ n) = ap (λ (k : ℕ). 2 ^ k) (sym (twice n)) ∙ pow-add 2 (2 ^ n - 1) (2 ^ n) in
-    omega (arith, e, double n, pow_pos (2 ^ n - 1), sub-mul)
+    omega (arith, e, double n, pow_pos (2 ^ n - 1), sub_mul)
   where
-    sub-mul : (2 ^ (2 ^ n - 1) - 1) * 2 ^ (2 ^ n) + 2 ^ (2 ^ n) ≡ 2 ^ (2 ^ n - 1) * 2 ^ (2 ^ n)
-    sub-mul =
+    sub_mul : (2 ^ (2 ^ n - 1) - 1) * 2 ^ (2 ^ n) + 2 ^ (2 ^ n) ≡ 2 ^ (2 ^ n - 1) * 2 ^ (2 ^ n)
+    sub_mul =
         let x = 2 ^ (2 ^ n - 1) - 1 in
         let e : 2 ^ (2 ^ n - 1) ≡ x + 1 = omega (arith, pow_pos (2 ^ n - 1)) in
         sym (ap (λ (z : ℕ). z * 2 ^ (2 ^ n)) e ∙ add-mul x 1 (2 ^ (2 ^ n)) ∙ omega arith)
@@ -82,9 +82,9 @@ module _ {K : Kind} (S : Sums K) {n : ℕ} (k : ℕ) (a u v : K.Value) (i : K.si
   abbrev Past : Type 0
   Past = K.bound n ≤ K.size (K.plus (counter_value pair k) a)
 
-  whole-added : Past → add pair k a ≡ fits (counter (K.plus (K.plus u v) a))
+  whole_added : Past → add pair k a ≡ fits (counter (K.plus (K.plus u v) a))
   unfolding add join held sum_total total counter_value
-  whole-added h = elim (dec_lt k (2 ^ n)) [
+  whole_added h = elim (dec_lt k (2 ^ n)) [
     | yes m ↦
         let o : K.bound n ≤ K.size (K.plus u a) = rw (lt-ltb k (2 ^ n) m) at h in
         rw (lt-ltb k (2 ^ n) m, le-ltb (K.size (K.plus u a)) (K.bound n) o, swap S u a v, lt-ltb (K.size (K.plus (K.plus u v) a)) (K.bound (suc n)) i)
@@ -94,19 +94,19 @@ module _ {K : Kind} (S : Sums K) {n : ℕ} (k : ℕ) (a u v : K.Value) (i : K.si
         rw (r, le-ltb (K.size (K.plus v a)) (K.bound n) o, ← S.assoc u v a, lt-ltb (K.size (K.plus (K.plus u v) a)) (K.bound (suc n)) i)
   ]
 
-  widened-whole : Past → Widened pair k a n 0 u v
+  widened_whole : Past → Widened pair k a n 0 u v
   unfolding number_of shape marks
-  widened-whole h = (counter (K.plus (K.plus u v) a), whole-added h, omega arith, omega (arith, ones_twice n))
+  widened_whole h = (counter (K.plus (K.plus u v) a), whole_added h, omega arith, omega (arith, ones_twice n))
 
 widen_top : {K : Kind} (S : Sums K) {n : ℕ} (l r : BlockOf K n) (k : ℕ) (a u v : K.Value) → Twins (split l r) n 0 u v
     → K.bound n ≤ K.size (K.plus (counter_value (split l r) k) a) → K.size (K.plus (K.plus u v) a) < K.bound (suc n)
     → Widened (split l r) k a n 0 u v
 widen_top S {n} l r k a u v t h i =
     let e : 0 + 2 ^ n - 2 ^ n ≡ 0 = omega arith in
-    let p : l ≡ counter u = is_whole l 0 u (sym (value-left l r 0 (pow_pos n)) ∙ t.first) (sym (level_left l r 0 (pow_pos n)) ∙ t.first_level) in
+    let p : l ≡ counter u = is_whole l 0 u (sym (value_left l r 0 (pow_pos n)) ∙ t.first) (sym (level_left l r 0 (pow_pos n)) ∙ t.first_level) in
     let m : 2 ^ n ≤ 0 + 2 ^ n = omega arith in
-    let q : r ≡ counter v = is_whole r (0 + 2 ^ n - 2 ^ n) v (sym (value-right l r (0 + 2 ^ n) m) ∙ t.second) (sym (level_right l r (0 + 2 ^ n) m) ∙ t.second_level) in
-    rw (p, q) (widened-whole S k a u v i (rw (p, q) at h))
+    let q : r ≡ counter v = is_whole r (0 + 2 ^ n - 2 ^ n) v (sym (value_right l r (0 + 2 ^ n) m) ∙ t.second) (sym (level_right l r (0 + 2 ^ n) m) ∙ t.second_level) in
+    rw (p, q) (widened_whole S k a u v i (rw (p, q) at h))
 
 -- the bits of the right half
 higher_bit : (i j x y z b : ℕ) → x ≡ y + b * 2 ^ j → x * 2 ^ i + z ≡ y * 2 ^ i + z + b * 2 ^ (i + j)
@@ -116,26 +116,26 @@ higher_bit i j x y z b e =
 
 -- both counters are in one half
 module _ {K : Kind} {n : ℕ} (l r : BlockOf K n) (k : ℕ) (a : K.Value) (L p : ℕ) (u v : K.Value) where
-  twins-left : p + 2 ^ L < 2 ^ n → Twins (split l r) L p u v → Twins l L p u v
-  twins-left h t =
+  twins_left : p + 2 ^ L < 2 ^ n → Twins (split l r) L p u v → Twins l L p u v
+  twins_left h t =
       let g : p < 2 ^ n = omega arith in
       record {
-        first = sym (value-left l r p g) ∙ t.first;
+        first = sym (value_left l r p g) ∙ t.first;
         first_level = sym (level_left l r p g) ∙ t.first_level;
-        second = sym (value-left l r (p + 2 ^ L) h) ∙ t.second;
+        second = sym (value_left l r (p + 2 ^ L) h) ∙ t.second;
         second_level = sym (level_left l r (p + 2 ^ L) h) ∙ t.second_level;
       }
 
-  twins-right : Twins (split l r) L (2 ^ n + p) u v → Twins r L p u v
-  twins-right t =
+  twins_right : Twins (split l r) L (2 ^ n + p) u v → Twins r L p u v
+  twins_right t =
       let e : 2 ^ n + p - 2 ^ n ≡ p = omega arith in
       let f : 2 ^ n + p + 2 ^ L - 2 ^ n ≡ p + 2 ^ L = omega arith in
       let g : 2 ^ n ≤ 2 ^ n + p = omega arith in
       let h : 2 ^ n ≤ 2 ^ n + p + 2 ^ L = omega arith in
       record {
-        first = ap (counter_value r) (sym e) ∙ sym (value-right l r (2 ^ n + p) g) ∙ t.first;
+        first = ap (counter_value r) (sym e) ∙ sym (value_right l r (2 ^ n + p) g) ∙ t.first;
         first_level = ap (level_of (shape r)) (sym e) ∙ sym (level_right l r (2 ^ n + p) g) ∙ t.first_level;
-        second = ap (counter_value r) (sym f) ∙ sym (value-right l r (2 ^ n + p + 2 ^ L) h) ∙ t.second;
+        second = ap (counter_value r) (sym f) ∙ sym (value_right l r (2 ^ n + p + 2 ^ L) h) ∙ t.second;
         second_level = ap (level_of (shape r)) (sym f) ∙ sym (level_right l r (2 ^ n + p + 2 ^ L) h) ∙ t.second_level;
       }
 
@@ -145,24 +145,24 @@ module _ {K : Kind} {n : ℕ} (l r : BlockOf K n) (k : ℕ) (a : K.Value) (L p :
   abbrev new : ℕ
   new = K.bits (suc L) (K.plus (K.plus u v) a)
 
-  widen-left : k < 2 ^ n → Widened l k a L p u v → Widened (split l r) k a L p u v
+  widen_left : k < 2 ^ n → Widened l k a L p u v → Widened (split l r) k a L p u v
   unfolding number_of shape marks join
-  widen-left m w = (split w.0 r, add_left l r k a m ∙ ap (λ (x : SumOf K n). join x (fits r)) w.1, omega (arith, w.2), omega (arith, w.3))
+  widen_left m w = (split w.0 r, add_left l r k a m ∙ ap (λ (x : SumOf K n). join x (fits r)) w.1, omega (arith, w.2), omega (arith, w.3))
 
-  word-right : (x : BlockOf K n) → number_of x + old * 2 ^ (8 * p) ≡ number_of r + new * 2 ^ (8 * p)
+  word_right : (x : BlockOf K n) → number_of x + old * 2 ^ (8 * p) ≡ number_of r + new * 2 ^ (8 * p)
       → number_of (split l x) + old * 2 ^ (8 * (2 ^ n + p)) ≡ number_of (split l r) + new * 2 ^ (8 * (2 ^ n + p))
   unfolding number_of cap
-  word-right x e = higher_both (2 ^ n) p (number_of x) (number_of r) (number_of l) old new e
+  word_right x e = higher_both (2 ^ n) p (number_of x) (number_of r) (number_of l) old new e
 
-  marks-right : (x : BlockOf K n) → marks (shape x) ≡ marks (shape r) + 2 ^ (2 ^ L - 1) * 2 ^ p
+  marks_right : (x : BlockOf K n) → marks (shape x) ≡ marks (shape r) + 2 ^ (2 ^ L - 1) * 2 ^ p
       → marks (shape (split l x)) ≡ marks (shape (split l r)) + 2 ^ (2 ^ L - 1) * 2 ^ (2 ^ n + p)
   unfolding shape marks
-  marks-right x e = higher_bit (2 ^ n) p (marks (shape x)) (marks (shape r)) (marks (shape l)) (2 ^ (2 ^ L - 1)) e
+  marks_right x e = higher_bit (2 ^ n) p (marks (shape x)) (marks (shape r)) (marks (shape l)) (2 ^ (2 ^ L - 1)) e
 
-  widen-right : 2 ^ n ≤ k → Widened r (k - 2 ^ n) a L p u v → Widened (split l r) k a L (2 ^ n + p) u v
+  widen_right : 2 ^ n ≤ k → Widened r (k - 2 ^ n) a L p u v → Widened (split l r) k a L (2 ^ n + p) u v
   unfolding join
-  widen-right m w =
-      (split l w.0, add_right l r k a m ∙ ap (λ (x : SumOf K n). join (fits l) x) w.1, word-right w.0 w.2, marks-right w.0 w.3)
+  widen_right m w =
+      (split l w.0, add_right l r k a m ∙ ap (λ (x : SumOf K n). join (fits l) x) w.1, word_right w.0 w.2, marks_right w.0 w.3)
 
 -- multiples of the size of the block that is formed, in the left half and in the right one
 pub multiple : (n L : ℕ) → L < n → 2 ^ n ≡ 2 ^ (n - suc L) * 2 ^ suc L
@@ -195,33 +195,33 @@ Widens {K} {n} b k a L i u v =
     → K.bound L ≤ K.size (K.plus (counter_value b k) a) → K.size (K.plus (K.plus u v) a) < K.bound (suc L) → Widened b k a L (i * 2 ^ suc L) u v
 
 module _ {K : Kind} (S : Sums K) where
-  widens-top : {n : ℕ} (l r : BlockOf K n) (k : ℕ) (a : K.Value) (L i : ℕ) (u v : K.Value) → L ≡ n → Widens (split l r) k a L i u v
-  widens-top {n} l r k a L i u v e h kn lo hi t o s =
+  widens_top : {n : ℕ} (l r : BlockOf K n) (k : ℕ) (a : K.Value) (L i : ℕ) (u v : K.Value) → L ≡ n → Widens (split l r) k a L i u v
+  widens_top {n} l r k a L i u v e h kn lo hi t o s =
       let size : 2 ^ suc n ≡ 2 ^ suc L = ap (λ (x : ℕ). 2 ^ suc x) (sym e) in
       let p : i * 2 ^ suc L ≡ 0 = at_zero L i k lo (omega arith) in
       rw (p, e) (widen_top S l r k a u v (rw (p, e) at t) (rw e at o) (rw e at s))
 
-  widens-left : {n : ℕ} (l r : BlockOf K n) (k : ℕ) (a : K.Value) (L i : ℕ) (u v : K.Value) → L < n → k < 2 ^ n → Widens l k a L i u v → Widens (split l r) k a L i u v
-  widens-left {n} l r k a L i u v g m f h kn lo hi t o s =
-      widen-left l r k a L (i * 2 ^ suc L) u v m
-      (f g m lo hi (twins-left l r k a L (i * 2 ^ suc L) u v (omega (arith, whole_left n L i k g lo m, pow_pos L)) t) (rw (value-left l r k m) at o) s)
+  widens_left : {n : ℕ} (l r : BlockOf K n) (k : ℕ) (a : K.Value) (L i : ℕ) (u v : K.Value) → L < n → k < 2 ^ n → Widens l k a L i u v → Widens (split l r) k a L i u v
+  widens_left {n} l r k a L i u v g m f h kn lo hi t o s =
+      widen_left l r k a L (i * 2 ^ suc L) u v m
+      (f g m lo hi (twins_left l r k a L (i * 2 ^ suc L) u v (omega (arith, whole_left n L i k g lo m, pow_pos L)) t) (rw (value_left l r k m) at o) s)
 
-  widens-right : {n : ℕ} (l r : BlockOf K n) (k : ℕ) (a : K.Value) (L i : ℕ) (u v : K.Value) → L < n → 2 ^ n ≤ k
+  widens_right : {n : ℕ} (l r : BlockOf K n) (k : ℕ) (a : K.Value) (L i : ℕ) (u v : K.Value) → L < n → 2 ^ n ≤ k
       → Widens r (k - 2 ^ n) a L (i - 2 ^ (n - suc L)) u v → Widens (split l r) k a L i u v
-  widens-right {n} l r k a L i u v g m f h kn lo hi t o s =
+  widens_right {n} l r k a L i u v g m f h kn lo hi t o s =
       let q = (i - 2 ^ (n - suc L)) * 2 ^ suc L in
       let e : i * 2 ^ suc L ≡ 2 ^ n + q = from_right n L i k g hi m in
       rw e
-      (widen-right l r k a L q u v m
-      (f g (omega arith) (omega arith) (omega arith) (twins-right l r k a L q u v (rw e at t)) (rw (value-right l r k m) at o) s))
+      (widen_right l r k a L q u v m
+      (f g (omega arith) (omega arith) (omega arith) (twins_right l r k a L q u v (rw e at t)) (rw (value_right l r k m) at o) s))
 
   pub widens : {n : ℕ} (b : BlockOf K n) (k : ℕ) (a : K.Value) (L i : ℕ) (u v : K.Value) → Widens b k a L i u v
   unfolding level_of shape
   widens {n} (counter w) k a L i u v = λ h kn lo hi t o s. absurd (omega (arith, t.first_level))
   widens (split {n} l r) k a L i u v = λ h. elim (dec_lt L n) [
-    | no g ↦ widens-top l r k a L i u v (omega arith) h
+    | no g ↦ widens_top l r k a L i u v (omega arith) h
     | yes g ↦ elim (dec_lt k (2 ^ n)) [
-      | yes m ↦ widens-left l r k a L i u v g m (widens l k a L i u v) h
-      | no m ↦ widens-right l r k a L i u v g (omega arith) (widens r (k - 2 ^ n) a L (i - 2 ^ (n - suc L)) u v) h
+      | yes m ↦ widens_left l r k a L i u v g m (widens l k a L i u v) h
+      | no m ↦ widens_right l r k a L i u v g (omega arith) (widens r (k - 2 ^ n) a L (i - 2 ^ (n - suc L)) u v) h
     ]
   ]

@@ -32,27 +32,27 @@ module _ (w m k L q : ℕ) (h : w < cap 3) (i : k < 8) (e : (counter_at (block 3
   place_is : 8 * first (block 3 w m) k ≡ q
   place_is = rw (first_is (block 3 w m) k i, e, q-is)
 
-  value-place : (counter_at (block 3 w m) k).value ≡ w / 2 ^ q % cap L
-  value-place = sym (rw (word_block 3 w m h, place_is, e) at (value_is (block 3 w m) k (block_fits 3 w m h)))
+  value_place : (counter_at (block 3 w m) k).value ≡ w / 2 ^ q % cap L
+  value_place = sym (rw (word_block 3 w m h, place_is, e) at (value_is (block 3 w m) k (block_fits 3 w m h)))
 
   pub counter_at_lem : counter_at (block 3 w m) k ≡ record { value = w / 2 ^ q % cap L; level = L }
-  counter_at_lem = rw (← value-place, ← e)
+  counter_at_lem = rw (← value_place, ← e)
 
   -- an addition that the counter holds
   module _ (a : ℕ) (small : w / 2 ^ q % cap L + a < cap L) where
     stays : InPlace (block 3 w m) k a
-    stays = add_in_place (block 3 w m) k a (rw (value-place, e) small)
+    stays = add_in_place (block 3 w m) k a (rw (value_place, e) small)
 
     word_is : number_of stays.0 ≡ w + a * 2 ^ q
     word_is = stays.3 ∙ rw (word_block 3 w m h, place_is)
 
-    pub sum-in : w + a * 2 ^ q < 2 ^ 64
+    pub sum_in : w + a * 2 ^ q < 2 ^ 64
     unfolding Sound cap
-    sum-in = rw (← word_is) (word_lt stays.0 (rw stays.1 at (add_sound (block 3 w m) k a (block_fits 3 w m h))))
+    sum_in = rw (← word_is) (word_lt stays.0 (rw stays.1 at (add_sound (block 3 w m) k a (block_fits 3 w m h))))
 
-    pub in-place-is : valid 3 m ≡ true → record { over = false; word = w + a * 2 ^ q; merge = m } ≡ summed (add (block 3 w m) k a)
+    pub in_place_is : valid 3 m ≡ true → record { over = false; word = w + a * 2 ^ q; merge = m } ≡ summed (add (block 3 w m) k a)
     unfolding summed_as
-    in-place-is v = rw (stays.1, word_is, stays.2, marks_block 3 w m v)
+    in_place_is v = rw (stays.1, word_is, stays.2, marks_block 3 w m v)
 
   -- another value in the counter
   module _ (x n : ℕ) (n-is : n ≡ x % cap L) where
@@ -60,14 +60,14 @@ module _ (w m k L q : ℕ) (h : w < cap 3) (i : k < 8) (e : (counter_at (block 3
     t = number_of (change (block 3 w m) k x)
 
     new_word : t + w / 2 ^ q % cap L * 2 ^ q ≡ w + n * 2 ^ q
-    new_word = rw n-is (rw (value-place, place_is, e, word_block 3 w m h) at (change_word (block 3 w m) k x))
+    new_word = rw n-is (rw (value_place, place_is, e, word_block 3 w m h) at (change_word (block 3 w m) k x))
 
     pub value_in : w + n * 2 ^ q < 2 ^ 64 + w / 2 ^ q % cap L * 2 ^ q
     unfolding cap
     value_in = omega (arith, new_word, word_lt (change (block 3 w m) k x) (change_fits (block 3 w m) k x (block_fits 3 w m h)))
 
-    pub value-put : (r : ℕ) → r + w / 2 ^ q % cap L * 2 ^ q ≡ w + n * 2 ^ q → r ≡ t
-    value-put r f = omega (arith, new_word)
+    pub value_put : (r : ℕ) → r + w / 2 ^ q % cap L * 2 ^ q ≡ w + n * 2 ^ q → r ≡ t
+    value_put r f = omega (arith, new_word)
 
 -- a group whose own bit is clear has two halves
 pub bit_total_of : {K : Kind} (D : Coded K) (w m : ℕ) → w < cap 3 → m / 8 % 2 ≡ 0 → K.size (total (block_as K 3 w m)) < K.bound 2 + K.bound 2

@@ -52,27 +52,27 @@ widen_at S b k a L p u v e g kn t o s =
     rw e (widens S b k a L (k / 2 ^ suc L) u v g kn (div-mul-le_self k (2 ^ suc L)) (lt-div-mul-add {a = k} {b = 2 ^ suc L} (pow_pos (suc L))) (rw e at t) o s)
 
 module _ {K : Kind} (D : Coded K) (w m k : ℕ) (a : K.Value) (L p : ℕ) (h : w < cap 3) (v : valid 3 m ≡ true) (c : all_clean K (layout 3 m) w ≡ true)
-    (k_lt : k < 8) (L-le : L ≤ 2) (p-is : p ≡ k / 2 ^ suc L * 2 ^ suc L) where
+    (k_lt : k < 8) (L-le : L ≤ 2) (p_is : p ≡ k / 2 ^ suc L * 2 ^ suc L) where
   abbrev both : ℕ
   both = w / 2 ^ (8 * p) % cap (suc L)
 
-  p-in : p + 2 ^ suc L ≤ 8
-  p-in = rw p-is (whole_left 3 L (k / 2 ^ suc L) k (omega arith) (div-mul-le_self k (2 ^ suc L)) k_lt)
+  p_in : p + 2 ^ suc L ≤ 8
+  p_in = rw p_is (whole_left 3 L (k / 2 ^ suc L) k (omega arith) (div-mul-le_self k (2 ^ suc L)) k_lt)
 
   second_at : p + 2 ^ L < 8
-  second_at = omega (arith, p-in, pow_pos L)
+  second_at = omega (arith, p_in, pow_pos L)
 
   -- a counter's value and its bits, by the bits of the ordinary block
-  value-at : (j x : ℕ) → counter_at (block 3 w m) j ≡ record { value = x; level = L } → counter_value (block_as K 3 w m) j ≡ K.read L x
+  value_at : (j x : ℕ) → counter_at (block 3 w m) j ≡ record { value = x; level = L } → counter_value (block_as K 3 w m) j ≡ K.read L x
   unfolding block_as
-  value-at j x e =
+  value_at j x e =
       value_of K (layout 3 m) w j
       ∙ ap (λ (n : ℕ). K.read n (bits_at (layout 3 m) w j)) (sym (level_block 3 w m j) ∙ ap (λ (r : Counter). r.level) e)
       ∙ ap (λ (r : Counter). K.read L r.value) e
 
-  bits-at : (j x : ℕ) → counter_at (block 3 w m) j ≡ record { value = x; level = L } → x < cap L → K.bits L (K.read L x) ≡ x
+  bits_at_lem : (j x : ℕ) → counter_at (block 3 w m) j ≡ record { value = x; level = L } → x < cap L → K.bits L (K.read L x) ≡ x
   unfolding block_as
-  bits-at j x e l =
+  bits_at_lem j x e l =
       D.codes.bits_read L x l
       (ap (λ (r : Counter). K.clean L r.value) (sym e)
       ∙ ap (λ (n : ℕ). K.clean n (bits_at (layout 3 m) w j)) (sym (ap (λ (r : Counter). r.level) e) ∙ level_block 3 w m j)
@@ -83,12 +83,12 @@ module _ {K : Kind} (D : Coded K) (w m k : ℕ) (a : K.Value) (L p : ℕ) (h : w
     first_is : counter_at (block 3 w m) p ≡ record { value = both % cap L; level = L }
     first_is =
         counter_at_lem w m p L (8 * p) h (omega (arith, second_at)) (level_block 3 w m p ∙ one)
-        (ap (λ (x : ℕ). 8 * x) (rw p-is (sym (first_multiple (k / 2 ^ suc L) L))))
+        (ap (λ (x : ℕ). 8 * x) (rw p_is (sym (first_multiple (k / 2 ^ suc L) L))))
         ∙ ap (λ (x : ℕ). record { value = x; level = L }) (sym (low_field (w / 2 ^ (8 * p)) L))
 
-    second-value : w / 2 ^ (8 * (p + 2 ^ L)) % cap L ≡ both / cap L
+    second_value : w / 2 ^ (8 * (p + 2 ^ L)) % cap L ≡ both / cap L
     unfolding cap
-    second-value =
+    second_value =
         let e : 8 * (p + 2 ^ L) ≡ 8 * p + 8 * 2 ^ L = omega arith in
         ap (λ (x : ℕ). w / 2 ^ x % 2 ^ (8 * 2 ^ L)) e
         ∙ ap (λ (x : ℕ). x % 2 ^ (8 * 2 ^ L)) (sym (shr-shr w (8 * p) (8 * 2 ^ L)))
@@ -97,8 +97,8 @@ module _ {K : Kind} (D : Coded K) (w m k : ℕ) (a : K.Value) (L p : ℕ) (h : w
     second_is : counter_at (block 3 w m) (p + 2 ^ L) ≡ record { value = both / cap L; level = L }
     second_is =
         counter_at_lem w m (p + 2 ^ L) L (8 * (p + 2 ^ L)) h second_at (level_block 3 w m (p + 2 ^ L) ∙ two)
-        (ap (λ (x : ℕ). 8 * x) (rw p-is (sym (second_multiple (k / 2 ^ suc L) L))))
-        ∙ ap (λ (x : ℕ). record { value = x; level = L }) second-value
+        (ap (λ (x : ℕ). 8 * x) (rw p_is (sym (second_multiple (k / 2 ^ suc L) L))))
+        ∙ ap (λ (x : ℕ). record { value = x; level = L }) second_value
 
     abbrev left : K.Value
     left = K.read L (both % cap L)
@@ -114,9 +114,9 @@ module _ {K : Kind} (D : Coded K) (w m k : ℕ) (a : K.Value) (L p : ℕ) (h : w
     twins =
         let lay = shape_fill_of K (layout 3 m) w in
         record {
-          first = value-at p (both % cap L) first_is;
+          first = value_at p (both % cap L) first_is;
           first_level = ap (λ (x : Layout 3). level_of x p) lay ∙ one;
-          second = value-at (p + 2 ^ L) (both / cap L) second_is;
+          second = value_at (p + 2 ^ L) (both / cap L) second_is;
           second_level = ap (λ (x : Layout 3). level_of x (p + 2 ^ L)) lay ∙ two;
         }
 
@@ -125,22 +125,22 @@ module _ {K : Kind} (D : Coded K) (w m k : ℕ) (a : K.Value) (L p : ℕ) (h : w
 
     both_is : K.bits L right * cap L + K.bits L left ≡ both
     both_is =
-        rw (bits-at p (both % cap L) first_is (mod-lt both (cap_pos L)), bits-at (p + 2 ^ L) (both / cap L) second_is both_high) (div-add-mod' both (cap L))
+        rw (bits_at_lem p (both % cap L) first_is (mod-lt both (cap_pos L)), bits_at_lem (p + 2 ^ L) (both / cap L) second_is both_high) (div-add-mod' both (cap L))
 
     module _ (small : K.size sum < K.bound (suc L)) where
       result : Widened (block_as K 3 w m) k a L p left right
-      result = widen_at D.sums (block_as K 3 w m) k a L p left right p-is (omega arith) k_lt twins over small
+      result = widen_at D.sums (block_as K 3 w m) k a L p left right p_is (omega arith) k_lt twins over small
 
-      new-lt : number_of result.0 < 2 ^ 64
+      new_lt : number_of result.0 < 2 ^ 64
       unfolding Sound cap
-      new-lt = word_lt_of D.codes result.0 (rw result.1 at (add_sound (block_as K 3 w m) k a (block_fits_of D.codes 3 w m h)))
+      new_lt = word_lt_of D.codes result.0 (rw result.1 at (add_sound (block_as K 3 w m) k a (block_fits_of D.codes 3 w m h)))
 
       -- the number and the merge byte that are left
       word_is : number_of result.0 + both * 2 ^ (8 * p) ≡ w + K.bits (suc L) sum * 2 ^ (8 * p)
       word_is = rw (both_is, word_block_of D.codes 3 w m h c) at result.2
 
-      pub sum-in : w + K.bits (suc L) sum * 2 ^ (8 * p) < 2 ^ 64 + both * 2 ^ (8 * p)
-      sum-in = omega (arith, word_is, new-lt)
+      pub sum_in : w + K.bits (suc L) sum * 2 ^ (8 * p) < 2 ^ 64 + both * 2 ^ (8 * p)
+      sum_in = omega (arith, word_is, new_lt)
 
       pub sum_is : (x : ℕ) → x + both * 2 ^ (8 * p) ≡ w + K.bits (suc L) sum * 2 ^ (8 * p)
           → record { over = false; word = x; merge = m + 2 ^ (2 ^ L - 1) * 2 ^ p } ≡ summed_as D.passing (add (block_as K 3 w m) k a)
@@ -151,8 +151,8 @@ module _ {K : Kind} (D : Coded K) (w m k : ℕ) (a : K.Value) (L p : ℕ) (h : w
           rw (f, g) (sym (ap (λ (y : SumOf K 3). summed_as D.passing y) result.1))
 
 pub second_in : (k L p : ℕ) → k < 8 → L ≤ 2 → p ≡ k / 2 ^ suc L * 2 ^ suc L → p + 2 ^ L < 8
-second_in k L p k_lt L-le p-is =
-    rw p-is (omega (arith, whole_left 3 L (k / 2 ^ suc L) k (omega arith) (div-mul-le_self k (2 ^ suc L)) k_lt, pow_pos L))
+second_in k L p k_lt L-le p_is =
+    rw p_is (omega (arith, whole_left 3 L (k / 2 ^ suc L) k (omega arith) (div-mul-le_self k (2 ^ suc L)) k_lt, pow_pos L))
 
 -- the same as the code has it: the place q, the level L + 1 and the sum t
 module _ {K : Kind} (D : Coded K) (w m k : ℕ) (a : K.Value) (L q : ℕ) (h : w < cap 3) (v : valid 3 m ≡ true) (c : all_clean K (layout 3 m) w ≡ true)
@@ -177,7 +177,7 @@ module _ {K : Kind} (D : Coded K) (w m k : ℕ) (a : K.Value) (L q : ℕ) (h : w
   small_is = rw (sum_of, ← add-one L) small
 
   pub put_in : w + K.bits (L + 1) t * 2 ^ q < 2 ^ 64 + w / 2 ^ q % cap (L + 1) * 2 ^ q
-  put_in = rw (sum_of, eight, ← add-one L) at (sum-in D w m k a L (q / 8) h v c k_lt L-le from_is one two over small_is)
+  put_in = rw (sum_of, eight, ← add-one L) at (sum_in D w m k a L (q / 8) h v c k_lt L-le from_is one two over small_is)
 
   pub put_is : (x y : ℕ) → x + w / 2 ^ q % cap (L + 1) * 2 ^ q ≡ w + K.bits (L + 1) t * 2 ^ q → y ≡ m + 2 ^ (2 ^ L - 1) * 2 ^ (q / 8)
       → record { over = false; word = x; merge = y } ≡ summed_as D.passing (add (block_as K 3 w m) k a)

@@ -68,43 +68,43 @@ module _ (k a b : ℕ) where
       let e : a + b ≡ (highs + 1) * 2 ^ k + (lows - 2 ^ k) = omega (arith, sum_parts, add-mul highs 1 (2 ^ k), one-mul (2 ^ k)) in
       rw e (digits_div (highs + 1) (omega (arith, mod-lt a (pow_pos k), mod-lt b (pow_pos k))))
 
-  high-of : lows < 2 ^ k → (a + b) / 2 ^ k ≡ highs
-  high-of h = rw sum_parts (digits_div highs h)
+  high_of : lows < 2 ^ k → (a + b) / 2 ^ k ≡ highs
+  high_of h = rw sum_parts (digits_div highs h)
 
   low_of : lows < 2 ^ k → (a + b) % 2 ^ k ≡ lows
   low_of h = rw sum_parts (digits_mod highs h)
 
   -- the carries of the sum, by parts
-  carries-high : carries a b / 2 ^ k ≡ bit_xor (bit_xor (a / 2 ^ k) (b / 2 ^ k)) ((a + b) / 2 ^ k)
-  carries-high = rw (xor_shr (bit_xor a b) (a + b) k, xor_shr a b k)
+  carries_high : carries a b / 2 ^ k ≡ bit_xor (bit_xor (a / 2 ^ k) (b / 2 ^ k)) ((a + b) / 2 ^ k)
+  carries_high = rw (xor_shr (bit_xor a b) (a + b) k, xor_shr a b k)
 
-  carries-low : carries a b % 2 ^ k ≡ bit_xor (bit_xor (a % 2 ^ k) (b % 2 ^ k)) ((a + b) % 2 ^ k)
-  carries-low = rw (xor_mod (bit_xor a b) (a + b) k, xor_mod a b k)
+  carries_low : carries a b % 2 ^ k ≡ bit_xor (bit_xor (a % 2 ^ k) (b % 2 ^ k)) ((a + b) % 2 ^ k)
+  carries_low = rw (xor_mod (bit_xor a b) (a + b) k, xor_mod a b k)
 
-  carries-parts : lows < 2 ^ k → carries a b ≡ carries (a / 2 ^ k) (b / 2 ^ k) * 2 ^ k + carries (a % 2 ^ k) (b % 2 ^ k)
-  carries-parts h = sym (rw (carries-high, carries-low, high-of h, low_of h) at (div-add-mod' (carries a b) (2 ^ k)))
+  carries_parts : lows < 2 ^ k → carries a b ≡ carries (a / 2 ^ k) (b / 2 ^ k) * 2 ^ k + carries (a % 2 ^ k) (b % 2 ^ k)
+  carries_parts h = sym (rw (carries_high, carries_low, high_of h, low_of h) at (div-add-mod' (carries a b) (2 ^ k)))
 
   module _ (r l : ℕ) (r-even : r % 2 ≡ 0) (l_lt : l < 2 ^ k) (none : bit_and (carries a b) ((1 + r) * 2 ^ k + l) ≡ 0) where
-    none-high : (carries a b / 2 ^ k % 2 ≡ 0) × (bit_and (carries a b / 2 ^ k) r ≡ 0)
-    none-high =
+    none_high : (carries a b / 2 ^ k % 2 ≡ 0) × (bit_and (carries a b / 2 ^ k) r ≡ 0)
+    none_high =
         let e : bit_and (carries a b / 2 ^ k) (1 + r) ≡ 0 =
         rw (← digits_div (1 + r) l_lt) (sym (and_shr (carries a b) ((1 + r) * 2 ^ k + l) k) ∙ ap (λ (x : ℕ). x / 2 ^ k) none ∙ zero-div (2 ^ k)) in
         (omega (arith, odd_mask (carries a b / 2 ^ k) r r-even), omega (arith, odd_mask (carries a b / 2 ^ k) r r-even))
 
-    none-low : bit_and (carries a b % 2 ^ k) l ≡ 0
-    none-low =
+    none_low : bit_and (carries a b % 2 ^ k) l ≡ 0
+    none_low =
         rw (← digits_mod (1 + r) l_lt) (sym (and_mod (carries a b) ((1 + r) * 2 ^ k + l) k) ∙ ap (λ (x : ℕ). x % 2 ^ k) none ∙ zero-mod (2 ^ k))
 
     -- no carry into the high part
-    pub lows-lt : lows < 2 ^ k
-    lows-lt = elim (dec_lt lows (2 ^ k)) [
+    pub lows_lt : lows < 2 ^ k
+    lows_lt = elim (dec_lt lows (2 ^ k)) [
       | yes h ↦ h
       | no h ↦
           absurd
           (omega (
             arith,
-            none-high.0,
-            carries-high,
+            none_high.0,
+            carries_high,
             carried (omega arith),
             xor_add_and (bit_xor (a / 2 ^ k) (b / 2 ^ k)) ((a + b) / 2 ^ k),
             xor_add_and (a / 2 ^ k) (b / 2 ^ k),
@@ -112,16 +112,16 @@ module _ (k a b : ℕ) where
     ]
 
     pub high_is : (a + b) / 2 ^ k ≡ highs
-    high_is = high-of lows-lt
+    high_is = high_of lows_lt
 
-    pub low-is : (a + b) % 2 ^ k ≡ lows
-    low-is = low_of lows-lt
+    pub low_is : (a + b) % 2 ^ k ≡ lows
+    low_is = low_of lows_lt
 
-    pub high-none : bit_and (carries (a / 2 ^ k) (b / 2 ^ k)) r ≡ 0
-    high-none = rw (← high_is, ← carries-high) none-high.1
+    pub high_none : bit_and (carries (a / 2 ^ k) (b / 2 ^ k)) r ≡ 0
+    high_none = rw (← high_is, ← carries_high) none_high.1
 
-    pub low-none : bit_and (carries (a % 2 ^ k) (b % 2 ^ k)) l ≡ 0
-    low-none = rw (← low-is, ← carries-low) none-low
+    pub low_none : bit_and (carries (a % 2 ^ k) (b % 2 ^ k)) l ≡ 0
+    low_none = rw (← low_is, ← carries_low) none_low
 
 abbrev InPlace : {n : ℕ} → Layout n → Type 0
 InPlace {n} L = (a b : ℕ) → a + b < cap n → bit_and (carries a b) (bounds L) ≡ 0 → unite (fill {K = ordinary} L a) (fill L b) ≡ fits (fill L (a + b))
@@ -133,9 +133,9 @@ in_halves {n} l r p q a b h z =
     let even = bounds_even r in
     let small : bounds l < 2 ^ k = omega (arith, bounds_lt l) in
     rw (
-      p (a % 2 ^ k) (b % 2 ^ k) (lows-lt k a b (bounds r) (bounds l) even small z) (low-none k a b (bounds r) (bounds l) even small z),
-      q (a / 2 ^ k) (b / 2 ^ k) (rw (high_is k a b (bounds r) (bounds l) even small z) at (high_lt n (a + b) h)) (high-none k a b (bounds r) (bounds l) even small z),
-      low-is k a b (bounds r) (bounds l) even small z,
+      p (a % 2 ^ k) (b % 2 ^ k) (lows_lt k a b (bounds r) (bounds l) even small z) (low_none k a b (bounds r) (bounds l) even small z),
+      q (a / 2 ^ k) (b / 2 ^ k) (rw (high_is k a b (bounds r) (bounds l) even small z) at (high_lt n (a + b) h)) (high_none k a b (bounds r) (bounds l) even small z),
+      low_is k a b (bounds r) (bounds l) even small z,
       high_is k a b (bounds r) (bounds l) even small z,
     )
 
@@ -154,7 +154,7 @@ end_no_carry {n} L a b h k z =
     let none : bit_and (carries a b) ((1 + 0) * 2 ^ j + bounds L) ≡ 0 = rw (one-mul (2 ^ j)) z in
     let low : a % 2 ^ j ≡ a = mod-eq_of_lt {n = a} {m = 2 ^ j} h in
     let low' : b % 2 ^ j ≡ b = mod-eq_of_lt {n = b} {m = 2 ^ j} k in
-    (rw (low, low') at (lows-lt j a b 0 (bounds L) refl small none), rw (low, low') at (low-none j a b 0 (bounds L) refl small none))
+    (rw (low, low') at (lows_lt j a b 0 (bounds L) refl small none), rw (low, low') at (low_none j a b 0 (bounds L) refl small none))
 
 pub carries_lt : (k a b : ℕ) → a + b < 2 ^ k → carries a b < 2 ^ k
 carries_lt k a b h = xor_lt k (bit_xor a b) (a + b) (xor_lt k a b (omega arith) (omega arith)) h
@@ -187,16 +187,16 @@ suits_no_carry (halves {n} l r) a b h k s =
     let small : bounds l < 2 ^ j = omega (arith, bounds_lt l) in
     let low = carries (a % 2 ^ j) (b % 2 ^ j) in
     let parts = and_block j (carries (a / 2 ^ j) (b / 2 ^ j)) (1 + bounds r) low (bounds l) (carries_lt j (a % 2 ^ j) (b % 2 ^ j) p.0) small in
-    (sum, rw (carries-parts j a b p.0, parts, none, p.1, zero-mul (2 ^ j)))
+    (sum, rw (carries_parts j a b p.0, parts, none, p.1, zero-mul (2 ^ j)))
 
 -- whether a union is a block with these merge bits
 abbrev pub keeps : {n : ℕ} → ℕ → Sum n → Bool
 keeps m u = not (summed u).over && eqb (summed u).merge m
 
 module _ (n a b m : ℕ) (v : valid n m ≡ true) (h : a < cap n) (k : b < cap n) where
-  pub keeps-no-carry : keeps m (unite (block n a m) (block n b m)) ≡ true → (a + b < cap n) × (bit_and (carries a b) (bounds (layout n m)) ≡ 0)
+  pub keeps_no_carry : keeps m (unite (block n a m) (block n b m)) ≡ true → (a + b < cap n) × (bit_and (carries a b) (bounds (layout n m)) ≡ 0)
   unfolding block_as summed_as Least
-  keeps-no-carry = go (unite (fill (layout n m) a) (fill (layout n m) b)) (unite_least (fill (layout n m) a) (fill (layout n m) b))
+  keeps_no_carry = go (unite (fill (layout n m) a) (fill (layout n m) b)) (unite_least (fill (layout n m) a) (fill (layout n m) b))
     where
       go : (u : Sum n) → Least (fill (layout n m) a) (fill (layout n m) b) u → keeps m u ≡ true
           → (a + b < cap n) × (bit_and (carries a b) (bounds (layout n m)) ≡ 0)
@@ -205,13 +205,13 @@ module _ (n a b m : ℕ) (v : valid n m ≡ true) (h : a < cap n) (k : b < cap n
           suits_no_carry (layout n m) a b h k (rw same at l.0)
       go (over t) l e = absurd (true≢false (sym e))
 
-  pub no-carry-keeps : a + b < cap n → bit_and (carries a b) (bounds (layout n m)) ≡ 0 → keeps m (unite (block n a m) (block n b m)) ≡ true
+  pub no_carry_keeps : a + b < cap n → bit_and (carries a b) (bounds (layout n m)) ≡ 0 → keeps m (unite (block n a m) (block n b m)) ≡ true
   unfolding block_as summed_as
-  no-carry-keeps s z = rw (unite_in_place (layout n m) a b s z, shape_fill (layout n m) (a + b), marks_layout n m v) (eq-eqb m m refl)
+  no_carry_keeps s z = rw (unite_in_place (layout n m) a b s z, shape_fill (layout n m) (a + b), marks_layout n m v) (eq-eqb m m refl)
 
-  keeps-unite : keeps m (unite (block n a m) (block n b m)) ≡ true → (a + b < cap n) × (unite (block n a m) (block n b m) ≡ fits (block n (a + b) m))
+  keeps_unite : keeps m (unite (block n a m) (block n b m)) ≡ true → (a + b < cap n) × (unite (block n a m) (block n b m) ≡ fits (block n (a + b) m))
   unfolding block_as
-  keeps-unite e = let s = keeps-no-carry e in (s.0, unite_in_place (layout n m) a b s.0 s.1)
+  keeps_unite e = let s = keeps_no_carry e in (s.0, unite_in_place (layout n m) a b s.0 s.1)
 
 -- what such a union is, where the merge bits are tested too
 pub kept : (n a m b m' : ℕ) → Sane n a m → b < cap n → (eqb m m' && keeps m (unite (block n a m) (block n b m'))) ≡ true
@@ -219,4 +219,4 @@ pub kept : (n a m b m' : ℕ) → Sane n a m → b < cap n → (eqb m m' && keep
 kept n a m b m' s k e =
     let p = (and-eq-true_iff (eqb m m') (keeps m (unite (block n a m) (block n b m')))).0 e in
     let same : m ≡ m' = eqb-true m m' p.0 in
-    rw (← same) (keeps-unite n a b m s.1 s.0 k (rw (← same) at p.1))
+    rw (← same) (keeps_unite n a b m s.1 s.0 k (rw (← same) at p.1))

@@ -19,7 +19,7 @@ use Rattle.group_block_laws.specs.Least.{together}
 use Rattle.group_slots.proofs.Bits.{ones_bit, low_bit, high_bit}
 use Rattle.group_slots.proofs.Gaps.{bounds, gaps, gaps_add, gaps_even, gaps_lt, gaps_bounds, starts, spread_byte}
 use Rattle.group_block.proofs.Laws.{cap_mono}
-use Rattle.group_union.proofs.Carries.{carries, carries_lt, mask_mod, end_no_carry, no_carry_end, keeps, keeps-no-carry, no-carry-keeps}
+use Rattle.group_union.proofs.Carries.{carries, carries_lt, mask_mod, end_no_carry, no_carry_end, keeps, keeps_no_carry, no_carry_keeps}
 use Rattle.laws.proofs.Tests.{both_ways}
 
 -- Merge bit k is set where slots k and k + 1 are in one counter.
@@ -70,9 +70,9 @@ starts_lt : (m : ℕ) → starts m < 2 ^ 64
 starts_lt m = omega (arith, and_le_r (bit_xor 127 m * 4432676798593) 282578800148737)
 
 module _ (n a b m : ℕ) (level : n ≤ 3) (v : valid n m ≡ true) (h : a < cap n) (k : b < cap n) where
-  starts-mask : a + b < 2 ^ 64 → bit_and (carries a b) (starts m) ≡ bit_and (carries a b) (cap n + bounds (layout n m))
+  starts_mask : a + b < 2 ^ 64 → bit_and (carries a b) (starts m) ≡ bit_and (carries a b) (cap n + bounds (layout n m))
   unfolding cap
-  starts-mask s =
+  starts_mask s =
       let d = suc (8 * 2 ^ n) in
       let two : 2 * 2 ^ (8 * 2 ^ n) ≡ 2 ^ d = omega arith in
       let low : (2 ^ 64 + starts m) % 2 ^ 64 ≡ starts m = omega (arith, starts_lt m) in
@@ -80,15 +80,15 @@ module _ (n a b m : ℕ) (level : n ≤ 3) (v : valid n m ≡ true) (h : a < cap
       ∙ sym (rw (← two, starts_mod n m level v) at (mask_mod d (carries a b) (2 ^ 64 + starts m) (carries_lt d a b (omega arith))))
 
   -- the test that the code makes
-  pub starts-keep : a + b < 2 ^ 64 → eqb (bit_and (carries a b) (starts m)) 0 ≡ keeps m (unite (block n a m) (block n b m))
-  starts-keep s =
+  pub starts_keep : a + b < 2 ^ 64 → eqb (bit_and (carries a b) (starts m)) 0 ≡ keeps m (unite (block n a m) (block n b m))
+  starts_keep s =
       both_ways _ _
-      (λ e. let z = end_no_carry (layout n m) a b h k (sym (starts-mask s) ∙ eqb-true _ _ e) in no-carry-keeps n a b m v h k z.0 z.1)
-      (λ e. let z = keeps-no-carry n a b m v h k e in eq-eqb _ _ (starts-mask s ∙ no_carry_end (layout n m) a b z.0 z.1))
+      (λ e. let z = end_no_carry (layout n m) a b h k (sym (starts_mask s) ∙ eqb-true _ _ e) in no_carry_keeps n a b m v h k z.0 z.1)
+      (λ e. let z = keeps_no_carry n a b m v h k e in eq-eqb _ _ (starts_mask s ∙ no_carry_end (layout n m) a b z.0 z.1))
 
-  pub past-not-kept : 2 ^ 64 ≤ a + b → keeps m (unite (block n a m) (block n b m)) ≡ false
+  pub past_not_kept : 2 ^ 64 ≤ a + b → keeps m (unite (block n a m) (block n b m)) ≡ false
   unfolding cap
-  past-not-kept s =
+  past_not_kept s =
       both_ways _ false
-      (λ e. absurd (omega (arith, cap_mono n 3 level, (keeps-no-carry n a b m v h k e).0)))
+      (λ e. absurd (omega (arith, cap_mono n 3 level, (keeps_no_carry n a b m v h k e).0)))
       (λ e. absurd (true≢false (sym e)))

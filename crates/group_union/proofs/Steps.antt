@@ -5,7 +5,7 @@ use Rattle.group_block.specs.declared.Summed.{Summed}
 use Rattle.group_block.specs.Block.{block, total}
 use Rattle.group_block.specs.Passed.{Sane}
 use Rattle.group_block.proofs.Coded.{ordinary_coded}
-use Rattle.group_block.proofs.Halves.{Apart, left-sane, right-sane, total-apart}
+use Rattle.group_block.proofs.Halves.{Apart, left_sane, right_sane, total_apart}
 
 -- what the code's recursive calls ask of halves
 abbrev pub BothAsked : ℕ → Summed → Summed → Type 0
@@ -16,13 +16,13 @@ BothAsked n s t =
 
 module _ {n w m w' m' : ℕ} {l r l' r' : Summed} (p : Apart n w m l r) (q : Apart n w' m' l' r') (sum : total (block n w m) + total (block n w' m') < 2 ^ 64) where
   -- all counters sum up to a number of 64 bits
-  pub halves-room : total (block (n - 1) l.word l.merge) + total (block (n - 1) l'.word l'.merge)
+  pub halves_room : total (block (n - 1) l.word l.merge) + total (block (n - 1) l'.word l'.merge)
       + (total (block (n - 1) r.word r.merge) + total (block (n - 1) r'.word r'.merge)) < 2 ^ 64
-  halves-room = omega (arith, total-apart p ordinary_coded, total-apart q ordinary_coded)
+  halves_room = omega (arith, total_apart p ordinary_coded, total_apart q ordinary_coded)
 
   module _ (level : n ≤ 3) (h : Sane n w m) (h' : Sane n w' m') where
-    pub lefts-asked : BothAsked (n - 1) l l'
-    lefts-asked = (omega arith, (left-sane p h, (left-sane q h', omega (arith, halves-room))))
+    pub lefts_asked : BothAsked (n - 1) l l'
+    lefts_asked = (omega arith, (left_sane p h, (left_sane q h', omega (arith, halves_room))))
 
-    pub rights-asked : BothAsked (n - 1) r r'
-    rights-asked = (omega arith, (right-sane p h, (right-sane q h', omega (arith, halves-room))))
+    pub rights_asked : BothAsked (n - 1) r r'
+    rights_asked = (omega arith, (right_sane p h, (right_sane q h', omega (arith, halves_room))))

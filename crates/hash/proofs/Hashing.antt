@@ -12,9 +12,9 @@ use Rattle.hash.specs.Hash.{fnv_step, fnv, slot_of}
 
 -- A run of a hash, alone or beside others: what is left of the bytes goes on from the state that those before left. One byte more, and the end.
 module _ (s : List ℕ) (i x t : ℕ) (inv : fnv x (drop i s) ≡ t) where
-  pub run-turn : (y : ℕ) → i < length s → y ≡ fnv_step x (get_or s i 0) → fnv y (drop (i + 1) s) ≡ t
+  pub run_turn : (y : ℕ) → i < length s → y ≡ fnv_step x (get_or s i 0) → fnv y (drop (i + 1) s) ≡ t
   unfolding fnv
-  run-turn y h e = rw (e, add-one i) (rw (drop-cons s i 0 h) at inv)
+  run_turn y h e = rw (e, add-one i) (rw (drop-cons s i 0 h) at inv)
 
   pub run_end : length s ≤ i → x ≡ t
   unfolding fnv

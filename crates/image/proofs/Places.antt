@@ -15,7 +15,7 @@ use Rattle.word.specs.Word.{head_kind, end_kind, go, stop, next, payload, tested
 use Rattle.word.proofs.Places.{In, tested_in, below_in, next_in}
 use Rattle.image_format.specs.Image.{head_payload}
 use Rattle.image_format.specs.Read.{check_head, check_fours, check_end, checked, read_answer, finish_read, taken}
-use Rattle.image.proofs.Sharp.{fours-cut}
+use Rattle.image.proofs.Sharp.{fours_cut}
 
 end_in : (words : List ℕ) (p : ℕ) → p ≤ length words → In (length words) (check_end words p)
 unfolding check_end
@@ -34,7 +34,7 @@ pub checked_in : (d w : ℕ) (words : List ℕ) → In (length words) (checked d
 unfolding checked
 checked_in d w words =
     next_in (length words) (check_head d w words) (λ p. next (check_fours (d * (w / 32)) words p) (λ q. check_end words q)) (head_in d w words)
-    (λ p l. next_in (length words) (check_fours (d * (w / 32)) words p) (λ q. check_end words q) ((fours-cut words 0 (d * (w / 32)) p).ahead.inside l) (λ q k. end_in words q k))
+    (λ p l. next_in (length words) (check_fours (d * (w / 32)) words p) (λ q. check_end words q) ((fours_cut words 0 (d * (w / 32)) p).ahead.inside l) (λ q k. end_in words q k))
 
 pub place_in : (d w : ℕ) (memory words : List ℕ) → (taken d w memory words).answer.position ≤ length words
 unfolding taken read_answer finish_read

@@ -15,7 +15,7 @@ use Rattle.word.specs.Word.{head_kind, end_kind, go, stop, next, payload, is_due
 use Rattle.word.proofs.Laws.{due_in}
 use Rattle.word.proofs.Passed.{goes, below_is}
 use Rattle.word.proofs.Places.{tested_at}
-use Rattle.word.proofs.Before.{Cut, cut_go, next_cut, next_same, payload_same, due-same, none-due, tested-same, below-same, below-cut}
+use Rattle.word.proofs.Before.{Cut, cut_go, next_cut, next_same, payload_same, due_same, none_due, tested_same, below_same, below_cut}
 use Rattle.image_format.specs.Image.{head_payload, layout_kind, count_kind, word_count, level_at, is_first}
 use Rattle.image_format.specs.Read.{check_head, check_end, checked, first_bits, check_parts, check_slot, check_slots, check_groups, merges_at, check_four, check_fours}
 
@@ -27,50 +27,50 @@ module _ (words : List ℕ) (q : ℕ) where
   unfolding check_parts
   parts_cut zero p limit = cut_go (length words) q p
   parts_cut (suc n) p limit =
-      next_cut (length words) q p (below words p count_kind limit) (below front p count_kind limit) (λ r. check_parts n words r (2 ^ 24)) (λ r. check_parts n front r (2 ^ 24)) (below-cut words q p count_kind limit)
+      next_cut (length words) q p (below words p count_kind limit) (below front p count_kind limit) (λ r. check_parts n words r (2 ^ 24)) (λ r. check_parts n front r (2 ^ 24)) (below_cut words q p count_kind limit)
       (λ r. (parts_cut n r (2 ^ 24)).ahead) (λ e h. parts_cut n (below words p count_kind limit).position (2 ^ 24))
 
-  slot-cut : (m k p : ℕ) → Cut (length words) q p (check_slot m k words p) (check_slot m k front p)
+  slot_cut : (m k p : ℕ) → Cut (length words) q p (check_slot m k words p) (check_slot m k front p)
   unfolding check_slot
-  slot-cut m k p = cases (is_first m k) (λ t. rw t (parts_cut (word_count (level_at m k)) p (2 ^ first_bits (level_at m k)))) (λ t. rw t (cut_go (length words) q p))
+  slot_cut m k p = cases (is_first m k) (λ t. rw t (parts_cut (word_count (level_at m k)) p (2 ^ first_bits (level_at m k)))) (λ t. rw t (cut_go (length words) q p))
 
-  slots-cut : (n k m p : ℕ) → Cut (length words) q p (check_slots n k m words p) (check_slots n k m front p)
+  slots_cut : (n k m p : ℕ) → Cut (length words) q p (check_slots n k m words p) (check_slots n k m front p)
   unfolding check_slots
-  slots-cut zero k m p = cut_go (length words) q p
-  slots-cut (suc n) k m p =
-      next_cut (length words) q p (check_slot m k words p) (check_slot m k front p) (λ r. check_slots n (k + 1) m words r) (λ r. check_slots n (k + 1) m front r) (slot-cut m k p)
-      (λ r. (slots-cut n (k + 1) m r).ahead) (λ e h. slots-cut n (k + 1) m (check_slot m k words p).position)
+  slots_cut zero k m p = cut_go (length words) q p
+  slots_cut (suc n) k m p =
+      next_cut (length words) q p (check_slot m k words p) (check_slot m k front p) (λ r. check_slots n (k + 1) m words r) (λ r. check_slots n (k + 1) m front r) (slot_cut m k p)
+      (λ r. (slots_cut n (k + 1) m r).ahead) (λ e h. slots_cut n (k + 1) m (check_slot m k words p).position)
 
-  groups-cut : (ms : List ℕ) (p : ℕ) → Cut (length words) q p (check_groups ms words p) (check_groups ms front p)
+  groups_cut : (ms : List ℕ) (p : ℕ) → Cut (length words) q p (check_groups ms words p) (check_groups ms front p)
   unfolding check_groups
-  groups-cut [] p = cut_go (length words) q p
-  groups-cut (m ∷ ms) p =
-      next_cut (length words) q p (check_slots 8 0 m words p) (check_slots 8 0 m front p) (λ r. check_groups ms words r) (λ r. check_groups ms front r) (slots-cut 8 0 m p)
-      (λ r. (groups-cut ms r).ahead) (λ e h. groups-cut ms (check_slots 8 0 m words p).position)
+  groups_cut [] p = cut_go (length words) q p
+  groups_cut (m ∷ ms) p =
+      next_cut (length words) q p (check_slots 8 0 m words p) (check_slots 8 0 m front p) (λ r. check_groups ms words r) (λ r. check_groups ms front r) (slots_cut 8 0 m p)
+      (λ r. (groups_cut ms r).ahead) (λ e h. groups_cut ms (check_slots 8 0 m words p).position)
 
-  four-cut : (p : ℕ) → Cut (length words) q p (check_four words p) (check_four front p)
+  four_cut : (p : ℕ) → Cut (length words) q p (check_four words p) (check_four front p)
   unfolding check_four merges_at
-  four-cut p =
+  four_cut p =
       let s = below words p layout_kind (layouts_of 4) in
       let ms = (unpacked (payload words p)).merges in
-      next_cut (length words) q p s (below front p layout_kind (layouts_of 4)) (λ r. check_groups ms words r) (λ r. check_groups (unpacked (payload front p)).merges front r) (below-cut words q p layout_kind (layouts_of 4))
-      (λ r. (groups-cut ms r).ahead)
+      next_cut (length words) q p s (below front p layout_kind (layouts_of 4)) (λ r. check_groups ms words r) (λ r. check_groups (unpacked (payload front p)).merges front r) (below_cut words q p layout_kind (layouts_of 4))
+      (λ r. (groups_cut ms r).ahead)
       (λ e h.
       let x = (below_is words p layout_kind (layouts_of 4) s.position (goes s e)).position in
       subst (λ (l : List ℕ). Cut (length words) q s.position (check_groups ms words s.position) (check_groups l front s.position))
-      (ap (λ (c : ℕ). (unpacked c).merges) (sym (payload_same words q p (omega arith)))) (groups-cut ms s.position))
+      (ap (λ (c : ℕ). (unpacked c).merges) (sym (payload_same words q p (omega arith)))) (groups_cut ms s.position))
 
-  pub fours-cut : (n p : ℕ) → Cut (length words) q p (check_fours n words p) (check_fours n front p)
+  pub fours_cut : (n p : ℕ) → Cut (length words) q p (check_fours n words p) (check_fours n front p)
   unfolding check_fours
-  fours-cut zero p = cut_go (length words) q p
-  fours-cut (suc n) p =
-      next_cut (length words) q p (check_four words p) (check_four front p) (λ r. check_fours n words r) (λ r. check_fours n front r) (four-cut p)
-      (λ r. (fours-cut n r).ahead) (λ e h. fours-cut n (check_four words p).position)
+  fours_cut zero p = cut_go (length words) q p
+  fours_cut (suc n) p =
+      next_cut (length words) q p (check_four words p) (check_four front p) (λ r. check_fours n words r) (λ r. check_fours n front r) (four_cut p)
+      (λ r. (fours_cut n r).ahead) (λ e h. fours_cut n (check_four words p).position)
 
   -- the end: refused at its own word, or because a word follows it
-  end-cut : (p : ℕ) → ((check_end words p).status ≡ 0 → ⊥) → (check_end words p).position ≡ q → (p ≤ q) × ((check_end front p ≡ stop bad_word q) ⊎ (check_end front p ≡ go q))
+  end_cut : (p : ℕ) → ((check_end words p).status ≡ 0 → ⊥) → (check_end words p).position ≡ q → (p ≤ q) × ((check_end front p ≡ stop bad_word q) ⊎ (check_end front p ≡ go q))
   unfolding check_end tested next
-  end-cut p n k =
+  end_cut p n k =
       let h = eqb (payload words p) (p % 2 ^ 28) in
       cases (is_due words p end_kind)
       (λ t. cases h
@@ -81,9 +81,9 @@ module _ (words : List ℕ) (q : ℕ) where
       let l = due_in words p end_kind t in
       let x : eqb (payload front p) (p % 2 ^ 28) ≡ true = ap (λ (c : ℕ). eqb c (p % 2 ^ 28)) (payload_same words q p (omega arith)) ∙ u in
       let y : length front ≡ p + 1 = length-take q words ∙ omega arith in
-      (omega arith, inr (rw (due-same words q p end_kind (omega arith), t, x, eq-eqb (length front) (p + 1) y) (ap go z)))))
-      (λ u. let z : p ≡ q = rw (t, u) at k in (omega arith, inl (rw (none-due words q p end_kind (omega arith)) (ap (stop bad_word) z)))))
-      (λ t. let z : p ≡ q = rw t at k in (omega arith, inl (rw (none-due words q p end_kind (omega arith)) (ap (stop bad_word) z))))
+      (omega arith, inr (rw (due_same words q p end_kind (omega arith), t, x, eq-eqb (length front) (p + 1) y) (ap go z)))))
+      (λ u. let z : p ≡ q = rw (t, u) at k in (omega arith, inl (rw (none_due words q p end_kind (omega arith)) (ap (stop bad_word) z)))))
+      (λ t. let z : p ≡ q = rw t at k in (omega arith, inl (rw (none_due words q p end_kind (omega arith)) (ap (stop bad_word) z))))
 
 -- a faulty head is at position 0, and the head is the same in any words that begin with it
 head_at : (d w : ℕ) (words : List ℕ) → ((check_head d w words).status ≡ 0 → ⊥) → (check_head d w words).position ≡ 0
@@ -101,26 +101,26 @@ head_same d w words q =
     let front = take n words in
     let is : List ℕ → Bool = λ x. eqb (payload x 0) (head_payload d w) in
     next_same (below front 0 head_kind (2 ^ 9)) (below words 0 head_kind (2 ^ 9)) (λ p. tested front 0 head_kind (is front) other_meter) (λ p. tested words 0 head_kind (is words) other_meter)
-    (below-same words n 0 head_kind (2 ^ 9) (omega arith))
-    (tested-same words n 0 head_kind other_meter (is words) (is front) (omega arith) (ap (λ (x : ℕ). eqb x (head_payload d w)) (payload_same words n 0 (omega arith))))
+    (below_same words n 0 head_kind (2 ^ 9) (omega arith))
+    (tested_same words n 0 head_kind other_meter (is words) (is front) (omega arith) (ap (λ (x : ℕ). eqb x (head_payload d w)) (payload_same words n 0 (omega arith))))
 
 module _ (d w : ℕ) (words : List ℕ) where
-  pub sharp-at : (q : ℕ) → ((checked d w words).status ≡ 0 → ⊥) → (checked d w words).position ≡ q
+  pub sharp_at : (q : ℕ) → ((checked d w words).status ≡ 0 → ⊥) → (checked d w words).position ≡ q
       → (checked d w (take q words) ≡ stop bad_word q) ⊎ (checked d w (take q words) ≡ go q)
   unfolding checked next check_head below tested is_due
-  sharp-at zero n k = inl refl
-  sharp-at (suc q) n k =
+  sharp_at zero n k = inl refl
+  sharp_at (suc q) n k =
       let h = check_head d w words in
       let f = check_fours (d * (w / 32)) words h.position in
       cases (eqb h.status 0)
       (λ u.
       let n1 = rw u at n in
       let k1 = rw u at k in
-      let c = fours-cut words (suc q) (d * (w / 32)) h.position in
+      let c = fours_cut words (suc q) (d * (w / 32)) h.position in
       rw (head_same d w words q, u)
       (cases (eqb f.status 0)
       (λ v.
-      let e = end-cut words (suc q) f.position (rw v at n1) (rw v at k1) in
+      let e = end_cut words (suc q) f.position (rw v at n1) (rw v at k1) in
       rw (c.same (eqb-true f.status 0 v) e.0, v) e.1)
       (λ v. inl (rw (c.ends (eqb-false f.status 0 v) (rw v at k1))))))
       (λ u. absurd (omega (arith, rw u at k, head_at d w words (eqb-false h.status 0 u))))

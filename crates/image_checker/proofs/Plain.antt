@@ -17,7 +17,7 @@ use Rattle.image_format.specs.Read.{first_bits, check_parts, check_slot, check_s
 use Rattle.image_format.proofs.Sizes.{plain_level}
 use Rattle.image_group_checker.specs.Checker.{Counts}
 use Rattle.image_group_checker.proofs.Bits.{count_is, same_from}
-use Rattle.image_group_checker.proofs.Digits.{below-here, payload-here}
+use Rattle.image_group_checker.proofs.Digits.{below_here, payload_here}
 
 plain_slot : (k : ℕ) (words : List ℕ) (p : ℕ) → k < 8 → Counts words p 1 → check_slot 0 k words p ≡ go (p + 1)
 unfolding check_slot check_parts is_first word_count first_bits next
@@ -25,7 +25,7 @@ plain_slot k words p h c =
     let x = get_or words p 0 in
     let e : x ≡ word count_kind (x % 256) = count_is x (rw (add-zero p) at (c.1 0 (omega arith))) in
     let d : drop p words ≡ word count_kind (x % 256) ∷ drop (suc p) words = drop-cons words p 0 (omega (arith, c.0)) ∙ ap (λ (y : ℕ). y ∷ drop (suc p) words) e in
-    rw (plain_level k h, eq-eqb (k % 1) 0 (mod-one k), below-here words p count_kind (x % 256) (drop (suc p) words) d (omega arith) 256 (omega arith))
+    rw (plain_level k h, eq-eqb (k % 1) 0 (mod-one k), below_here words p count_kind (x % 256) (drop (suc p) words) d (omega arith) 256 (omega arith))
 
 -- fewer of them, and those behind the first
 some : (words : List ℕ) (p n m : ℕ) → m ≤ n → Counts words p n → Counts words p m
@@ -58,8 +58,8 @@ pub clear_checks : (words : List ℕ) (p : ℕ) → p < length words → get_or 
 unfolding check_four merges_at next
 clear_checks words p h e c =
     let d : drop p words ≡ word layout_kind 0 ∷ drop (p + 1) words = drop-cons words p 0 (omega arith) ∙ ap₂ (λ (x i : ℕ). x ∷ drop i words) e (sym (add-one p)) in
-    let x : payload words p ≡ 0 = payload-here words p layout_kind 0 (drop (p + 1) words) d (omega arith) in
-    rw (below-here words p layout_kind 0 (drop (p + 1) words) d (omega arith) (layouts_of 4) (omega arith))
+    let x : payload words p ≡ 0 = payload_here words p layout_kind 0 (drop (p + 1) words) d (omega arith) in
+    rw (below_here words p layout_kind 0 (drop (p + 1) words) d (omega arith) (layouts_of 4) (omega arith))
     (ap (λ (c : ℕ). check_groups (unpacked c).merges words (p + 1)) x ∙ ap (λ (m : List ℕ). check_groups m words (p + 1)) merges_none
     ∙ plain_check_groups 4 words (p + 1) c ∙ ap go (omega arith))
 

@@ -37,18 +37,18 @@ module _ (g : Group) (k : ℕ) (o : Good g) (h : k < 8) (t : is_first g.merge k 
   abbrev all : fields.Fields
   all = fields_of g.counts
 
-  part-bits : (i n : ℕ) → i + n ≤ 8 * 2 ^ level_at g.merge k → (read g k).value / 2 ^ i % 2 ^ n ≡ bits_at all (8 * k + i) n
-  part-bits i n l = sym (counter_bits g k i n o h (first_is g k t) (rw (read_level g k) l))
+  part_bits : (i n : ℕ) → i + n ≤ 8 * 2 ^ level_at g.merge k → (read g k).value / 2 ^ i % 2 ^ n ≡ bits_at all (8 * k + i) n
+  part_bits i n l = sym (counter_bits g k i n o h (first_is g k t) (rw (read_level g k) l))
 
-  parts-fields : (n : ℕ) → 24 * n ≤ 8 * 2 ^ level_at g.merge k → parts n (read g k).value ≡ map (field_word all) (part_fields n (8 * k) 24)
+  parts_fields : (n : ℕ) → 24 * n ≤ 8 * 2 ^ level_at g.merge k → parts n (read g k).value ≡ map (field_word all) (part_fields n (8 * k) 24)
   unfolding parts part_fields
-  parts-fields zero l = refl
-  parts-fields (suc n) l = more (part-bits (24 * n) 24 (omega arith)) (parts-fields n (omega arith))
+  parts_fields zero l = refl
+  parts_fields (suc n) l = more (part_bits (24 * n) 24 (omega arith)) (parts_fields n (omega arith))
 
   -- the first word, which may have fewer bits than the others
-  counter-fields : let L = level_at g.merge k in parts (word_count L) (read g k).value ≡ map (field_word all) (part_fields (word_count L) (8 * k) (first_bits L))
+  counter_fields : let L = level_at g.merge k in parts (word_count L) (read g k).value ≡ map (field_word all) (part_fields (word_count L) (8 * k) (first_bits L))
   unfolding parts part_fields
-  counter-fields =
+  counter_fields =
       let L = level_at g.merge k in
       let v = (read g k).value in
       let b = words_bits L in
@@ -58,14 +58,14 @@ module _ (g : Group) (k : ℕ) (o : Good g) (h : k < 8) (t : is_first g.merge k 
       let low : v / 2 ^ (24 * n) < 2 ^ bits = shr_lt bits (24 * n) (rw (b.1, ← read_level g k) (value_below g k o h)) in
       let small : v / 2 ^ (24 * n) < 2 ^ 24 = omega (arith, low, pow_mono {i = bits} {j = 24} b.3) in
       let top : v / 2 ^ (24 * n) % 2 ^ 24 ≡ bits_at all (8 * k + 24 * n) bits
-      = mod-eq_of_lt {n = v / 2 ^ (24 * n)} {m = 2 ^ 24} small ∙ sym (mod-eq_of_lt {n = v / 2 ^ (24 * n)} {m = 2 ^ bits} low) ∙ part-bits (24 * n) bits (omega arith) in
-      rw s (more top (parts-fields n (omega arith)))
+      = mod-eq_of_lt {n = v / 2 ^ (24 * n)} {m = 2 ^ 24} small ∙ sym (mod-eq_of_lt {n = v / 2 ^ (24 * n)} {m = 2 ^ bits} low) ∙ part_bits (24 * n) bits (omega arith) in
+      rw s (more top (parts_fields n (omega arith)))
 
 slot_fields_lem : (g : Group) (k : ℕ) → Good g → k < 8 → slot_words g k ≡ map (field_word (fields_of g.counts)) (slot_fields g.merge k)
 unfolding slot_words slot_fields
 slot_fields_lem g k o h =
     cases (is_first g.merge k)
-    (λ t. rw t (counter-fields g k o h t))
+    (λ t. rw t (counter_fields g k o h t))
     (λ f. rw f)
 
 slots_fields_lem : (n k : ℕ) (g : Group) → Good g → k + n ≤ 8 → slots_words n k g ≡ map (field_word (fields_of g.counts)) (slots_fields n k g.merge)

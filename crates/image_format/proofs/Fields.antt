@@ -106,8 +106,8 @@ field_in m i h = slots_in 8 0 m i (omega arith) (omega (arith, fields_size m))
 
 -- one word more of a description
 module _ (fs : List Field) (t : List ℕ) (at j : ℕ) (long : at + 17 ≤ length t) (h : j < 8) where
-  next-told : (x y : ℕ) → (get_or fs j none).place ≡ x → (get_or fs j none).bits ≡ y → Told fs j t at → Told fs (j + 1) (set (set t (at + 1 + j) x) (at + 9 + j) y) at
-  next-told x y p q o i l =
+  next_told : (x y : ℕ) → (get_or fs j none).place ≡ x → (get_or fs j none).bits ≡ y → Told fs j t at → Told fs (j + 1) (set (set t (at + 1 + j) x) (at + 9 + j) y) at
+  next_told x y p q o i l =
       let s = set t (at + 1 + j) x in
       elim (dec_lt i j) [
         | yes k ↦ (
@@ -130,7 +130,7 @@ module _ (fs : List Field) (t : List ℕ) (at j : ℕ) (long : at + 17 ≤ lengt
       let f : get_or fs j none ≡ record { place = place + 24 * n; bits = b } = rw (add-zero j) at (sym (get_or-drop j fs 0 none) ∙ ap (λ (l : List Field). get_or l 0 none) e) in
       rw (sub-one (suc n)) (
         sym (drop-drop 1 j fs) ∙ ap (drop 1) e,
-        next-told (place + 24 * n) b (ap (λ (x : Field). x.place) f) (ap (λ (x : Field). x.bits) f) o,
+        next_told (place + 24 * n) b (ap (λ (x : Field). x.place) f) (ap (λ (x : Field). x.bits) f) o,
       )
 
 -- the words from the first slot of a counter on: those of the counter, and those behind it

@@ -10,7 +10,7 @@ use Rattle.group.specs.declared.Group.{Group}
 use Rattle.group.specs.declared.Reading.{Reading}
 use Rattle.group.specs.Group.{valid_merge, read}
 use Rattle.group.proofs.Changing.{zero_good}
-use Rattle.group_fields.proofs.Readings.{none_merged_lem, level_most, level_by_merge, invalid-reading, plain_reading}
+use Rattle.group_fields.proofs.Readings.{none_merged_lem, level_most, level_by_merge, invalid_reading, plain_reading}
 use Rattle.image_format.specs.Image.{word_count, level_at, is_first}
 use Rattle.image_format.specs.Write.{slot_size, slots_size, group_size}
 use Rattle.laws.proofs.Shifts.{one_shl}
@@ -40,7 +40,7 @@ behind_is m k level e = rw e (ap (λ (n : ℕ). k + n) (one_shl 64 (level_at m k
 -- every slot of an invalid group is a counter of its own, and of one where nothing is merged
 pub invalid_level : (m k : ℕ) → valid_merge m ≡ false → level_at m k ≡ 0
 unfolding level_at
-invalid_level m k e = ap (λ (r : Reading). r.level) (invalid-reading (empty m) k e)
+invalid_level m k e = ap (λ (r : Reading). r.level) (invalid_reading (empty m) k e)
 
 pub plain_level : (k : ℕ) → k < 8 → level_at 0 k ≡ 0
 unfolding level_at

@@ -31,19 +31,19 @@ here words p x rest e =
 
 -- a word that was written passes its tests
 module _ (words : List ℕ) (p kind x : ℕ) (rest : List ℕ) (e : drop p words ≡ word kind x ∷ rest) (h : x < 2 ^ 28) where
-  pub payload-here : payload words p ≡ x
+  pub payload_here : payload words p ≡ x
   unfolding payload word
-  payload-here = rw (here words p (word kind x) rest e).is (omega arith)
+  payload_here = rw (here words p (word kind x) rest e).is (omega arith)
 
-  pub due-here : is_due words p kind ≡ true
+  pub due_here : is_due words p kind ≡ true
   unfolding is_due word
-  due-here =
+  due_here =
       let k : word kind x / 2 ^ 28 ≡ kind = omega arith in
       rw (lt-ltb p (length words) (here words p (word kind x) rest e).inside, (here words p (word kind x) rest e).is) (eq-eqb (word kind x / 2 ^ 28) kind k)
 
-  pub below-here : (limit : ℕ) → x < limit → below words p kind limit ≡ go (p + 1)
+  pub below_here : (limit : ℕ) → x < limit → below words p kind limit ≡ go (p + 1)
   unfolding below tested
-  below-here limit l = rw (due-here, payload-here, lt-ltb x limit l)
+  below_here limit l = rw (due_here, payload_here, lt-ltb x limit l)
 
 pub digit_lt : (v n : ℕ) → v / 2 ^ (24 * n) % 2 ^ 24 < 2 ^ 24
 digit_lt v n = mod-lt (v / 2 ^ (24 * n)) (omega arith)
@@ -53,7 +53,7 @@ unfolding check_parts parts next
 check_digits zero v words p rest e = ap go (sym (add-zero p))
 check_digits (suc n) v words p rest e =
     let x = v / 2 ^ (24 * n) % 2 ^ 24 in
-    rw (below-here words p count_kind x (parts n v ++ rest) e (omega (arith, digit_lt v n)) (2 ^ 24) (digit_lt v n))
+    rw (below_here words p count_kind x (parts n v ++ rest) e (omega (arith, digit_lt v n)) (2 ^ 24) (digit_lt v n))
     (check_digits n v words (p + 1) rest (here words p (word count_kind x) (parts n v ++ rest) e).after ∙ ap go (omega arith))
 
 pub check_value : (n v : ℕ) (words : List ℕ) (p : ℕ) (rest : List ℕ) (limit : ℕ) → drop p words ≡ parts (suc n) v ++ rest → v / 2 ^ (24 * n) % 2 ^ 24 < limit
@@ -61,7 +61,7 @@ pub check_value : (n v : ℕ) (words : List ℕ) (p : ℕ) (rest : List ℕ) (li
 unfolding check_parts parts next
 check_value n v words p rest limit e l =
     let x = v / 2 ^ (24 * n) % 2 ^ 24 in
-    rw (below-here words p count_kind x (parts n v ++ rest) e (omega (arith, digit_lt v n)) limit l)
+    rw (below_here words p count_kind x (parts n v ++ rest) e (omega (arith, digit_lt v n)) limit l)
     (check_digits n v words (p + 1) rest (here words p (word count_kind x) (parts n v ++ rest) e).after ∙ ap go (omega arith))
 
 pub check_counter : (level v : ℕ) (words : List ℕ) (p : ℕ) (rest : List ℕ) → v < 2 ^ (8 * 2 ^ level) → drop p words ≡ parts (word_count level) v ++ rest

@@ -108,9 +108,9 @@ module _ (k : ℕ) (h : Group) (words : List ℕ) (p q : ℕ) (o : Good h) (i : 
   unfolding is_first
   starts t = rw (read_level h k) (eqb-true (k % 2 ^ level_at h.merge k) 0 t)
 
-  slot-first : is_first h.merge k ≡ true → Slot k h words p q
+  slot_first : is_first h.merge k ≡ true → Slot k h words p q
   unfolding check_slot
-  slot-first t =
+  slot_first t =
       let L = level_at h.merge k in
       let n = word_count L in
       let v = value_from n 0 words p in
@@ -129,9 +129,9 @@ module _ (k : ℕ) (h : Group) (words : List ℕ) (p q : ℕ) (o : Good h) (i : 
             a.is ∙ ap (λ (l : List ℕ). l ++ drop q words) (ap (parts n) (sym w) ∙ s);
       }
 
-  slot-other : is_first h.merge k ≡ false → Slot k h words p q
+  slot_other : is_first h.merge k ≡ false → Slot k h words p q
   unfolding check_slot
-  slot-other t =
+  slot_other t =
       let z : p ≡ q = ap (λ (s : Step). s.position) (rw t at e) in
       let R = read_slot_other k h words p t in
       record {
@@ -142,7 +142,7 @@ module _ (k : ℕ) (h : Group) (words : List ℕ) (p q : ℕ) (o : Good h) (i : 
       }
 
   slot_is : Slot k h words p q
-  slot_is = cases (is_first h.merge k) slot-first slot-other
+  slot_is = cases (is_first h.merge k) slot_first slot_other
 
 -- slots whose words have passed
 record Slots (n k : ℕ) (h : Group) (words : List ℕ) (p q : ℕ) : Type 0 where

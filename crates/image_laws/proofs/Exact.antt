@@ -26,7 +26,7 @@ use Rattle.image_format.specs.Image.{word, layout_kind, layout_at, group_words, 
 use Rattle.image_format.specs.Write.{all_valid, valid_rows, group_size}
 use Rattle.image_format.specs.Read.{merges_at, check_slots, check_groups, check_four, check_fours, read_group, read_groups, after_groups, read_fours, after_fours, read_rows}
 use Rattle.word.proofs.Laws.{both}
-use Rattle.image_laws.proofs.Rows.{with-length, with-before, with-counts, with-merge, with-after, merges_from}
+use Rattle.image_laws.proofs.Rows.{with_length, with_before, with_counts, with_merge, with_after, merges_from}
 use Rattle.word.proofs.Passed.{passed, below_is}
 use Rattle.image_laws.proofs.Accepting.{group_is}
 
@@ -34,7 +34,7 @@ use Rattle.image_laws.proofs.Accepting.{group_is}
 module _ (w g : ℕ) (row : List ℕ) (x : Group) (o : Eight x.counts) (a : 8 * g + 8 ≤ w) (b : w + g < length row) where
   pub stored_length : length (with_group w row g x) ≡ length row
   unfolding with_group
-  stored_length = with-length w g row x.counts x.merge o.long a b
+  stored_length = with_length w g row x.counts x.merge o.long a b
 
   pub stored_here : group_at w (with_group w row g x) g ≡ x
   unfolding group_at with_group
@@ -44,12 +44,12 @@ module _ (w g : ℕ) (row : List ℕ) (x : Group) (o : Eight x.counts) (a : 8 * 
       let n = length-take-le 8 (drop (8 * g) y) (omega (arith, length-drop (8 * g) y, l)) in
       ap₂ (λ (c : List ℕ) (m : ℕ). record { counts = c; merge = m })
       (ext_get_or 0 (take 8 (drop (8 * g) y)) x.counts (n ∙ sym o.long)
-      (λ i h. get_or-take 8 (drop (8 * g) y) i 0 (omega (arith, n)) ∙ get_or-drop (8 * g) y i 0 ∙ with-counts w g row x.counts x.merge o.long a b i (omega (arith, n))))
-      (with-merge w g row x.counts x.merge o.long a b)
+      (λ i h. get_or-take 8 (drop (8 * g) y) i 0 (omega (arith, n)) ∙ get_or-drop (8 * g) y i 0 ∙ with_counts w g row x.counts x.merge o.long a b i (omega (arith, n))))
+      (with_merge w g row x.counts x.merge o.long a b)
 
-  pub stored-before : (j : ℕ) → j < g → group_at w (with_group w row g x) j ≡ group_at w row j
+  pub stored_before : (j : ℕ) → j < g → group_at w (with_group w row g x) j ≡ group_at w row j
   unfolding group_at with_group
-  stored-before j h =
+  stored_before j h =
       let y = with_group w row g x in
       let l = stored_length in
       let n = length-take-le 8 (drop (8 * j) y) (omega (arith, length-drop (8 * j) y, l)) in
@@ -57,9 +57,9 @@ module _ (w g : ℕ) (row : List ℕ) (x : Group) (o : Eight x.counts) (a : 8 * 
       ap₂ (λ (c : List ℕ) (m : ℕ). record { counts = c; merge = m })
       (ext_get_or 0 (take 8 (drop (8 * j) y)) (take 8 (drop (8 * j) row)) (n ∙ sym k)
       (λ i z. get_or-take 8 (drop (8 * j) y) i 0 (omega (arith, n)) ∙ get_or-drop (8 * j) y i 0
-      ∙ with-before w g row x.counts x.merge o.long a b (8 * j + i) (omega (arith, n))
+      ∙ with_before w g row x.counts x.merge o.long a b (8 * j + i) (omega (arith, n))
       ∙ sym (get_or-drop (8 * j) row i 0) ∙ sym (get_or-take 8 (drop (8 * j) row) i 0 (omega (arith, n)))))
-      (with-after w g row x.counts x.merge o.long a b (w + j) (omega arith) (λ e. omega arith))
+      (with_after w g row x.counts x.merge o.long a b (w + j) (omega arith) (λ e. omega arith))
 
 -- groups whose words have passed
 record Groups (ms : List ℕ) (g w : ℕ) (row words : List ℕ) (p q : ℕ) (new : List ℕ) : Type 0 where
@@ -91,7 +91,7 @@ groups_are (m ∷ ms) g w row words p q v a b e =
     record {
       position = y.position;
       long = y.long ∙ l;
-      kept = λ j h. y.kept j (omega arith) ∙ stored-before w g row x d.good.eight (omega arith) (omega arith) j h;
+      kept = λ j h. y.kept j (omega arith) ∙ stored_before w g row x d.good.eight (omega arith) (omega arith) j h;
       good = λ j h k. elim (dec_lt g j) [ yes i ↦ y.good j (omega arith) (omega arith) | no i ↦ let f : j ≡ g = omega arith in rw (f, here) d.good ];
       merges = ap₂ (λ (u : ℕ) (us : List ℕ). u ∷ us) (ap (λ (u : Group). u.merge) here ∙ d.merge) y.merges;
       is =
@@ -272,10 +272,10 @@ fours_split zero b words p q e = record { middle = p; first = refl; second = ap 
 fours_split (suc a) b words p q e =
     let t = passed (check_four words p) (λ r. check_fours (a + b) words r) q (ap (λ (n : ℕ). check_fours n words p) (sym (suc-add a b)) ∙ e) in
     let s = fours_split a b words (check_four words p).position q t.after in
-    record { middle = s.middle; first = ap (λ (x : Step). next x (λ r. check_fours a words r)) t.here ∙ next-go (check_four words p).position (λ r. check_fours a words r) ∙ s.first; second = s.second }
+    record { middle = s.middle; first = ap (λ (x : Step). next x (λ r. check_fours a words r)) t.here ∙ next_go (check_four words p).position (λ r. check_fours a words r) ∙ s.first; second = s.second }
   where
-    next-go : (p : ℕ) (f : ℕ → Step) → next (go p) f ≡ f p
-    next-go p f = refl
+    next_go : (p : ℕ) (f : ℕ → Step) → next (go p) f ≡ f p
+    next_go p f = refl
 
 -- rows whose words have passed
 pub record Rows (n w : ℕ) (old words : List ℕ) (p q : ℕ) (new : List ℕ) : Type 0 where

@@ -27,7 +27,7 @@ use Rattle.image_format.specs.Write.{all_valid, valid_rows, group_size}
 use Rattle.image_format.specs.Read.{merges_at, check_groups, check_four, check_fours, read_groups, after_groups, read_fours, after_fours, read_rows}
 use Rattle.word.proofs.Laws.{both}
 use Rattle.image_writer.proofs.Laws.{layout_lt}
-use Rattle.image_group_checker.proofs.Digits.{here, payload-here, below-here}
+use Rattle.image_group_checker.proofs.Digits.{here, payload_here, below_here}
 use borrow.Table.Steps.{cases}
 use Rattle.image_reader.proofs.Restoring.{group_restored}
 
@@ -44,31 +44,31 @@ module _ (w g : ℕ) (row : List ℕ) (xs : List ℕ) (m : ℕ) (eight : length 
   front_length : length front ≡ 8 * g + 8
   front_length = rw (length-append (take (8 * g) row) xs, length-take-le (8 * g) row (omega arith), eight)
 
-  pub with-length : length (set (front ++ drop (8 * g + 8) row) (w + g) m) ≡ length row
-  with-length =
+  pub with_length : length (set (front ++ drop (8 * g + 8) row) (w + g) m) ≡ length row
+  with_length =
       length-set (front ++ drop (8 * g + 8) row) (w + g) m
       ∙ length-append front (drop (8 * g + 8) row)
       ∙ omega (arith, front_length, length-drop (8 * g + 8) row)
 
-  pub with-before : (i : ℕ) → i < 8 * g → get_or (set (front ++ drop (8 * g + 8) row) (w + g) m) i 0 ≡ get_or row i 0
-  with-before i h =
+  pub with_before : (i : ℕ) → i < 8 * g → get_or (set (front ++ drop (8 * g + 8) row) (w + g) m) i 0 ≡ get_or row i 0
+  with_before i h =
       get_or-set_other (front ++ drop (8 * g + 8) row) (w + g) i m 0 (λ e. omega arith)
       ∙ get_or-append front (drop (8 * g + 8) row) 0 i (omega (arith, front_length))
       ∙ get_or-append (take (8 * g) row) xs 0 i (omega (arith, length-take-le (8 * g) row (omega arith)))
       ∙ get_or-take (8 * g) row i 0 h
 
-  pub with-counts : (j : ℕ) → j < 8 → get_or (set (front ++ drop (8 * g + 8) row) (w + g) m) (8 * g + j) 0 ≡ get_or xs j 0
-  with-counts j h =
+  pub with_counts : (j : ℕ) → j < 8 → get_or (set (front ++ drop (8 * g + 8) row) (w + g) m) (8 * g + j) 0 ≡ get_or xs j 0
+  with_counts j h =
       let t = length-take-le (8 * g) row (omega arith) in
       get_or-set_other (front ++ drop (8 * g + 8) row) (w + g) (8 * g + j) m 0 (λ e. omega arith)
       ∙ get_or-append front (drop (8 * g + 8) row) 0 (8 * g + j) (omega (arith, front_length))
       ∙ (rw t at (get_or-append-add (take (8 * g) row) xs j 0))
 
-  pub with-merge : get_or (set (front ++ drop (8 * g + 8) row) (w + g) m) (w + g) 0 ≡ m
-  with-merge = get_or-set_same (front ++ drop (8 * g + 8) row) (w + g) m 0 (omega (arith, length-append front (drop (8 * g + 8) row), front_length, length-drop (8 * g + 8) row))
+  pub with_merge : get_or (set (front ++ drop (8 * g + 8) row) (w + g) m) (w + g) 0 ≡ m
+  with_merge = get_or-set_same (front ++ drop (8 * g + 8) row) (w + g) m 0 (omega (arith, length-append front (drop (8 * g + 8) row), front_length, length-drop (8 * g + 8) row))
 
-  pub with-after : (i : ℕ) → 8 * g + 8 ≤ i → (i ≡ w + g → ⊥) → get_or (set (front ++ drop (8 * g + 8) row) (w + g) m) i 0 ≡ get_or row i 0
-  with-after i h n =
+  pub with_after : (i : ℕ) → 8 * g + 8 ≤ i → (i ≡ w + g → ⊥) → get_or (set (front ++ drop (8 * g + 8) row) (w + g) m) i 0 ≡ get_or row i 0
+  with_after i h n =
       let j = i - (8 * g + 8) in
       let e : 8 * g + 8 + j ≡ i = omega arith in
       get_or-set_other (front ++ drop (8 * g + 8) row) (w + g) i m 0 n
@@ -86,20 +86,20 @@ same_more w g row source a b s =
     let eight : length xs ≡ 8 = length-take-le 8 (drop (8 * g) source) (omega (arith, length-drop (8 * g) source)) in
     let k : w + g < length row = omega arith in
     record {
-      long = with-length w g row xs m eight a k ∙ s.long;
+      long = with_length w g row xs m eight a k ∙ s.long;
       counts = λ i h. elim (dec_lt i (8 * g)) [
-        | yes l ↦ with-before w g row xs m eight a k i l ∙ s.counts i l
+        | yes l ↦ with_before w g row xs m eight a k i l ∙ s.counts i l
         | no l ↦
             let j = i - 8 * g in
             let e : 8 * g + j ≡ i = omega arith in
             ap (λ (x : ℕ). get_or (set (take (8 * g) row ++ xs ++ drop (8 * g + 8) row) (w + g) m) x 0) (sym e)
-            ∙ with-counts w g row xs m eight a k j (omega arith)
+            ∙ with_counts w g row xs m eight a k j (omega arith)
             ∙ get_or-take 8 (drop (8 * g) source) j 0 (omega arith) ∙ get_or-drop (8 * g) source j 0
             ∙ ap (λ (x : ℕ). get_or source x 0) e
       ];
       merges = λ i h. elim (dec_lt i g) [
-        | yes l ↦ with-after w g row xs m eight a k (w + i) (omega arith) (λ e. omega arith) ∙ s.merges i l
-        | no l ↦ let e : i ≡ g = omega arith in rw e (with-merge w g row xs m eight a k)
+        | yes l ↦ with_after w g row xs m eight a k (w + i) (omega arith) (λ e. omega arith) ∙ s.merges i l
+        | no l ↦ let e : i ≡ g = omega arith in rw e (with_merge w g row xs m eight a k)
       ];
     }
 
@@ -183,11 +183,11 @@ four_restored g w source row words p rest o i s e =
     let l = layout_lt w source g in
     let tail = groups_words 4 g w source ++ rest in
     let h = here words p (word layout_kind x) tail e in
-    let y : payload words p ≡ x = payload-here words p layout_kind x tail e (omega (arith, l)) in
+    let y : payload words p ≡ x = payload_here words p layout_kind x tail e (omega (arith, l)) in
     let m : (unpacked (payload words p)).merges ≡ merges_from 4 g w source = ap (λ (c : ℕ). (unpacked c).merges) y ∙ layout_code w source g o i in
     let q = groups_restored 4 g w source row words (p + 1) rest o i s h.after in
     record {
-      checks = rw (below-here words p layout_kind x tail e (omega (arith, l)) (layouts_of 4) l, m) q.checks;
+      checks = rw (below_here words p layout_kind x tail e (omega (arith, l)) (layouts_of 4) l, m) q.checks;
       after = rw m q.after;
       same = rw m q.same;
     }

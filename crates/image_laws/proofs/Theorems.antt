@@ -24,12 +24,12 @@ use Rattle.image_format.specs.Image.{word, head_payload, rows_words, body, end_w
 use Rattle.image_format.specs.Write.{valid_rows, Written, written}
 use Rattle.image_format.specs.Read.{check_head, check_fours, check_end, checked, read_rows, taken}
 use Rattle.image_laws.specs.Meters.{Meter, IsImage}
-use Rattle.image.proofs.Calls.{Sound, sound_call, write-call, write-invalid, write-short, write_done, read-call, read-faulty, read_done}
+use Rattle.image.proofs.Calls.{Sound, sound_call, write_call, write_invalid, write_short, write_done, read_call, read_faulty, read_done}
 use Rattle.image_format.proofs.Laws.{log_width_most}
-use Rattle.image_group_checker.proofs.Digits.{payload-here, due-here, below-here}
+use Rattle.image_group_checker.proofs.Digits.{payload_here, due_here, below_here}
 use Rattle.word.proofs.Passed.{passed, tested_is}
 use Rattle.image_laws.proofs.Exact.{rows_are}
-use Rattle.image.proofs.Sharp.{sharp-at}
+use Rattle.image.proofs.Sharp.{sharp_at}
 use Rattle.image_laws.proofs.Rows.{Rows, after_rows, rows_restored}
 
 head_lt : (d w : ℕ) → d ≤ 8 → head_payload d w < 2 ^ 9
@@ -50,13 +50,13 @@ module _ (d w : ℕ) (memory old : List ℕ) (call : bad_shape d w (length memor
   unfolding all_words end_words_lem image body
   rows = rows_restored d w memory old (image d w memory) 1 end_words_lem (record { whole = sound.width.whole; size = sound.long; bytes = bytes; merges = merges }) long refl
 
-  head-passes : check_head d w all_words ≡ go 1
+  head_passes : check_head d w all_words ≡ go 1
   unfolding all_words end_words_lem image body check_head tested next
-  head-passes =
+  head_passes =
       let h = head_lt d w sound.depth in
       let hp = head_payload d w in
       let tail = rows_words d w memory ++ end_words_lem in
-      rw (below-here all_words 0 head_kind hp tail refl (omega (arith, h)) (2 ^ 9) h, due-here all_words 0 head_kind hp tail refl (omega (arith, h)), payload-here all_words 0 head_kind hp tail refl (omega (arith, h)), eq-eqb hp hp refl)
+      rw (below_here all_words 0 head_kind hp tail refl (omega (arith, h)) (2 ^ 9) h, due_here all_words 0 head_kind hp tail refl (omega (arith, h)), payload_here all_words 0 head_kind hp tail refl (omega (arith, h)), eq-eqb hp hp refl)
 
   position : ℕ
   position = after_rows d w all_words 1
@@ -65,20 +65,20 @@ module _ (d w : ℕ) (memory old : List ℕ) (call : bad_shape d w (length memor
   unfolding position end_words_lem
   ends = omega (arith, ap length rows.after, length-drop (after_rows d w all_words 1) all_words)
 
-  body-length : length (body d w memory) ≡ position
+  body_length : length (body d w memory) ≡ position
   unfolding all_words image
-  body-length = omega (arith, ends, length-append (body d w memory) (end_word (length (body d w memory)) ∷ []))
+  body_length = omega (arith, ends, length-append (body d w memory) (end_word (length (body d w memory)) ∷ []))
 
-  end-passes : check_end all_words position ≡ go (length all_words)
+  end_passes : check_end all_words position ≡ go (length all_words)
   unfolding check_end tested next end_word end_words_lem position
-  end-passes =
+  end_passes =
       let n = position % 2 ^ 28 in
-      let e : drop position all_words ≡ word end_kind n ∷ [] = rows.after ∙ ap (λ (k : ℕ). word end_kind (k % 2 ^ 28) ∷ []) body-length in
-      rw (due-here all_words position end_kind n [] e (omega arith), payload-here all_words position end_kind n [] e (omega arith), eq-eqb n n refl, ends, eq-eqb (length all_words) (length all_words) refl)
+      let e : drop position all_words ≡ word end_kind n ∷ [] = rows.after ∙ ap (λ (k : ℕ). word end_kind (k % 2 ^ 28) ∷ []) body_length in
+      rw (due_here all_words position end_kind n [] e (omega arith), payload_here all_words position end_kind n [] e (omega arith), eq-eqb n n refl, ends, eq-eqb (length all_words) (length all_words) refl)
 
   passes : checked d w all_words ≡ go (length all_words)
   unfolding checked next position
-  passes = rw (head-passes, rows.checks) end-passes
+  passes = rw (head_passes, rows.checks) end_passes
 
   pub restored : taken d w old (image d w memory) ≡ record { answer = accepted (length (image d w memory)); memory = memory }
   unfolding all_words
@@ -93,8 +93,8 @@ record Writes (d w : ℕ) (memory lent : List ℕ) : Type 0 where
   room : length (image d w memory) ≤ length lent
 
 module _ (d w : ℕ) (memory lent : List ℕ) (e : (written d w memory lent).answer.status ≡ 0) where
-  not-by : (x : Written) → written d w memory lent ≡ x → x.answer.status ≡ 0
-  not-by x f = ap (λ (y : Written). y.answer.status) (sym f) ∙ e
+  not_by : (x : Written) → written d w memory lent ≡ x → x.answer.status ≡ 0
+  not_by x f = ap (λ (y : Written). y.answer.status) (sym f) ∙ e
 
   writes : Writes d w memory lent
   writes =
@@ -103,19 +103,19 @@ module _ (d w : ℕ) (memory lent : List ℕ) (e : (written d w memory lent).ans
       let z = eqb-true (bad_shape d w (length memory)) 0 t in
       cases (valid_rows d w memory)
       (λ v. elim (dec_lt (length lent) (length (image d w memory))) [
-        | yes l ↦ absurd (omega (arith, not-by _ (write-short d w memory lent 0 (sym z) refl v l)))
+        | yes l ↦ absurd (omega (arith, not_by _ (write_short d w memory lent 0 (sym z) refl v l)))
         | no l ↦ record { call = z; merges = v; room = omega arith }
       ])
-      (λ v. absurd (omega (arith, not-by _ (write-invalid d w memory lent 0 (sym z) refl v)))))
+      (λ v. absurd (omega (arith, not_by _ (write_invalid d w memory lent 0 (sym z) refl v)))))
       (λ t.
       let n = eqb-false (bad_shape d w (length memory)) 0 t in
-      absurd (n (not-by _ (write-call d w memory lent (bad_shape d w (length memory)) refl n))))
+      absurd (n (not_by _ (write_call d w memory lent (bad_shape d w (length memory)) refl n))))
 
   -- The words that the figure counts, read with the same d and w into any memory of that length, are accepted with the same figure and
   -- restore the meter. A memory that is lent is of bytes.
-  pub written-restored : (old : List ℕ) → Bytes memory → length old ≡ length memory
+  pub written_restored : (old : List ℕ) → Bytes memory → length old ≡ length memory
       → taken d w old (take (written d w memory lent).answer.value (written d w memory lent).words) ≡ record { answer = (written d w memory lent).answer; memory = memory }
-  written-restored old bytes long =
+  written_restored old bytes long =
       rw (write_done d w memory lent 0 (sym writes.call) refl writes.merges writes.room, take-append_seam (image d w memory) (drop (length (image d w memory)) lent))
       (restored d w memory old writes.call bytes writes.merges long)
 
@@ -135,9 +135,9 @@ accepted_is d w old words e =
     (λ u.
     let y = eqb-true c.status 0 u in
     record { call = z; checks = ap (λ (s : ℕ). record { status = s; position = c.position }) y; is = ap (λ (x : Done). x.memory) (read_done d w old words 0 (sym z) refl c refl y) })
-    (λ u. absurd (eqb-false c.status 0 u (sym (ap (λ (x : Done). x.answer.status) (read-faulty d w old words 0 (sym z) refl c refl (eqb-false c.status 0 u))) ∙ e))))
+    (λ u. absurd (eqb-false c.status 0 u (sym (ap (λ (x : Done). x.answer.status) (read_faulty d w old words 0 (sym z) refl c refl (eqb-false c.status 0 u))) ∙ e))))
     (λ t. absurd (eqb-false (bad_shape d w (length old)) 0 t
-    (sym (ap (λ (x : Done). x.answer.status) (read-call d w old words (bad_shape d w (length old)) refl (eqb-false (bad_shape d w (length old)) 0 t))) ∙ e)))
+    (sym (ap (λ (x : Done). x.answer.status) (read_call d w old words (bad_shape d w (length old)) refl (eqb-false (bad_shape d w (length old)) 0 t))) ∙ e)))
 
 record Head (d w : ℕ) (words : List ℕ) (q : ℕ) : Type 0 where
   position : q ≡ 1
@@ -192,12 +192,12 @@ module _ (d w : ℕ) (old words : List ℕ) (e : (taken d w old words).answer.st
       let i : words ≡ image d w m = h.is ∙ ap (λ (z : List ℕ). word head_kind (head_payload d w) ∷ z) (f ∙ ap (λ (k : ℕ). rows ++ end_word k ∷ []) n) in
       subst (λ (x : List ℕ). Exact d w words x) (sym a.is) (record { meter = record { shape = ap (bad_shape d w) r.long ∙ a.call; bytes = r.bytes; merges = r.merges }; is = i })
 
-  pub accepted-image : words ≡ image d w (taken d w old words).memory
-  accepted-image = exact.is
+  pub accepted_image : words ≡ image d w (taken d w old words).memory
+  accepted_image = exact.is
 
-  pub accepted-written : (lent : List ℕ) → length words ≤ length lent
+  pub accepted_written : (lent : List ℕ) → length words ≤ length lent
       → written d w (taken d w old words).memory lent ≡ record { answer = accepted (length words); words = words ++ drop (length words) lent }
-  accepted-written lent h =
+  accepted_written lent h =
       let i = exact.is in
       write_done d w (taken d w old words).memory lent 0 (sym exact.meter.shape) refl exact.meter.merges (omega (arith, ap length i))
       ∙ ap (λ (x : List ℕ). record { answer = accepted (length x); words = x ++ drop (length x) lent }) (sym i)
@@ -220,30 +220,30 @@ module _ (d w : ℕ) (old words : List ℕ) (call : bad_shape d w (length old) �
   faulty : (checked d w words).status ≡ 0 → ⊥
   faulty z = n (ap (λ (x : Done). x.answer.status) (read_done d w old words 0 (sym call) refl (checked d w words) refl z))
 
-  at-fault : (taken d w old words).answer.position ≡ (checked d w words).position
-  at-fault = ap (λ (x : Done). x.answer.position) (read-faulty d w old words 0 (sym call) refl (checked d w words) refl faulty)
+  at_fault : (taken d w old words).answer.position ≡ (checked d w words).position
+  at_fault = ap (λ (x : Done). x.answer.position) (read_faulty d w old words 0 (sym call) refl (checked d w words) refl faulty)
 
   pub sharp : (q : ℕ) → (taken d w old words).answer.position ≡ q
       → ((taken d w old (take q words)).answer ≡ record { status = bad_word; position = q; value = 0 }) ⊎ ((taken d w old (take q words)).answer ≡ accepted q)
   sharp q e =
       ⊎_elim
-      (λ x. inl (ap (λ (y : Done). y.answer) (read-faulty d w old (take q words) 0 (sym call) refl (stop bad_word q) (sym x) (λ z. omega arith))))
+      (λ x. inl (ap (λ (y : Done). y.answer) (read_faulty d w old (take q words) 0 (sym call) refl (stop bad_word q) (sym x) (λ z. omega arith))))
       (λ x. inr (ap (λ (y : Done). y.answer) (read_done d w old (take q words) 0 (sym call) refl (go q) (sym x) refl)))
-      (sharp-at d w words q faulty (sym at-fault ∙ e))
+      (sharp_at d w words q faulty (sym at_fault ∙ e))
 
 -- A sound head with another payload than the call's depth and width have is 10 at place 0, whatever follows it.
 module _ (d w v : ℕ) (memory rest : List ℕ) (call : bad_shape d w (length memory) ≡ 0) (low : v < 2 ^ 9) where
-  other-checked : (v ≡ head_payload d w → ⊥) → stop other_meter 0 ≡ checked d w (word head_kind v ∷ rest)
+  other_checked : (v ≡ head_payload d w → ⊥) → stop other_meter 0 ≡ checked d w (word head_kind v ∷ rest)
   unfolding checked check_head tested next
-  other-checked n =
+  other_checked n =
       let words = word head_kind v ∷ rest in
       let l : v < 2 ^ 28 = omega arith in
-      rw (below-here words 0 head_kind v rest refl l (2 ^ 9) low, due-here words 0 head_kind v rest refl l, payload-here words 0 head_kind v rest refl l, ne_eqb v (head_payload d w) n)
+      rw (below_here words 0 head_kind v rest refl l (2 ^ 9) low, due_here words 0 head_kind v rest refl l, payload_here words 0 head_kind v rest refl l, ne_eqb v (head_payload d w) n)
 
-  pub other-head : (v ≡ head_payload d w → ⊥) → taken d w memory (word head_kind v ∷ rest) ≡ record { answer = refused other_meter; memory = memory }
-  other-head n = read-faulty d w memory (word head_kind v ∷ rest) 0 (sym call) refl (stop other_meter 0) (other-checked n) (λ z. omega arith)
+  pub other_head : (v ≡ head_payload d w → ⊥) → taken d w memory (word head_kind v ∷ rest) ≡ record { answer = refused other_meter; memory = memory }
+  other_head n = read_faulty d w memory (word head_kind v ∷ rest) 0 (sym call) refl (stop other_meter 0) (other_checked n) (λ z. omega arith)
 
   -- so is one with a larger logarithm than the largest width has
   pub head_too_wide : largest_log < v / 16 → taken d w memory (word head_kind v ∷ rest) ≡ record { answer = refused other_meter; memory = memory }
   unfolding head_payload
-  head_too_wide h = other-head (λ e. omega (arith, log_width_most w, (sound_call d w (length memory) call).depth))
+  head_too_wide h = other_head (λ e. omega (arith, log_width_most w, (sound_call d w (length memory) call).depth))

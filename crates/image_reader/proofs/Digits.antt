@@ -12,7 +12,7 @@ use Rattle.image_format.specs.Image.{word, count_kind, parts, word_count}
 use Rattle.image_format.specs.Read.{value_from}
 use Rattle.image_format.proofs.Laws.{parts_length}
 use Rattle.image_format.proofs.Fields.{words_bits}
-use Rattle.image_group_checker.proofs.Digits.{here, payload-here, digit_lt}
+use Rattle.image_group_checker.proofs.Digits.{here, payload_here, digit_lt}
 
 pub power_step : (n : ℕ) → 2 ^ (24 * suc n) ≡ 2 ^ 24 * 2 ^ (24 * n)
 power_step n = ap (λ (k : ℕ). 2 ^ k) (omega arith) ∙ pow-add 2 24 (24 * n)
@@ -34,7 +34,7 @@ value_digits (suc n) u v words p rest h e =
     let whole : (u * 2 ^ 24 + x) * q + v % q ≡ u * 2 ^ (24 * suc n) + v % 2 ^ (24 * suc n) = omega (arith, a, w, d) in
     let u< : u < 2 ^ 40 = omega (arith, a, t, h) in
     let m : u % 2 ^ 40 ≡ u = mod-eq_of_lt {n = u} {m = 2 ^ 40} u< in
-    let y : payload words p % 2 ^ 24 ≡ x = ap (λ (z : ℕ). z % 2 ^ 24) (payload-here words p count_kind x (parts n v ++ rest) e small) ∙ mod-eq_of_lt {n = x} {m = 2 ^ 24} x< in
+    let y : payload words p % 2 ^ 24 ≡ x = ap (λ (z : ℕ). z % 2 ^ 24) (payload_here words p count_kind x (parts n v ++ rest) e small) ∙ mod-eq_of_lt {n = x} {m = 2 ^ 24} x< in
     rw (m, y)
     (value_digits n (u * 2 ^ 24 + x) v words (p + 1) rest (omega (arith, whole, h)) (here words p (word count_kind x) (parts n v ++ rest) e).after
     ∙ whole)

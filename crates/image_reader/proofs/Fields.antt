@@ -13,7 +13,7 @@ use lib.Pow.{pow_pos, pow-add, pow_mono, mod-pow-add, mod-mod-pow, high, low}
 use lib.Seq.{drop-cons}
 use Rattle.group.specs.Group.{valid_merge, read, changed}
 use Rattle.group_fields.specs.Fields.{group_of}
-use Rattle.group_fields.proofs.Counters.{counts_none, put-below, changed-put}
+use Rattle.group_fields.proofs.Counters.{counts_none, put_below, changed_put}
 use Rattle.word.specs.Word.{payload}
 use Rattle.image_format.specs.Image.{word_count, level_at, is_first}
 use Rattle.image_format.specs.Write.{group_size}
@@ -123,10 +123,10 @@ module _ (m k w x : ℕ) (v : valid_merge m ≡ true) (h : k < 8) (l : w < 2 ^ (
   level_is = read_level (group_of m (record { word = w })) k
 
   new_in : new < 2 ^ (8 * (k + 2 ^ level_at m k))
-  new_in = rw (← level_is) (put-below m k x (record { word = w }) v h l)
+  new_in = rw (← level_is) (put_below m k x (record { word = w }) v h l)
 
-  changed-field : is_first m k ≡ true → (changed (group_of m (record { word = w })) k x).group ≡ group_of m (record { word = new })
-  changed-field t = rw (← level_is) (changed-put m k x (record { word = w }) v h l (first_is (group_of m (record { word = w })) k t))
+  changed_field : is_first m k ≡ true → (changed (group_of m (record { word = w })) k x).group ≡ group_of m (record { word = new })
+  changed_field t = rw (← level_is) (changed_put m k x (record { word = w }) v h l (first_is (group_of m (record { word = w })) k t))
 
 -- the words of a group's counters from slot k on, read into a group without counts from there on
 module _ (m : ℕ) (v : valid_merge m ≡ true) (words : List ℕ) where
@@ -139,9 +139,9 @@ module _ (m : ℕ) (v : valid_merge m ≡ true) (words : List ℕ) where
   unfolding read_slots slots_fields fields_sum
   reads_none k w p e l = rw (e, add-zero w) (refl, rw e at l)
 
-  reads-one : (k w p : ℕ) (h : k < 8) (t : is_first m k ≡ true) (l : w < 2 ^ (8 * k)) → let L = level_at m k in
+  reads_one : (k w p : ℕ) (h : k < 8) (t : is_first m k ≡ true) (l : w < 2 ^ (8 * k)) → let L = level_at m k in
       Reads (k + 2 ^ L) (new m k w (value_from (word_count L) 0 words p) v h l) (p + word_count L) → Reads k w p
-  reads-one k w p h t l r =
+  reads_one k w p h t l r =
       let L = level_at m k in
       let n = word_count L in
       let x = value_from n 0 words p in
@@ -153,25 +153,25 @@ module _ (m : ℕ) (v : valid_merge m ≡ true) (words : List ℕ) where
       = ap (λ (l : List Field). fields_sum l words p) (fields_turn m k L n (first_bits L) h t refl refl refl) ∙ sum_append fs gs words p
       ∙ ap (λ (i : ℕ). fields_sum fs words p + fields_sum gs words (p + i)) (parts_size n (8 * k) (first_bits L)) in
       let same : y + fields_sum gs words (p + n) ≡ w + fields_sum (slots_fields (8 - k) k m) words p = omega (arith, whole, held) in
-      let s = reads_step m k (group_of m (record { word = w })) (group_of m (record { word = y })) L n x words p refl h t refl refl refl (sym (changed-field m k w x v h l t)) in
+      let s = reads_step m k (group_of m (record { word = w })) (group_of m (record { word = y })) L n x words p refl h t refl refl refl (sym (changed_field m k w x v h l t)) in
       (sym s.1 ∙ r.0 ∙ ap (λ (i : ℕ). group_of m (record { word = i })) same, omega (arith, same, r.1))
 
-  reads-from : (f k w p : ℕ) → 8 ≤ k + f → Stands m k → w < 2 ^ (8 * k) → Reads k w p
-  reads-from zero k w p h s l = reads_none k w p (omega (arith, s.0)) l
-  reads-from (suc f) k w p h s l = elim (dec_lt k 8) [
+  reads_from : (f k w p : ℕ) → 8 ≤ k + f → Stands m k → w < 2 ^ (8 * k) → Reads k w p
+  reads_from zero k w p h s l = reads_none k w p (omega (arith, s.0)) l
+  reads_from (suc f) k w p h s l = elim (dec_lt k 8) [
     | yes i ↦
         let t = s.1 i in
         let L = level_at m k in
         let x = value_from (word_count L) 0 words p in
-        reads-one k w p i t l
-        (reads-from f (k + 2 ^ L) (new m k w x v i l) (p + word_count L) (omega (arith, pow_pos L)) (stands_next m k i t) (new_in m k w x v i l))
+        reads_one k w p i t l
+        (reads_from f (k + 2 ^ L) (new m k w x v i l) (p + word_count L) (omega (arith, pow_pos L)) (stands_next m k i t) (new_in m k w x v i l))
     | no i ↦ reads_none k w p (omega (arith, s.0)) l
   ]
 
-  pub read-fields : (p : ℕ) → let x = fields_sum (group_fields m) words p in (read_group m words p ≡ group_of m (record { word = x })) × (x < 2 ^ 64)
+  pub read_fields_lem : (p : ℕ) → let x = fields_sum (group_fields m) words p in (read_group m words p ≡ group_of m (record { word = x })) × (x < 2 ^ 64)
   unfolding read_group group_fields
-  read-fields p =
-      let r = reads-from 8 0 0 p (omega arith) (stands_first m) (omega arith) in
+  read_fields_lem p =
+      let r = reads_from 8 0 0 p (omega arith) (stands_first m) (omega arith) in
       let z = zero-add (fields_sum (slots_fields 8 0 m) words p) in
       (ap (λ (l : List ℕ). read_slots 8 0 (record { counts = l; merge = m }) words p) (sym counts_none) ∙ r.0 ∙ ap (λ (i : ℕ). group_of m (record { word = i })) z, omega (arith, r.1))
 

@@ -14,7 +14,7 @@ use Rattle.group.specs.Group.{changed}
 use Rattle.group_fields.proofs.Readings.{changed_merge}
 use Rattle.geometry.specs.Geometry.{stride}
 use Rattle.meter_memory.specs.Rows.{with_group}
-use Rattle.meter_memory.proofs.Lists.{back-front, back-behind}
+use Rattle.meter_memory.proofs.Lists.{back_front, back_behind}
 use Rattle.word.specs.Word.{payload}
 use Rattle.image_format.specs.Image.{word_count, level_at, is_first}
 use Rattle.image_format.specs.Write.{slot_size, group_size}
@@ -128,14 +128,14 @@ unfolding read_rows
 read_rows_end d r w memory words p e = rw (e, take-append-drop)
 
 module _ (d r w : ℕ) (memory ys words : List ℕ) (p size : ℕ) (e : size ≡ stride w) (h : r < d) (k : r * stride w + stride w ≤ length memory) (l : length ys ≡ stride w) where
-  pub read-rows-turn : ys ≡ read_fours (w / 32) 0 w (take (r * size + size - r * size) (drop (r * size) memory)) words p
+  pub read_rows_turn : ys ≡ read_fours (w / 32) 0 w (take (r * size + size - r * size) (drop (r * size) memory)) words p
       → rows_from d (r + 1) w (put_mid (r * size) (r * size + size - r * size) memory ys) words (after_fours (w / 32) words p) ≡ rows_from d r w memory words p
-  read-rows-turn f =
+  read_rows_turn f =
       let s = stride w in
       let a = r * s in
       let y : ys ≡ read_fours (w / 32) 0 w (take s (drop a memory)) words p = f ∙ ap (λ (z : List ℕ). read_fours (w / 32) 0 w z words p) (row_part memory r w size e) in
       let rest = read_rows (d - (r + 1)) w (drop ((r + 1) * s) memory) words (after_fours (w / 32) words p) in
       let done : rows_from d (r + 1) w (put_mid a (a + s - a) memory ys) words (after_fours (w / 32) words p) ≡ take a memory ++ (ys ++ rest)
-      = rw (back-front r s memory ys k l, back-behind r s memory ys k l) (append_assoc (take a memory) ys rest) in
+      = rw (back_front r s memory ys k l, back_behind r s memory ys k l) (append_assoc (take a memory) ys rest) in
       let left : read_rows (d - r) w (drop a memory) words p ≡ ys ++ rest = read_rows_step memory d r w words p h ∙ rw (← y) in
       ap (λ (z : ℕ). rows_from d (r + 1) w (put_mid (r * z) (r * z + z - r * z) memory ys) words (after_fours (w / 32) words p)) e ∙ done ∙ ap (λ (z : List ℕ). take a memory ++ z) (sym left)

@@ -36,12 +36,12 @@ pub record Slot (k : ℕ) (g h : Group) (words : List ℕ) (p : ℕ) (rest : Lis
 
 module _ (k : ℕ) (g h : Group) (words : List ℕ) (p : ℕ) (rest : List ℕ) (o : Good g) (q : Good h) (m : h.merge ≡ g.merge) (i : k < 8) (f : Agree k h g)
     (e : drop p words ≡ slot_words g k ++ rest) where
-  same-level : (read h k).level ≡ (read g k).level
-  same-level = level_by_merge h g k m
+  same_level : (read h k).level ≡ (read g k).level
+  same_level = level_by_merge h g k m
 
-  slot-first : is_first g.merge k ≡ true → Slot k g h words p rest
+  slot_first : is_first g.merge k ≡ true → Slot k g h words p rest
   unfolding check_slot
-  slot-first t =
+  slot_first t =
       let L = level_at g.merge k in
       let n = word_count L in
       let v = (read g k).value in
@@ -52,7 +52,7 @@ module _ (k : ℕ) (g h : Group) (words : List ℕ) (p : ℕ) (rest : List ℕ) 
       let th : is_first h.merge k ≡ true = ap (λ (x : ℕ). is_first x k) m ∙ t in
       let R : read_slot k h words p ≡ (changed h k v).group
       = sym (read_slot_first k h L n v words p (ap (λ (x : ℕ). level_at x k) (sym m)) th refl (sym (value_counter L v words p rest (level_at_le g.merge k) low d))) in
-      let vh : v % 2 ^ (8 * 2 ^ (read h k).level) ≡ v = mod-eq_of_lt {n = v} {m = 2 ^ (8 * 2 ^ (read h k).level)} (rw (same-level, l) low) in
+      let vh : v % 2 ^ (8 * 2 ^ (read h k).level) ≡ v = mod-eq_of_lt {n = v} {m = 2 ^ (8 * 2 ^ (read h k).level)} (rw (same_level, l) low) in
       record {
         checks = rw t (check_counter L v words p rest low d) ∙ ap (λ (x : ℕ). go (p + x)) z;
         after = rw (← z) (parts_after n v words p rest d);
@@ -60,11 +60,11 @@ module _ (k : ℕ) (g h : Group) (words : List ℕ) (p : ℕ) (rest : List ℕ) 
         agree = λ j l. up_to l
             (λ b. ap (λ (x : Group). read x j) R ∙ changed_before h k v j q i (first_is h k th) b ∙ f j b)
             (λ b. rw b (ap (λ (x : Group). read x k) R ∙ changed_at h k v q i
-            ∙ ap₂ (λ (x y : ℕ). record { status = 0; value = x; level = y }) vh same-level ∙ sym (accepted_reading g k o.merges)));
+            ∙ ap₂ (λ (x y : ℕ). record { status = 0; value = x; level = y }) vh same_level ∙ sym (accepted_reading g k o.merges)));
       }
 
-  slot-other : is_first g.merge k ≡ false → Slot k g h words p rest
-  slot-other t =
+  slot_other : is_first g.merge k ≡ false → Slot k g h words p rest
+  slot_other t =
       let z : p + slot_size g.merge k ≡ p = ap (λ (x : ℕ). p + x) (sym (size_other g.merge k t)) ∙ add-zero p in
       let th : is_first h.merge k ≡ false = ap (λ (x : ℕ). is_first x k) m ∙ t in
       let R = read_slot_other k h words p th in
@@ -79,8 +79,8 @@ module _ (k : ℕ) (g h : Group) (words : List ℕ) (p : ℕ) (rest : List ℕ) 
             (λ b. rw b (ap (λ (x : Group). read x k) R ∙ sh.1 ∙ f (k - 1) (omega (arith, sh.0)) ∙ sym sg.1));
       }
 
-  slot-restored : Slot k g h words p rest
-  slot-restored = cases (is_first g.merge k) slot-first slot-other
+  slot_restored : Slot k g h words p rest
+  slot_restored = cases (is_first g.merge k) slot_first slot_other
 
 -- slots that were written, read back
 pub record Slots (n k : ℕ) (g h : Group) (words : List ℕ) (p : ℕ) (rest : List ℕ) : Type 0 where
@@ -98,7 +98,7 @@ slots_restored zero k g h words p rest o q m i f e =
       is = readings_ext g h o q m (λ j l. f j (omega arith));
     }
 slots_restored (suc n) k g h words p rest o q m i f e =
-    let s = slot-restored k g h words p (slots_words n (k + 1) g ++ rest) o q m (omega arith) f (e ∙ append_assoc (slot_words g k) (slots_words n (k + 1) g) rest) in
+    let s = slot_restored k g h words p (slots_words n (k + 1) g ++ rest) o q m (omega arith) f (e ∙ append_assoc (slot_words g k) (slots_words n (k + 1) g) rest) in
     let z = slot_size g.merge k in
     let r = slots_restored n (k + 1) g (read_slot k h words p) words (p + z) rest o s.good (read_slot_merge k h words p ∙ m) (omega arith) s.agree s.after in
     let a = add_assoc p z (slots_size n (k + 1) g.merge) in

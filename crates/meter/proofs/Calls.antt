@@ -39,9 +39,9 @@ pub call_rows : (d w : ℕ) (memory key : List ℕ) → bad_call d w memory key 
 call_rows d w memory key e = shape_good d w (length memory) (call_good d w memory key e)
 
 module _ (d w : ℕ) (memory : List ℕ) where
-  pub cleared-bad : (s : ℕ) → s ≡ bad_shape d w (length memory) → (s ≡ 0 → ⊥) → (answer_of s 0 ≡ (cleared d w memory).answer) × (memory ≡ (cleared d w memory).memory)
+  pub cleared_bad : (s : ℕ) → s ≡ bad_shape d w (length memory) → (s ≡ 0 → ⊥) → (answer_of s 0 ≡ (cleared d w memory).answer) × (memory ≡ (cleared d w memory).memory)
   unfolding cleared
-  cleared-bad s e h = refusing s (bad_shape d w (length memory)) (replicate (length memory) 0) memory (sym e) h
+  cleared_bad s e h = refusing s (bad_shape d w (length memory)) (replicate (length memory) 0) memory (sym e) h
 
   pub cleared_good : bad_shape d w (length memory) ≡ 0 → (answer_of 0 0 ≡ (cleared d w memory).answer) × (replicate (length memory) 0 ≡ (cleared d w memory).memory)
   unfolding cleared
@@ -54,46 +54,46 @@ module _ (d w : ℕ) (memory : List ℕ) where
     after : List ℕ
     after = map_rows (update_row basis w key amount) (stride w) d 0 memory
 
-    pub updated-bad : (s : ℕ) → s ≡ bad_call d w memory key → (s ≡ 0 → ⊥)
+    pub updated_bad : (s : ℕ) → s ≡ bad_call d w memory key → (s ≡ 0 → ⊥)
         → (answer_of s 0 ≡ (updated d w memory key amount).answer) × (memory ≡ (updated d w memory key amount).memory)
     unfolding updated rows after
-    updated-bad s e h =
+    updated_bad s e h =
         refusing s (first_of (bad_call d w memory key ∷ rows ∷ [])) after memory (rw (← e) (first_stop s (rows ∷ []) h)) h
 
-    pub updated-rows : bad_call d w memory key ≡ 0 → (s : ℕ) (m : List ℕ) → s ≡ earliest (of_rows (update_status basis w key amount) (stride w) d 0 memory)
+    pub updated_rows : bad_call d w memory key ≡ 0 → (s : ℕ) (m : List ℕ) → s ≡ earliest (of_rows (update_status basis w key amount) (stride w) d 0 memory)
         → m ≡ cond (eqb s 0) (map_rows (update_row basis w key amount) (stride w) d 0 memory) memory
         → (answer_of s 0 ≡ (updated d w memory key amount).answer) × (m ≡ (updated d w memory key amount).memory)
     unfolding updated finish leaves rows after
-    updated-rows b s m e h =
+    updated_rows b s m e h =
         let t : first_of (bad_call d w memory key ∷ rows ∷ []) ≡ s = first_skip (bad_call d w memory key) (rows ∷ []) b ∙ first_one rows ∙ sym e in
         rw t (refl, h)
 
-    pub updated-good : bad_call d w memory key ≡ 0 → earliest (of_rows (update_status basis w key amount) (stride w) d 0 memory) ≡ 0
+    pub updated_good : bad_call d w memory key ≡ 0 → earliest (of_rows (update_status basis w key amount) (stride w) d 0 memory) ≡ 0
         → (answer_of 0 0 ≡ (updated d w memory key amount).answer)
         × (map_rows (update_row basis w key amount) (stride w) d 0 memory ≡ (updated d w memory key amount).memory)
     unfolding updated rows after
-    updated-good b e = accepting (first_of (bad_call d w memory key ∷ rows ∷ [])) after memory (first_skip (bad_call d w memory key) (rows ∷ []) b ∙ first_one rows ∙ e)
+    updated_good b e = accepting (first_of (bad_call d w memory key ∷ rows ∷ [])) after memory (first_skip (bad_call d w memory key) (rows ∷ []) b ∙ first_one rows ∙ e)
 
-  pub estimated-bad : (key : List ℕ) (s : ℕ) → s ≡ bad_call d w memory key → (s ≡ 0 → ⊥) → answer_of s 0 ≡ estimated d w memory key
+  pub estimated_bad : (key : List ℕ) (s : ℕ) → s ≡ bad_call d w memory key → (s ≡ 0 → ⊥) → answer_of s 0 ≡ estimated d w memory key
   unfolding estimated
-  estimated-bad key s e h =
+  estimated_bad key s e h =
       rw (← e, first_stop s (earliest (of_rows (read_status w key) (stride w) d 0 memory) ∷ []) h) (answer_bad s (least (of_rows (read_value w key) (stride w) d 0 memory)) h)
 
-  pub estimated-good : (key : List ℕ) → bad_call d w memory key ≡ 0
+  pub estimated_good : (key : List ℕ) → bad_call d w memory key ≡ 0
       → answer_of (earliest (of_rows (read_status w key) (stride w) d 0 memory)) (least (of_rows (read_value w key) (stride w) d 0 memory)) ≡ estimated d w memory key
   unfolding estimated
-  estimated-good key b =
+  estimated_good key b =
       rw (first_skip (bad_call d w memory key) (earliest (of_rows (read_status w key) (stride w) d 0 memory) ∷ []) b, first_one (earliest (of_rows (read_status w key) (stride w) d 0 memory)))
 
-  pub widest-bad : (s : ℕ) → s ≡ bad_shape d w (length memory) → (s ≡ 0 → ⊥) → answer_of s 0 ≡ widest d w memory
+  pub widest_bad : (s : ℕ) → s ≡ bad_shape d w (length memory) → (s ≡ 0 → ⊥) → answer_of s 0 ≡ widest d w memory
   unfolding widest
-  widest-bad s e h =
+  widest_bad s e h =
       rw (← e, first_stop s (earliest (of_rows (row_status w) (stride w) d 0 memory) ∷ []) h) (answer_bad s (largest (of_rows (row_level w) (stride w) d 0 memory)) h)
 
-  pub widest-good : bad_shape d w (length memory) ≡ 0
+  pub widest_good : bad_shape d w (length memory) ≡ 0
       → answer_of (earliest (of_rows (row_status w) (stride w) d 0 memory)) (largest (of_rows (row_level w) (stride w) d 0 memory)) ≡ widest d w memory
   unfolding widest
-  widest-good b =
+  widest_good b =
       rw (first_skip (bad_shape d w (length memory)) (earliest (of_rows (row_status w) (stride w) d 0 memory) ∷ []) b, first_one (earliest (of_rows (row_status w) (stride w) d 0 memory)))
 
   module _ (source : List ℕ) where
@@ -106,34 +106,34 @@ module _ (d w : ℕ) (memory : List ℕ) where
     sum : List ℕ
     sum = map_rows (source_added w source) (stride w) d 0 memory
 
-    pub united-bad : (s : ℕ) → s ≡ bad_shape d w (length memory) → (s ≡ 0 → ⊥) → (answer_of s 0 ≡ (united d w memory source).answer) × (memory ≡ (united d w memory source).memory)
+    pub united_bad : (s : ℕ) → s ≡ bad_shape d w (length memory) → (s ≡ 0 → ⊥) → (answer_of s 0 ≡ (united d w memory source).answer) × (memory ≡ (united d w memory source).memory)
     unfolding united sources tests sum
-    united-bad s e h = refusing s tests sum memory (rw (← e) (first_stop s (bad_length d w (length source) ∷ sources ∷ []) h)) h
+    united_bad s e h = refusing s tests sum memory (rw (← e) (first_stop s (bad_length d w (length source) ∷ sources ∷ []) h)) h
 
-    pub united-length : bad_shape d w (length memory) ≡ 0 → (length source ≡ length memory → ⊥)
+    pub united_length : bad_shape d w (length memory) ≡ 0 → (length source ≡ length memory → ⊥)
         → (answer_of 3 0 ≡ (united d w memory source).answer) × (memory ≡ (united d w memory source).memory)
     unfolding united sources tests sum
-    united-length b h =
+    united_length b h =
         let long : length memory ≡ size d w = (shape_good d w (length memory) b).1.2 in
         refusing 3 tests sum memory
         (first_skip (bad_shape d w (length memory)) (bad_length d w (length source) ∷ sources ∷ []) b
         ∙ rw (ne_eqb (length source) (size d w) (λ e. h (e ∙ sym long))) (first_stop 3 (sources ∷ []) (λ z. omega arith))) (λ z. omega arith)
 
-    united-tests : bad_shape d w (length memory) ≡ 0 → length source ≡ length memory → tests ≡ sources
+    united_tests : bad_shape d w (length memory) ≡ 0 → length source ≡ length memory → tests ≡ sources
     unfolding sources tests
-    united-tests b l =
+    united_tests b l =
         let long : length memory ≡ size d w = (shape_good d w (length memory) b).1.2 in
         first_skip (bad_shape d w (length memory)) (bad_length d w (length source) ∷ sources ∷ []) b
         ∙ first_skip (bad_length d w (length source)) (sources ∷ []) (rw (eq-eqb (length source) (size d w) (l ∙ long)))
         ∙ first_one sources
 
-    pub united-full : bad_shape d w (length memory) ≡ 0 → length source ≡ length memory
+    pub united_full : bad_shape d w (length memory) ≡ 0 → length source ≡ length memory
         → (s : ℕ) → s ≡ earliest (of_rows (source_status w source) (stride w) d 0 memory) → (s ≡ 0 → ⊥)
         → (answer_of s 0 ≡ (united d w memory source).answer) × (memory ≡ (united d w memory source).memory)
     unfolding united sources tests sum
-    united-full b l s e h = refusing s tests sum memory (united-tests b l ∙ sym e) h
+    united_full b l s e h = refusing s tests sum memory (united_tests b l ∙ sym e) h
 
-    pub united-good : bad_shape d w (length memory) ≡ 0 → length source ≡ length memory → earliest (of_rows (source_status w source) (stride w) d 0 memory) ≡ 0
+    pub united_good : bad_shape d w (length memory) ≡ 0 → length source ≡ length memory → earliest (of_rows (source_status w source) (stride w) d 0 memory) ≡ 0
         → (answer_of 0 0 ≡ (united d w memory source).answer) × (map_rows (source_added w source) (stride w) d 0 memory ≡ (united d w memory source).memory)
     unfolding united sources tests sum
-    united-good b l e = accepting tests sum memory (united-tests b l ∙ e)
+    united_good b l e = accepting tests sum memory (united_tests b l ∙ e)

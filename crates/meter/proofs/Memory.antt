@@ -26,11 +26,11 @@ use Rattle.meter_union.specs.Union.{united_at, unite_row}
 use Rattle.answer.proofs.Order.{first_one, none_first}
 use Rattle.geometry.proofs.Widths.{shape_good, slot_in, group_in}
 use Rattle.meter_memory.proofs.Groups.{eight_at}
-use Rattle.meter_memory.proofs.Written.{row_none, rows_after, length_after, rows_long, in_row, full-row, slot_length, slot-group, slot-other, pair-group, pairs-taken, pairs-long, pairs-row}
+use Rattle.meter_memory.proofs.Written.{row_none, rows_after, length_after, rows_long, in_row, full_row, slot_length, slot_group, slot_other, pair_group, pairs_taken, pairs_long, pairs_row}
 use Rattle.meter_keys.proofs.Landing.{key_in}
 use Rattle.meter.specs.Meter.{bad_call, row_of, cleared, updated, source_status, united}
 use Rattle.meter.specs.Valid.{Valid}
-use Rattle.meter.proofs.Calls.{call_good, cleared_good, updated-good, united-good}
+use Rattle.meter.proofs.Calls.{call_good, cleared_good, updated_good, united_good}
 
 -- an update keeps a row's length, writes the key's group and no other
 module _ (w : ℕ) (v : valid_width w ≡ true) (key : List ℕ) (amount r : ℕ) (row : List ℕ) (l : length row ≡ stride w) where
@@ -38,24 +38,24 @@ module _ (w : ℕ) (v : valid_width w ≡ true) (key : List ℕ) (amount r : ℕ
   unfolding added_in
   eight =
       let slot = key_slot basis w key r in
-      added_eight (group_at w row (slot / 8)) slot amount (eight_at w (slot / 8) row (in_row w v (slot / 8) row l (slot_in w slot v (key_in w key r v))).0 (full-row w v row l))
+      added_eight (group_at w row (slot / 8)) slot amount (eight_at w (slot / 8) row (in_row w v (slot / 8) row l (slot_in w slot v (key_in w key r v))).0 (full_row w v row l))
 
-  update-length : length (update_row basis w key amount r row) ≡ stride w
+  update_length : length (update_row basis w key amount r row) ≡ stride w
   unfolding update_row
-  update-length = slot_length w v row l (key_slot basis w key r) (key_in w key r v) (added_in w row (key_slot basis w key r) amount).group eight
+  update_length = slot_length w v row l (key_slot basis w key r) (key_in w key r v) (added_in w row (key_slot basis w key r) amount).group eight
 
-  pub update-group : group_at w (update_row basis w key amount r row) (key_slot basis w key r / 8) ≡ (added_in w row (key_slot basis w key r) amount).group
+  pub update_group : group_at w (update_row basis w key amount r row) (key_slot basis w key r / 8) ≡ (added_in w row (key_slot basis w key r) amount).group
   unfolding update_row
-  update-group = slot-group w v row l (key_slot basis w key r) (key_in w key r v) (added_in w row (key_slot basis w key r) amount).group eight
+  update_group = slot_group w v row l (key_slot basis w key r) (key_in w key r v) (added_in w row (key_slot basis w key r) amount).group eight
 
   pub update_other : (g : ℕ) → g < w / 8 → (g ≡ key_slot basis w key r / 8 → ⊥) → group_at w (update_row basis w key amount r row) g ≡ group_at w row g
   unfolding update_row
-  update_other = slot-other w v row l (key_slot basis w key r) (key_in w key r v) (added_in w row (key_slot basis w key r) amount).group eight
+  update_other = slot_other w v row l (key_slot basis w key r) (key_in w key r v) (added_in w row (key_slot basis w key r) amount).group eight
 
 -- a union writes each group's union
 pub unite_group : (w : ℕ) → valid_width w ≡ true → (source row : List ℕ) → length row ≡ stride w → (g : ℕ) → g < w / 8
     → group_at w (unite_row w source row) g ≡ (united_at w source row g).group
-unite_group w v source row l g h = pair-group w v united_groups united_eight source row l g h
+unite_group w v source row l g h = pair_group w v united_groups united_eight source row l g h
 
 update_tests : (d w : ℕ) (memory key : List ℕ) (amount : ℕ) → (updated d w memory key amount).answer.status ≡ 0
     → first_of (bad_call d w memory key ∷ earliest (of_rows (update_status basis w key amount) (stride w) d 0 memory) ∷ []) ≡ 0
@@ -77,8 +77,8 @@ update_accepted d w memory key amount e =
     let rows = sym (first_one (earliest (of_rows (update_status basis w key amount) (stride w) d 0 memory))) ∙ t.1 in
     let shape = call_good d w memory key t.0 in
     let p = (shape_good d w (length memory) shape).1 in
-    let after = (updated-good d w memory key amount t.0 rows).1 in
-    let keeps : (r : ℕ) (row : List ℕ) → length row ≡ stride w → length (update_row basis w key amount r row) ≡ stride w = update-length w p.0 key amount in
+    let after = (updated_good d w memory key amount t.0 rows).1 in
+    let keeps : (r : ℕ) (row : List ℕ) → length row ≡ stride w → length (update_row basis w key amount r row) ≡ stride w = update_length w p.0 key amount in
     record {
       good = shape;
       taken = λ r h. row_none (update_status basis w key amount) d w memory rows r h;
@@ -99,7 +99,7 @@ update_valid d w memory key amount e m =
           let l = rows_long d w memory p r h in
           rw (u.row r h)
           (elim (ℕ_discrete g (key_slot basis w key r / 8)) [
-            | yes z ↦ rw (z, update-group w p.0 key amount r (row_of w memory r) l) (added_valid _ _ _ (u.taken r h))
+            | yes z ↦ rw (z, update_group w p.0 key amount r (row_of w memory r) l) (added_valid _ _ _ (u.taken r h))
             | no n ↦ rw (update_other w p.0 key amount r (row_of w memory r) l g k n) (m.merges r g h k)
           ]);
     }
@@ -133,13 +133,13 @@ unite_accepted d w memory source e =
     let taken = sym (first_one rows) ∙ s.1 in
     let p = (shape_good d w (length memory) t.0).1 in
     let same : length source ≡ length memory = length_good d w (length source) s.0 ∙ sym p.2 in
-    let after = (united-good d w memory source t.0 same taken).1 in
+    let after = (united_good d w memory source t.0 same taken).1 in
     record {
       good = t.0;
       same = same;
-      taken = pairs-taken w p.0 united_groups united_eight d memory source p taken;
-      long = rw (← after) (pairs-long w p.0 united_groups united_eight d memory source p taken);
-      row = λ r h. rw (← after) (pairs-row w p.0 united_groups united_eight d memory source p taken r h);
+      taken = pairs_taken w p.0 united_groups united_eight d memory source p taken;
+      long = rw (← after) (pairs_long w p.0 united_groups united_eight d memory source p taken);
+      row = λ r h. rw (← after) (pairs_row w p.0 united_groups united_eight d memory source p taken r h);
     }
 
 pub unite_valid : (d w : ℕ) (memory source : List ℕ) → (united d w memory source).answer.status ≡ 0 → Valid d w memory → Valid d w (united d w memory source).memory

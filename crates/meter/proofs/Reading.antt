@@ -19,9 +19,9 @@ use Rattle.meter_row.specs.Row.{added_in, update_status, read_row}
 use Rattle.meter_memory.proofs.Agree.{reads_same}
 use Rattle.geometry.proofs.Widths.{shape_good}
 use Rattle.meter.specs.Meter.{bad_call, updated, read_status, read_value, estimated}
-use Rattle.meter.proofs.Calls.{updated-rows, estimated-good}
+use Rattle.meter.proofs.Calls.{updated_rows, estimated_good}
 use Rattle.meter.proofs.Slots.{left_value}
-use Rattle.meter.proofs.Memory.{Updated, update_accepted, update-group}
+use Rattle.meter.proofs.Memory.{Updated, update_accepted, update_group}
 use Rattle.meter_memory.proofs.Written.{rows_long}
 
 zeros : (s n r : ℕ) (memory : List ℕ) → earliest (of_rows (λ (r : ℕ) (row : List ℕ). 0) s n r memory) ≡ 0
@@ -32,7 +32,7 @@ zeros s (suc n) r memory = zeros s n (r + 1) (drop s memory)
 -- an update's status by that of its rows, and its answer by its status
 pub rows_status : (d w : ℕ) (memory key : List ℕ) (amount s : ℕ) → bad_call d w memory key ≡ 0
     → s ≡ earliest (of_rows (update_status basis w key amount) (stride w) d 0 memory) → s ≡ (updated d w memory key amount).answer.status
-rows_status d w memory key amount s b e = sym (status_is s 0) ∙ ap (λ (a : Answer). a.status) (updated-rows d w memory key amount b s _ e refl).0
+rows_status d w memory key amount s b e = sym (status_is s 0) ∙ ap (λ (a : Answer). a.status) (updated_rows d w memory key amount b s _ e refl).0
 
 pub answer_by_status : (d w : ℕ) (memory key : List ℕ) (amount : ℕ) → answer_of (updated d w memory key amount).answer.status 0 ≡ (updated d w memory key amount).answer
 unfolding updated finish
@@ -52,42 +52,42 @@ module _ (d w : ℕ) (memory key : List ℕ) (amount : ℕ) (e : (updated d w me
   accepted = update_accepted d w memory key amount e
 
   -- the group of the key's slot in a row that is left
-  row-group : (r : ℕ) → r < d
+  row_group : (r : ℕ) → r < d
       → group_at w (row_of w (updated d w memory key amount).memory r) (key_slot basis w key r / 8) ≡ (added_in w (row_of w memory r) (key_slot basis w key r) amount).group
   unfolding added_in
-  row-group r h =
+  row_group r h =
       let p = (shape_good d w (length memory) accepted.good).1 in
       ap (λ (x : List ℕ). group_at w x (key_slot basis w key r / 8)) (accepted.row r h)
-      ∙ update-group w p.0 key amount r (row_of w memory r) (rows_long d w memory p r h)
+      ∙ update_group w p.0 key amount r (row_of w memory r) (rows_long d w memory p r h)
 
-  row-status : (r : ℕ) → r < d → read_status w key r (row_of w (updated d w memory key amount).memory r) ≡ 0
+  row_status : (r : ℕ) → r < d → read_status w key r (row_of w (updated d w memory key amount).memory r) ≡ 0
   unfolding read_status read_row added_in
-  row-status r h =
+  row_status r h =
       let slot = key_slot basis w key r in
-      ap (λ (g : Group). (read g slot).status) (row-group r h) ∙ read_added (group_at w (row_of w memory r) (slot / 8)) slot amount (accepted.taken r h)
+      ap (λ (g : Group). (read g slot).status) (row_group r h) ∙ read_added (group_at w (row_of w memory r) (slot / 8)) slot amount (accepted.taken r h)
 
   statuses : earliest (of_rows (read_status w key) (stride w) d 0 (updated d w memory key amount).memory) ≡ 0
   unfolding row_of
   statuses =
       let after = (updated d w memory key amount).memory in
-      ap earliest (reads_same (stride w) (read_status w key) (λ (r : ℕ) (row : List ℕ). 0) d 0 after after (λ k h. rw (zero-add k) (row-status k h)))
+      ap earliest (reads_same (stride w) (read_status w key) (λ (r : ℕ) (row : List ℕ). 0) d 0 after after (λ k h. rw (zero-add k) (row_status k h)))
       ∙ zeros (stride w) d 0 after
 
   values : of_rows (left_value w key amount) (stride w) d 0 memory ≡ of_rows (read_value w key) (stride w) d 0 (updated d w memory key amount).memory
   unfolding row_of read_value read_row
   values =
       reads_same (stride w) (left_value w key amount) (read_value w key) d 0 memory (updated d w memory key amount).memory
-      (λ k h. rw (zero-add k) (ap (λ (g : Group). (read g (key_slot basis w key k)).value) (sym (row-group k h))))
+      (λ k h. rw (zero-add k) (ap (λ (g : Group). (read g (key_slot basis w key k)).value) (sym (row_group k h))))
 
   -- the least value that is left is the estimate of the memory as a caller has it
-  pub value-left : (m : List ℕ) (v : ℕ) → bad_call d w memory key ≡ 0 → m ≡ (updated d w memory key amount).memory
+  pub value_left : (m : List ℕ) (v : ℕ) → bad_call d w memory key ≡ 0 → m ≡ (updated d w memory key amount).memory
       → v ≡ least (of_rows (left_value w key amount) (stride w) d 0 memory) → v ≡ (estimated d w m key).value
   unfolding answer_of
-  value-left m v b is h =
+  value_left m v b is h =
       let after = (updated d w memory key amount).memory in
       let least-read = least (of_rows (read_value w key) (stride w) d 0 after) in
       rw is
       (h
       ∙ ap least values
       ∙ ap (λ (x : Answer). x.value)
-      (ap (λ (s : ℕ). answer_of s least-read) (sym statuses) ∙ estimated-good d w after key (call_same d w memory after key accepted.long b)))
+      (ap (λ (s : ℕ). answer_of s least-read) (sym statuses) ∙ estimated_good d w after key (call_same d w memory after key accepted.long b)))

@@ -14,7 +14,7 @@ use Rattle.meter_memory.specs.Rows.{of_rows, group_at}
 use Rattle.meter_keys.specs.Keys.{key_slot}
 use Rattle.meter_row.specs.Row.{added_in, update_status, read_row}
 use Rattle.meter.specs.Meter.{bad_call, updated, read_status, estimated}
-use Rattle.meter.proofs.Calls.{updated-rows, estimated-good}
+use Rattle.meter.proofs.Calls.{updated_rows, estimated_good}
 
 -- of two groups
 with_next : {a b s t : ℕ} → Statuses a b → Statuses s t → Statuses (earlier a s) (earlier b t)
@@ -51,8 +51,8 @@ in_row w key amount r row = added_read (group_at w row (key_slot basis w key r /
 pub refused_as_estimated : (d w : ℕ) (memory key : List ℕ) (amount line : ℕ) → bad_call d w memory key ≡ 0 → (line ≡ 5) ⊎ (line ≡ 11)
     → earlier (updated d w memory key amount).answer.status line ≡ earlier (estimated d w memory key).status line
 refused_as_estimated d w memory key amount line b l =
-    let u = (updated-rows d w memory key amount b (earliest (of_rows (update_status basis w key amount) (stride w) d 0 memory)) _ refl refl).0 in
-    let v = estimated-good d w memory key b in
+    let u = (updated_rows d w memory key amount b (earliest (of_rows (update_status basis w key amount) (stride w) d 0 memory)) _ refl refl).0 in
+    let v = estimated_good d w memory key b in
     ap (λ (a : Answer). earlier a.status line) (sym u)
     ∙ ap (λ (s : ℕ). earlier s line) (status_is _ 0)
     ∙ same_line (of_rows_lem (update_status basis w key amount) (read_status w key) (in_row w key amount) (stride w) d 0 memory) line l

@@ -36,40 +36,40 @@ module _ (d w : ℕ) (memory key slots : List ℕ) {state : ℕ} (start : state 
   slot_at k h = are (0 + k) (omega arith) ∙ ap (λ (s : ℕ). key_slot s w key (0 + k)) start
 
   -- what is read and written by the slots of the rows is by the key: for any operation on a slot of a row
-  pub reads-by-key : (f : ℕ → List ℕ → ℕ)
+  pub reads_by_key : (f : ℕ → List ℕ → ℕ)
       → of_rows (λ (r : ℕ) (row : List ℕ). f (get_or slots r 0) row) (stride w) d 0 memory
       ≡ of_rows (λ (r : ℕ) (row : List ℕ). f (key_slot basis w key r) row) (stride w) d 0 memory
-  reads-by-key f =
+  reads_by_key f =
       reads_same (stride w) (λ (r : ℕ) (row : List ℕ). f (get_or slots r 0) row) (λ (r : ℕ) (row : List ℕ). f (key_slot basis w key r) row) d 0 memory memory
       (λ k h. ap (λ (s : ℕ). f s (take (stride w) (drop (k * stride w) memory))) (slot_at k h))
 
-  pub maps-by-key : (f : ℕ → List ℕ → List ℕ)
+  pub maps_by_key : (f : ℕ → List ℕ → List ℕ)
       → map_rows (λ (r : ℕ) (row : List ℕ). f (get_or slots r 0) row) (stride w) d 0 memory
       ≡ map_rows (λ (r : ℕ) (row : List ℕ). f (key_slot basis w key r) row) (stride w) d 0 memory
-  maps-by-key f =
+  maps_by_key f =
       maps_same (stride w) (λ (r : ℕ) (row : List ℕ). f (get_or slots r 0) row) (λ (r : ℕ) (row : List ℕ). f (key_slot basis w key r) row) d 0 memory
       (λ k h. ap (λ (s : ℕ). f s (take (stride w) (drop (k * stride w) memory))) (slot_at k h))
 
-  pub status-by-key : (amount : ℕ)
+  pub status_by_key : (amount : ℕ)
       → earliest (of_rows (added_status w slots amount) (stride w) d 0 memory) ≡ earliest (of_rows (update_status basis w key amount) (stride w) d 0 memory)
   unfolding update_status
-  status-by-key amount = ap earliest (reads-by-key (λ (s : ℕ) (row : List ℕ). (added_in w row s amount).status))
+  status_by_key amount = ap earliest (reads_by_key (λ (s : ℕ) (row : List ℕ). (added_in w row s amount).status))
 
-  pub added-by-key : (amount : ℕ)
+  pub added_by_key : (amount : ℕ)
       → map_rows (slot_added w slots amount) (stride w) d 0 memory ≡ map_rows (update_row basis w key amount) (stride w) d 0 memory
   unfolding update_row
-  added-by-key amount = maps-by-key (λ (s : ℕ) (row : List ℕ). added_row w row s amount)
+  added_by_key amount = maps_by_key (λ (s : ℕ) (row : List ℕ). added_row w row s amount)
 
-  pub left-by-key : (amount : ℕ) → least (of_rows (added_value w slots amount) (stride w) d 0 memory) ≡ least (of_rows (left_value w key amount) (stride w) d 0 memory)
-  left-by-key amount = ap least (reads-by-key (λ (s : ℕ) (row : List ℕ). (read (added_in w row s amount).group s).value))
+  pub left_by_key : (amount : ℕ) → least (of_rows (added_value w slots amount) (stride w) d 0 memory) ≡ least (of_rows (left_value w key amount) (stride w) d 0 memory)
+  left_by_key amount = ap least (reads_by_key (λ (s : ℕ) (row : List ℕ). (read (added_in w row s amount).group s).value))
 
-  pub read-status-by-key : earliest (of_rows (slot_status w slots) (stride w) d 0 memory) ≡ earliest (of_rows (read_status w key) (stride w) d 0 memory)
+  pub read_status_by_key : earliest (of_rows (slot_status w slots) (stride w) d 0 memory) ≡ earliest (of_rows (read_status w key) (stride w) d 0 memory)
   unfolding read_status read_row
-  read-status-by-key = ap earliest (reads-by-key (λ (s : ℕ) (row : List ℕ). (read (group_at w row (s / 8)) s).status))
+  read_status_by_key = ap earliest (reads_by_key (λ (s : ℕ) (row : List ℕ). (read (group_at w row (s / 8)) s).status))
 
-  pub read-value-by-key : least (of_rows (slot_value w slots) (stride w) d 0 memory) ≡ least (of_rows (read_value w key) (stride w) d 0 memory)
+  pub read_value_by_key : least (of_rows (slot_value w slots) (stride w) d 0 memory) ≡ least (of_rows (read_value w key) (stride w) d 0 memory)
   unfolding read_value read_row
-  read-value-by-key = ap least (reads-by-key (λ (s : ℕ) (row : List ℕ). (read (group_at w row (s / 8)) s).value))
+  read_value_by_key = ap least (reads_by_key (λ (s : ℕ) (row : List ℕ). (read (group_at w row (s / 8)) s).value))
 
 -- the same of a meter of one row, by its one slot
 pub one_long : (d w bytes : ℕ) → d ≡ 1 → bytes ≡ size d w → bytes ≡ stride w
@@ -77,37 +77,37 @@ unfolding size
 one_long d w bytes one l = l ∙ ap (λ (n : ℕ). n * stride w) one ∙ one-mul (stride w)
 
 module _ (d w : ℕ) (memory key : List ℕ) (one : d ≡ 1) (long : length memory ≡ stride w) {state slot : ℕ} (start : state ≡ basis) (at : slot ≡ key_slot state w key 0) where
-  at-basis : slot ≡ key_slot basis w key 0
-  at-basis = at ∙ ap (λ (s : ℕ). key_slot s w key 0) start
+  at_basis : slot ≡ key_slot basis w key 0
+  at_basis = at ∙ ap (λ (s : ℕ). key_slot s w key 0) start
 
-  one-earliest : (f : ℕ → List ℕ → ℕ) → f 0 memory ≡ earliest (of_rows f (stride w) d 0 memory)
+  one_earliest : (f : ℕ → List ℕ → ℕ) → f 0 memory ≡ earliest (of_rows f (stride w) d 0 memory)
   unfolding earliest
-  one-earliest f =
+  one_earliest f =
       sym (earlier_none (f 0 memory)) ∙ ap earliest (sym (one_read f (stride w) memory long)) ∙ ap (λ (n : ℕ). earliest (of_rows f (stride w) n 0 memory)) (sym one)
 
-  pub one-status : (amount : ℕ) → (added_in w memory slot amount).status ≡ earliest (of_rows (update_status basis w key amount) (stride w) d 0 memory)
+  pub one_status : (amount : ℕ) → (added_in w memory slot amount).status ≡ earliest (of_rows (update_status basis w key amount) (stride w) d 0 memory)
   unfolding update_status
-  one-status amount = ap (λ (s : ℕ). (added_in w memory s amount).status) at-basis ∙ one-earliest (update_status basis w key amount)
+  one_status amount = ap (λ (s : ℕ). (added_in w memory s amount).status) at_basis ∙ one_earliest (update_status basis w key amount)
 
-  pub one-added : (amount : ℕ)
+  pub one_added : (amount : ℕ)
       → added_row w memory slot amount ≡ map_rows (update_row basis w key amount) (stride w) d 0 memory
   unfolding update_row
-  one-added amount =
-      ap (λ (s : ℕ). added_row w memory s amount) at-basis
+  one_added amount =
+      ap (λ (s : ℕ). added_row w memory s amount) at_basis
       ∙ sym (one_map (update_row basis w key amount) (stride w) memory long)
       ∙ ap (λ (n : ℕ). map_rows (update_row basis w key amount) (stride w) n 0 memory) (sym one)
 
-  pub one-read-status : (read (group_at w memory (slot / 8)) slot).status ≡ earliest (of_rows (read_status w key) (stride w) d 0 memory)
+  pub one_read_status : (read (group_at w memory (slot / 8)) slot).status ≡ earliest (of_rows (read_status w key) (stride w) d 0 memory)
   unfolding read_status read_row
-  one-read-status = ap (λ (s : ℕ). (read (group_at w memory (s / 8)) s).status) at-basis ∙ one-earliest (read_status w key)
+  one_read_status = ap (λ (s : ℕ). (read (group_at w memory (s / 8)) s).status) at_basis ∙ one_earliest (read_status w key)
 
-  one-least : (f : ℕ → List ℕ → ℕ) → f 0 memory ≡ least (of_rows f (stride w) d 0 memory)
+  one_least : (f : ℕ → List ℕ → ℕ) → f 0 memory ≡ least (of_rows f (stride w) d 0 memory)
   unfolding least least_or
-  one-least f = ap least (sym (one_read f (stride w) memory long)) ∙ ap (λ (n : ℕ). least (of_rows f (stride w) n 0 memory)) (sym one)
+  one_least f = ap least (sym (one_read f (stride w) memory long)) ∙ ap (λ (n : ℕ). least (of_rows f (stride w) n 0 memory)) (sym one)
 
   pub one_left : (amount : ℕ) → (read (added_in w memory slot amount).group slot).value ≡ least (of_rows (left_value w key amount) (stride w) d 0 memory)
-  one_left amount = ap (λ (s : ℕ). (read (added_in w memory s amount).group s).value) at-basis ∙ one-least (left_value w key amount)
+  one_left amount = ap (λ (s : ℕ). (read (added_in w memory s amount).group s).value) at_basis ∙ one_least (left_value w key amount)
 
-  pub one-read-value : (read (group_at w memory (slot / 8)) slot).value ≡ least (of_rows (read_value w key) (stride w) d 0 memory)
+  pub one_read_value : (read (group_at w memory (slot / 8)) slot).value ≡ least (of_rows (read_value w key) (stride w) d 0 memory)
   unfolding read_value read_row
-  one-read-value = ap (λ (s : ℕ). (read (group_at w memory (s / 8)) s).value) at-basis ∙ one-least (read_value w key)
+  one_read_value = ap (λ (s : ℕ). (read (group_at w memory (s / 8)) s).value) at_basis ∙ one_least (read_value w key)

@@ -13,14 +13,14 @@ use Rattle.meter_memory.specs.Rows.{map_rows, group_at, with_group}
 
 module _ (f : ℕ → List ℕ → List ℕ) (stride : ℕ) (keeps : (r : ℕ) (row : List ℕ) → length row ≡ stride → length (f r row) ≡ stride) where
   -- each row of the result is what f makes of that row
-  pub row-mapped : (n r k : ℕ) (memory : List ℕ) → k < n → n * stride ≤ length memory
+  pub row_mapped : (n r k : ℕ) (memory : List ℕ) → k < n → n * stride ≤ length memory
       → take stride (drop (k * stride) (map_rows f stride n r memory)) ≡ f (r + k) (take stride (drop (k * stride) memory))
   unfolding map_rows
-  row-mapped zero r k memory h l = absurd (omega arith)
-  row-mapped (suc n) r zero memory h l =
+  row_mapped zero r k memory h l = absurd (omega arith)
+  row_mapped (suc n) r zero memory h l =
       let first = keeps r (take stride memory) (length-take-le stride memory (omega (arith, suc-mul n stride))) in
       rw (zero-mul stride, add-zero r, take_at (f r (take stride memory)) (map_rows f stride n (r + 1) (drop stride memory)) stride first)
-  row-mapped (suc n) r (suc k) memory h l =
+  row_mapped (suc n) r (suc k) memory h l =
       let first = keeps r (take stride memory) (length-take-le stride memory (omega (arith, suc-mul n stride))) in
       let rest = map_rows f stride n (r + 1) (drop stride memory) in
       let at : suc k * stride ≡ stride + k * stride = omega (arith, suc-mul k stride) in
@@ -30,19 +30,19 @@ module _ (f : ℕ → List ℕ → List ℕ) (stride : ℕ) (keeps : (r : ℕ) (
         index,
         ← drop-drop (k * stride) stride (f r (take stride memory) ++ rest),
         drop_at (f r (take stride memory)) rest stride first,
-        row-mapped n (r + 1) k (drop stride memory) (omega arith) (rw (length-drop stride memory) (omega (arith, suc-mul n stride))),
+        row_mapped n (r + 1) k (drop stride memory) (omega arith) (rw (length-drop stride memory) (omega (arith, suc-mul n stride))),
         drop-drop (k * stride) stride memory,
       )
 
-  pub length-mapped : (n r : ℕ) (memory : List ℕ) → n * stride ≤ length memory → length (map_rows f stride n r memory) ≡ length memory
+  pub length_mapped : (n r : ℕ) (memory : List ℕ) → n * stride ≤ length memory → length (map_rows f stride n r memory) ≡ length memory
   unfolding map_rows
-  length-mapped zero r memory l = refl
-  length-mapped (suc n) r memory l =
+  length_mapped zero r memory l = refl
+  length_mapped (suc n) r memory l =
       let first = keeps r (take stride memory) (length-take-le stride memory (omega (arith, suc-mul n stride))) in
       rw (
         length-append (f r (take stride memory)) (map_rows f stride n (r + 1) (drop stride memory)),
         first,
-        length-mapped n (r + 1) (drop stride memory) (rw (length-drop stride memory) (omega (arith, suc-mul n stride))),
+        length_mapped n (r + 1) (drop stride memory) (rw (length-drop stride memory) (omega (arith, suc-mul n stride))),
         length-drop stride memory,
       )
       (omega (arith, suc-mul n stride))
@@ -63,13 +63,13 @@ module _ (w : ℕ) (row : List ℕ) (g : ℕ) (x : Group) (eight : length x.coun
   both : length (take (8 * g) row ++ x.counts) ≡ 8 * g + 8
   both = rw (length-append (take (8 * g) row) x.counts, front, eight)
 
-  length-pasted : length pasted ≡ length row
+  length_pasted : length pasted ≡ length row
   unfolding pasted
-  length-pasted = rw (length-append (take (8 * g) row ++ x.counts) (drop (8 * g + 8) row), both, length-drop (8 * g + 8) row) (omega arith)
+  length_pasted = rw (length-append (take (8 * g) row ++ x.counts) (drop (8 * g + 8) row), both, length-drop (8 * g + 8) row) (omega arith)
 
-  pub length-with : length (with_group w row g x) ≡ length row
+  pub length_with : length (with_group w row g x) ≡ length row
   unfolding with_group pasted
-  length-with = length-set pasted (w + g) x.merge ∙ length-pasted
+  length_with = length-set pasted (w + g) x.merge ∙ length_pasted
 
   -- the merge byte lies past all count bytes
   past : (k : ℕ) → 8 * k + 8 ≤ w → take 8 (drop (8 * k) (set pasted (w + g) x.merge)) ≡ take 8 (drop (8 * k) pasted)
@@ -90,42 +90,42 @@ module _ (w : ℕ) (row : List ℕ) (g : ℕ) (x : Group) (eight : length x.coun
       ∙ ap (λ (l : List ℕ). take 8 (drop (8 * g) l)) (append_assoc (take (8 * g) row) x.counts (drop (8 * g + 8) row))
       ∙ ap (take 8) (drop_at (take (8 * g) row) (x.counts ++ drop (8 * g + 8) row) (8 * g) front)
       ∙ take_at x.counts (drop (8 * g + 8) row) 8 eight in
-      let byte : get_or (set pasted (w + g) x.merge) (w + g) 0 ≡ x.merge = get_or-set_same pasted (w + g) x.merge 0 (rw length-pasted merge) in
+      let byte : get_or (set pasted (w + g) x.merge) (w + g) 0 ≡ x.merge = get_or-set_same pasted (w + g) x.merge 0 (rw length_pasted merge) in
       rw (eight_of, byte)
 
-  counts-before : (k : ℕ) → k < g → take 8 (drop (8 * k) pasted) ≡ take 8 (drop (8 * k) row)
+  counts_before : (k : ℕ) → k < g → take 8 (drop (8 * k) pasted) ≡ take 8 (drop (8 * k) row)
   unfolding pasted
-  counts-before k h =
+  counts_before k h =
       let inside : 8 * k + 8 ≤ length (take (8 * g) row) = rw front (omega arith) in
       ap (λ (l : List ℕ). take 8 (drop (8 * k) l)) (append_assoc (take (8 * g) row) x.counts (drop (8 * g + 8) row))
       ∙ front_part (take (8 * g) row) (x.counts ++ drop (8 * g + 8) row) (8 * k) inside
       ∙ sym (front_part (take (8 * g) row) (drop (8 * g) row) (8 * k) inside)
       ∙ ap (λ (l : List ℕ). take 8 (drop (8 * k) l)) (take-append-drop (8 * g) row)
 
-  counts-after : (k : ℕ) → g < k → drop (8 * k) pasted ≡ drop (8 * k) row
-  counts-after k h =
+  counts_after : (k : ℕ) → g < k → drop (8 * k) pasted ≡ drop (8 * k) row
+  counts_after k h =
       let j = 8 * k - (8 * g + 8) in
       let e : 8 * k ≡ 8 * g + 8 + j = omega arith in
       rw (e, ← drop-drop j (8 * g + 8) pasted, after, drop-drop j (8 * g + 8) row)
 
-  merge-other : (k : ℕ) → get_or pasted (w + k) 0 ≡ get_or row (w + k) 0
-  merge-other k =
+  merge_other : (k : ℕ) → get_or pasted (w + k) 0 ≡ get_or row (w + k) 0
+  merge_other k =
       let j = w + k - (8 * g + 8) in
       let e : w + k ≡ 8 * g + 8 + j = omega arith in
       rw (e, ← get_or-drop (8 * g + 8) pasted j 0, after) (get_or-drop (8 * g + 8) row j 0)
 
   -- a group that keeps its merge byte
-  pub with-counts : x.merge ≡ get_or row (w + g) 0 → with_group w row g x ≡ take (8 * g) row ++ x.counts ++ drop (8 * g + 8) row
+  pub with_counts : x.merge ≡ get_or row (w + g) 0 → with_group w row g x ≡ take (8 * g) row ++ x.counts ++ drop (8 * g + 8) row
   unfolding with_group pasted
-  with-counts e = rw (e ∙ sym (merge-other g)) (set-get_or pasted (w + g) 0)
+  with_counts e = rw (e ∙ sym (merge_other g)) (set-get_or pasted (w + g) 0)
 
-  pub group-other : (k : ℕ) → 8 * k + 8 ≤ w → (k ≡ g → ⊥) → group_at w (with_group w row g x) k ≡ group_at w row k
+  pub group_other : (k : ℕ) → 8 * k + 8 ≤ w → (k ≡ g → ⊥) → group_at w (with_group w row g x) k ≡ group_at w row k
   unfolding group_at with_group pasted
-  group-other k h n =
+  group_other k h n =
       let byte : get_or (set pasted (w + g) x.merge) (w + k) 0 ≡ get_or row (w + k) 0 =
-      get_or-set_other pasted (w + g) (w + k) x.merge 0 (λ e. n (omega arith)) ∙ merge-other k in
+      get_or-set_other pasted (w + g) (w + k) x.merge 0 (λ e. n (omega arith)) ∙ merge_other k in
       let eight_of : take 8 (drop (8 * k) (set pasted (w + g) x.merge)) ≡ take 8 (drop (8 * k) row) =
-      past k h ∙ elim (dec_lt k g) [ yes l ↦ counts-before k l | no m ↦ ap (take 8) (counts-after k (lt_of_le-ne (omega arith) (λ e. n (sym e)))) ] in
+      past k h ∙ elim (dec_lt k g) [ yes l ↦ counts_before k l | no m ↦ ap (take 8) (counts_after k (lt_of_le-ne (omega arith) (λ e. n (sym e)))) ] in
       rw (eight_of, byte)
 
 -- count bytes of a group that lies in the row

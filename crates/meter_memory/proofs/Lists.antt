@@ -45,35 +45,35 @@ module _ (r stride : ℕ) (memory ys : List ℕ) (k : r * stride + stride ≤ le
       ap (λ (z : List ℕ). take (r * stride) memory ++ (ys ++ z)) (Post-is (r * stride) (r * stride + stride) memory (omega arith))
       ∙ sym (append_assoc (take (r * stride) memory) ys (drop (r * stride + stride) memory))
 
-  pub back-front : take ((r + 1) * stride) (put_mid (r * stride) (r * stride + stride - r * stride) memory ys) ≡ take (r * stride) memory ++ ys
-  back-front = rw (back, next_row r stride) (take_at (take (r * stride) memory ++ ys) (drop (r * stride + stride) memory) (r * stride + stride) front_length)
+  pub back_front : take ((r + 1) * stride) (put_mid (r * stride) (r * stride + stride - r * stride) memory ys) ≡ take (r * stride) memory ++ ys
+  back_front = rw (back, next_row r stride) (take_at (take (r * stride) memory ++ ys) (drop (r * stride + stride) memory) (r * stride + stride) front_length)
 
-  pub back-behind : drop ((r + 1) * stride) (put_mid (r * stride) (r * stride + stride - r * stride) memory ys) ≡ drop ((r + 1) * stride) memory
-  back-behind = rw (back, next_row r stride) (drop_at (take (r * stride) memory ++ ys) (drop (r * stride + stride) memory) (r * stride + stride) front_length)
+  pub back_behind : drop ((r + 1) * stride) (put_mid (r * stride) (r * stride + stride - r * stride) memory ys) ≡ drop ((r + 1) * stride) memory
+  back_behind = rw (back, next_row r stride) (drop_at (take (r * stride) memory ++ ys) (drop (r * stride + stride) memory) (r * stride + stride) front_length)
 
   -- rows behind it are still those of an earlier memory
-  pub behind-kept : (before : List ℕ) → drop (r * stride) memory ≡ drop (r * stride) before
+  pub behind_kept : (before : List ℕ) → drop (r * stride) memory ≡ drop (r * stride) before
       → drop ((r + 1) * stride) (put_mid (r * stride) (r * stride + stride - r * stride) memory ys) ≡ drop ((r + 1) * stride) before
-  behind-kept before e = back-behind ∙ sym (drop_row memory r stride) ∙ ap (drop stride) e ∙ drop_row before r stride
+  behind_kept before e = back_behind ∙ sym (drop_row memory r stride) ∙ ap (drop stride) e ∙ drop_row before r stride
 
 -- rows read one by one
 module _ {A : Type 0} (f : ℕ → List ℕ → A) (stride : ℕ) where
-  pub rows-read : (d r : ℕ) (memory : List ℕ) → r < d
+  pub rows_read : (d r : ℕ) (memory : List ℕ) → r < d
       → of_rows f stride (d - r) r (drop (r * stride) memory)
       ≡ f r (take stride (drop (r * stride) memory)) ∷ of_rows f stride (d - (r + 1)) (r + 1) (drop ((r + 1) * stride) memory)
   unfolding of_rows
-  rows-read d r memory h =
+  rows_read d r memory h =
       let e : d - r ≡ suc (d - (r + 1)) = omega arith in
       rw (e, drop-drop stride (r * stride) memory, next_row r stride)
 
-  pub rows-read-none : (d r : ℕ) (memory : List ℕ) → d ≤ r → of_rows f stride (d - r) r memory ≡ []
+  pub rows_read_none : (d r : ℕ) (memory : List ℕ) → d ≤ r → of_rows f stride (d - r) r memory ≡ []
   unfolding of_rows
-  rows-read-none d r memory h =
+  rows_read_none d r memory h =
       let e : d - r ≡ 0 = omega arith in
       rw e
 
-  pub rows-read-all : (d : ℕ) (memory : List ℕ) → of_rows f stride (d - 0) 0 (drop (0 * stride) memory) ≡ of_rows f stride d 0 memory
-  rows-read-all d memory = rw (zero-mul, sub-zero)
+  pub rows_read_all : (d : ℕ) (memory : List ℕ) → of_rows f stride (d - 0) 0 (drop (0 * stride) memory) ≡ of_rows f stride d 0 memory
+  rows_read_all d memory = rw (zero-mul, sub-zero)
 
 -- rows written one by one
 module _ (f : ℕ → List ℕ → List ℕ) (stride : ℕ) where
@@ -96,8 +96,8 @@ module _ (f : ℕ → List ℕ → List ℕ) (stride : ℕ) where
   rows_turn d r memory ys h k l e =
       let n : d - r - 1 ≡ d - (r + 1) = omega arith in
       rw (
-        back-front r stride memory ys k l,
-        back-behind r stride memory ys k l,
+        back_front r stride memory ys k l,
+        back_behind r stride memory ys k l,
         rows_more (d - r) r (drop (r * stride) memory) (omega arith),
         n,
         drop_row memory r stride,
@@ -144,21 +144,21 @@ status_run f (suc k) n g h =
     (earlier_assoc (f g) (earliest (of_groups f k (g + 1))) (earliest (of_groups f (n - (g + 1 + k)) (g + 1 + k))) ∙ ap (earlier (f g)) (status_run f k n (g + 1) (omega arith)))
 
 module _ (f : ℕ → ℕ) (n g : ℕ) where
-  pub status-turn : (s x : ℕ) → g < n → x ≡ f g → earlier (earlier s x) (earliest (of_groups f (n - (g + 1)) (g + 1))) ≡ earlier s (earliest (of_groups f (n - g) g))
+  pub status_turn : (s x : ℕ) → g < n → x ≡ f g → earlier (earlier s x) (earliest (of_groups f (n - (g + 1)) (g + 1))) ≡ earlier s (earliest (of_groups f (n - g) g))
   unfolding earliest
-  status-turn s x h e = rw (groups_read f n g h, e) (earlier_assoc s (f g) (earliest (of_groups f (n - (g + 1)) (g + 1))))
+  status_turn s x h e = rw (groups_read f n g h, e) (earlier_assoc s (f g) (earliest (of_groups f (n - (g + 1)) (g + 1))))
 
-  pub status-end : (s : ℕ) → n ≤ g → earlier s (earliest (of_groups f (n - g) g)) ≡ s
+  pub status_end : (s : ℕ) → n ≤ g → earlier s (earliest (of_groups f (n - g) g)) ≡ s
   unfolding earliest
-  status-end s h = rw (groups_read_none f n g h) (earlier_none s)
+  status_end s h = rw (groups_read_none f n g h) (earlier_none s)
 
-  pub level-turn : (v x : ℕ) → g < n → x ≡ f g → max (max v x) (largest (of_groups f (n - (g + 1)) (g + 1))) ≡ max v (largest (of_groups f (n - g) g))
+  pub level_turn : (v x : ℕ) → g < n → x ≡ f g → max (max v x) (largest (of_groups f (n - (g + 1)) (g + 1))) ≡ max v (largest (of_groups f (n - g) g))
   unfolding largest
-  level-turn v x h e = rw (groups_read f n g h, e) (omega arith)
+  level_turn v x h e = rw (groups_read f n g h, e) (omega arith)
 
-  pub level-end : (v : ℕ) → n ≤ g → max v (largest (of_groups f (n - g) g)) ≡ v
+  pub level_end : (v : ℕ) → n ≤ g → max v (largest (of_groups f (n - g) g)) ≡ v
   unfolding largest
-  level-end v h = rw (groups_read_none f n g h) (max-zero v)
+  level_end v h = rw (groups_read_none f n g h) (max-zero v)
 
 -- an array filled from the front: one element more
 pub filled_more : {A : Type 0} (f : ℕ → A) (l : List A) (i : ℕ) (x z : A) → i < length l → x ≡ f i

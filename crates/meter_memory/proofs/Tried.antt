@@ -11,7 +11,7 @@ use Rattle.group.specs.declared.Group.{Group}
 use Rattle.group.specs.declared.Outcome.{Outcome}
 use Rattle.meter_memory.specs.Rows.{row_of, map_rows, of_rows}
 use Rattle.meter_memory.proofs.Lists.{filled_more, rows_from, rows_end}
-use Rattle.meter_memory.proofs.Gather.{status-turn, status-end}
+use Rattle.meter_memory.proofs.Gather.{status_turn, status_end}
 use Rattle.meter_memory.proofs.Agree.{maps_same}
 
 abbrev status_of : (ℕ → List ℕ → Outcome) → ℕ → List ℕ → ℕ
@@ -29,18 +29,18 @@ module _ (f : ℕ → List ℕ → Outcome) (d w : ℕ) (memory : List ℕ) wher
       × (earlier status (earliest (of_rows (status_of f) (stride w) (d - r) r (drop (r * stride w) memory))) ≡ earliest (of_rows (status_of f) (stride w) d 0 memory))
       × Kept f w memory groups r
 
-  pub tried-more : (groups : List Group) (status r : ℕ) → Tried groups status r → r < d
+  pub tried_more : (groups : List Group) (status r : ℕ) → Tried groups status r → r < d
       → (o : Outcome) → o ≡ f r (row_of w memory r) → Tried (set groups r o.group) (earlier status o.status) (r + 1)
-  tried-more groups status r i h o is = (
+  tried_more groups status r i h o is = (
     omega arith,
     omega (arith, i.1, length-set groups r o.group),
-    status-turn (status_of f) w d r memory status o.status h (ap (λ (x : Outcome). x.status) is) ∙ i.2,
+    status_turn (status_of f) w d r memory status o.status h (ap (λ (x : Outcome). x.status) is) ∙ i.2,
     λ z. filled_more (λ (n : ℕ). (f n (row_of w memory n)).group) groups r o.group z (omega (arith, i.1)) (ap (λ (x : Outcome). x.group) is) (i.3 z),
   )
 
-  pub tried-all : (groups : List Group) (status r : ℕ) → Tried groups status r → d ≤ r → (status ≡ earliest (of_rows (status_of f) (stride w) d 0 memory)) × Kept f w memory groups d
-  tried-all groups status r i h =
-      (sym (status-end (status_of f) w d r memory status h) ∙ i.2, λ z k l. i.3 z k (omega (arith, i.0)))
+  pub tried_all : (groups : List Group) (status r : ℕ) → Tried groups status r → d ≤ r → (status ≡ earliest (of_rows (status_of f) (stride w) d 0 memory)) × Kept f w memory groups d
+  tried_all groups status r i h =
+      (sym (status_end (status_of f) w d r memory status h) ∙ i.2, λ z k l. i.3 z k (omega (arith, i.0)))
 
 -- a kept group stored in row r
 abbrev pub kept_stored : (ℕ → Group → List ℕ → List ℕ) → List Group → Group → ℕ → List ℕ → List ℕ

@@ -20,8 +20,8 @@ use Rattle.answer.proofs.Order.{earlier_assoc}
 use Rattle.meter_memory.specs.Pairs.{paired_at, pair_status, pair_groups}
 use Rattle.meter_memory.specs.Rows.{of_groups, group_at, with_group}
 use Rattle.meter_memory.proofs.Lists.{status_run}
-use Rattle.meter_memory.proofs.Groups.{with-counts, length-with, group-other}
-use Rattle.meter_memory.proofs.Pairs.{paired-other}
+use Rattle.meter_memory.proofs.Groups.{with_counts, length_with, group_other}
+use Rattle.meter_memory.proofs.Pairs.{paired_other}
 use Rattle.meter_runs.specs.Runs.{InRows, merges_of, counts_of, none_merged, run_status, RunTaken}
 
 -- the merge bytes of the groups are 0
@@ -35,15 +35,15 @@ module _ (w n g : ℕ) (row source : List ℕ) (e : none_merged w n g row source
       ∙ sym (get_or-take n (drop (w + g) xs) i 0 (omega arith))
       ∙ none_merged_lem (merges_of w n g xs) (not-true _ f) i
 
-  none-either : (not (any_merged (merges_of w n g row)) ≡ true) × (not (any_merged (merges_of w n g source)) ≡ true)
+  none_either : (not (any_merged (merges_of w n g row)) ≡ true) × (not (any_merged (merges_of w n g source)) ≡ true)
   unfolding none_merged
-  none-either = (and-eq-true_iff (not (any_merged (merges_of w n g row))) (not (any_merged (merges_of w n g source)))).0 e
+  none_either = (and-eq-true_iff (not (any_merged (merges_of w n g row))) (not (any_merged (merges_of w n g source)))).0 e
 
   pub row_none : (k : ℕ) → g ≤ k → k < g + n → get_or row (w + k) 0 ≡ 0
-  row_none = merge_none row none-either.0
+  row_none = merge_none row none_either.0
 
-  pub source-none : (k : ℕ) → g ≤ k → k < g + n → get_or source (w + k) 0 ≡ 0
-  source-none = merge_none source none-either.1
+  pub source_none : (k : ℕ) → g ≤ k → k < g + n → get_or source (w + k) 0 ≡ 0
+  source_none = merge_none source none_either.1
 
 -- n unmerged groups side by side: the operation answers nothing for any of them; zs are the count bytes that it leaves, again of unmerged groups
 abbrev pub EachTaken : (Group → Group → Outcome) → ℕ → List ℕ → List ℕ → Type 0
@@ -90,41 +90,41 @@ module _ (f : Group → Group → Outcome) (w : ℕ) (source : List ℕ) where
   paired_none g row p q = rw (group_none w g row p, group_none w g source q)
 
   -- the answer of k groups taken in, and those after them
-  pub status-next : (n g k : ℕ) (row : List ℕ) (s x : ℕ) → g + k ≤ n → x ≡ run_status f w source row k g
+  pub status_next : (n g k : ℕ) (row : List ℕ) (s x : ℕ) → g + k ≤ n → x ≡ run_status f w source row k g
       → earlier (earlier s x) (run_status f w source row (n - (g + k)) (g + k)) ≡ earlier s (run_status f w source row (n - g) g)
   unfolding run_status
-  status-next n g k row s x h e =
+  status_next n g k row s x h e =
       earlier_assoc s x (run_status f w source row (n - (g + k)) (g + k)) ∙ ap (earlier s) (rw e (status_run (pair_status f w source row) k n g h))
 
-  pub status-skip : (n g k : ℕ) (row : List ℕ) → g + k ≤ n → run_status f w source row k g ≡ 0
+  pub status_skip : (n g k : ℕ) (row : List ℕ) → g + k ≤ n → run_status f w source row k g ≡ 0
       → run_status f w source row (n - (g + k)) (g + k) ≡ run_status f w source row (n - g) g
   unfolding earlier run_status
-  status-skip n g k row h e = ap (λ (s : ℕ). earlier s (run_status f w source row (n - (g + k)) (g + k))) (sym e) ∙ status_run (pair_status f w source row) k n g h
+  status_skip n g k row h e = ap (λ (s : ℕ). earlier s (run_status f w source row (n - (g + k)) (g + k))) (sym e) ∙ status_run (pair_status f w source row) k n g h
 
   -- k groups written, and those after them answer nothing still
-  pub taken-after : ((x y : Group) → length x.counts ≡ 8 → length (f x y).group.counts ≡ 8)
+  pub taken_after : ((x y : Group) → length x.counts ≡ 8 → length (f x y).group.counts ≡ 8)
       → (k n g : ℕ) (row : List ℕ) → g + k ≤ n → 8 * n ≤ w → w + n ≤ length row → RunTaken f w source row (n - g) g
       → RunTaken f w source (pair_groups f w source k g row) (n - (g + k)) (g + k)
   unfolding pair_status paired_at
-  taken-after eight k n g row h m l taken i p q =
-      ap (λ (x : Group). (f x (group_at w source i)).status) (paired-other f w source eight k g row (omega arith) (omega arith) i (omega arith) (λ a b. omega arith))
+  taken_after eight k n g row h m l taken i p q =
+      ap (λ (x : Group). (f x (group_at w source i)).status) (paired_other f w source eight k g row (omega arith) (omega arith) i (omega arith) (λ a b. omega arith))
       ∙ taken i (omega arith) (omega arith)
 
   -- a group that keeps its merge byte, and groups side by side
-  with-stored : (g : ℕ) (row : List ℕ) (x : Group) (zs : List ℕ) → x ≡ record { counts = zs; merge = (group_at w row g).merge } → length zs ≡ 8
+  with_stored : (g : ℕ) (row : List ℕ) (x : Group) (zs : List ℕ) → x ≡ record { counts = zs; merge = (group_at w row g).merge } → length zs ≡ 8
       → 8 * g + 8 ≤ w → w + g < length row → with_group w row g x ≡ take (8 * g) row ++ zs ++ drop (8 * g + 8) row
   unfolding group_at
-  with-stored g row x zs e l h m = rw e (with-counts w row g (record { counts = zs; merge = get_or row (w + g) 0 }) l h m refl)
+  with_stored g row x zs e l h m = rw e (with_counts w row g (record { counts = zs; merge = get_or row (w + g) 0 }) l h m refl)
 
-  kept-side : (n g : ℕ) (row zs : List ℕ) → 8 * (g + n) ≤ w → w + (g + n) ≤ length row → length zs ≡ 8 * n
+  kept_side : (n g : ℕ) (row zs : List ℕ) → 8 * (g + n) ≤ w → w + (g + n) ≤ length row → length zs ≡ 8 * n
       → ((i : ℕ) → i < n → (paired_at f w source row (g + i)).group ≡ record { counts = part i zs; merge = (group_at w row (g + i)).merge })
       → take (8 * g) row ++ zs ++ drop (8 * (g + n)) row ≡ pair_groups f w source n g row
   unfolding paired_at pair_groups
-  kept-side zero g row [] h l m e =
+  kept_side zero g row [] h l m e =
       let z : g + 0 ≡ g = omega arith in
       rw (z, append-nil (take (8 * g) row)) (take-append-drop (8 * g) row)
-  kept-side zero g row (z ∷ zs) h l m e = absurd (omega arith)
-  kept-side (suc n) g row zs h l m e =
+  kept_side zero g row (z ∷ zs) h l m e = absurd (omega arith)
+  kept_side (suc n) g row zs h l m e =
       let a = 8 * g + 8 in
       let end = 8 * (g + suc n) in
       let x = (paired_at f w source row g).group in
@@ -133,12 +133,12 @@ module _ (f : Group → Group → Outcome) (w : ℕ) (source : List ℕ) where
       let first : x ≡ record { counts = take 8 zs; merge = (group_at w row g).merge } = rw here at (e 0 (omega arith)) in
       let eight : length (take 8 zs) ≡ 8 = length-take-le 8 zs (omega arith) in
       let eight_of : length x.counts ≡ 8 = rw first eight in
-      let stored = with-stored g row x (take 8 zs) first eight (omega arith) (omega arith) in
+      let stored = with_stored g row x (take 8 zs) first eight (omega arith) (omega arith) in
       let front : length (take (8 * g) row ++ take 8 zs) ≡ a = rw (length-append (take (8 * g) row) (take 8 zs), length-take-le (8 * g) row (omega arith), eight) in
-      let ih = kept-side n (g + 1) next (drop 8 zs) (omega arith) (rw (length-with w row g x eight_of (omega arith) (omega arith)) (omega arith)) (rw (length-drop 8 zs) (omega arith))
+      let ih = kept_side n (g + 1) next (drop 8 zs) (omega arith) (rw (length_with w row g x eight_of (omega arith) (omega arith)) (omega arith)) (rw (length-drop 8 zs) (omega arith))
       (λ i p.
       let at : g + 1 + i ≡ g + suc i = omega arith in
-      let other = group-other w row g x eight_of (omega arith) (omega arith) (g + 1 + i) (omega arith) (λ q. omega arith) in
+      let other = group_other w row g x eight_of (omega arith) (omega arith) (g + 1 + i) (omega arith) (λ q. omega arith) in
       ap (λ (y : Group). (f y (group_at w source (g + 1 + i))).group) other ∙ rw (other, at, ← part_next i zs) (e (suc i) (omega arith))) in
       let at : 8 * (g + 1) ≡ a = omega arith in
       let after : 8 * (g + 1 + n) ≡ end = omega arith in
@@ -152,32 +152,32 @@ module _ (f : Group → Group → Outcome) (w : ℕ) (source : List ℕ) where
     abbrev pairedPart : ℕ → Outcome
     pairedPart i = f (unmerged (part i (counts_of n g row))) (unmerged (part i (counts_of n g source)))
 
-    paired-part : (i : ℕ) → i < n → pairedPart i ≡ paired_at f w source row (g + i)
-    paired-part i p =
+    paired_part : (i : ℕ) → i < n → pairedPart i ≡ paired_at f w source row (g + i)
+    paired_part i p =
         rw (part_of n g i row p, part_of n g i source p)
-        (paired_none (g + i) row (row_none w n g row source none (g + i) (omega arith) (omega arith)) (source-none w n g row source none (g + i) (omega arith) (omega arith)))
+        (paired_none (g + i) row (row_none w n g row source none (g + i) (omega arith) (omega arith)) (source_none w n g row source none (g + i) (omega arith) (omega arith)))
 
-    pub status-none : EachTaken f n (counts_of n g row) (counts_of n g source) → run_status f w source row n g ≡ 0
+    pub status_none : EachTaken f n (counts_of n g row) (counts_of n g source) → run_status f w source row n g ≡ 0
     unfolding run_status pair_status
-    status-none e = groups_none (pair_status f w source row) n g (λ i p. ap (λ (o : Outcome). o.status) (sym (paired-part i p)) ∙ e i p)
+    status_none e = groups_none (pair_status f w source row) n g (λ i p. ap (λ (o : Outcome). o.status) (sym (paired_part i p)) ∙ e i p)
 
-    side-paired : InRows w n g row source → (zs : List ℕ) → EachLeft f n (counts_of n g row) (counts_of n g source) zs → take (8 * g) row ++ zs ++ drop (8 * (g + n)) row ≡ pair_groups f w source n g row
+    side_paired : InRows w n g row source → (zs : List ℕ) → EachLeft f n (counts_of n g row) (counts_of n g source) zs → take (8 * g) row ++ zs ++ drop (8 * (g + n)) row ≡ pair_groups f w source n g row
     unfolding group_at
-    side-paired h zs s =
-        kept-side n g row zs h.0 h.1 s.0
+    side_paired h zs s =
+        kept_side n g row zs h.0 h.1 s.0
         (λ i p.
-        ap (λ (o : Outcome). o.group) (sym (paired-part i p))
+        ap (λ (o : Outcome). o.group) (sym (paired_part i p))
         ∙ s.1 i p
         ∙ ap (λ (m : ℕ). record { counts = part i zs; merge = m }) (sym (row_none w n g row source none (g + i) (omega arith) (omega arith))))
 
     -- the count bytes were lent, and are back as they were or as the operation leaves them
-    pub side-back : InRows w n g row source → (r : Bool) (last : List ℕ) → (r ≡ false → last ≡ counts_of n g row) → (r ≡ true → EachLeft f n (counts_of n g row) (counts_of n g source) last)
+    pub side_back : InRows w n g row source → (r : Bool) (last : List ℕ) → (r ≡ false → last ≡ counts_of n g row) → (r ≡ true → EachLeft f n (counts_of n g row) (counts_of n g source) last)
         → put_mid (8 * g) (8 * g + 8 * n - 8 * g) row last ≡ cond r (pair_groups f w source n g row) row
-    side-back h true last p q =
+    side_back h true last p q =
         let end : 8 * g + 8 * n ≡ 8 * (g + n) = omega arith in
         ap (λ (zs : List ℕ). take (8 * g) row ++ (last ++ zs)) (Post-is (8 * g) (8 * g + 8 * n) row (omega arith))
         ∙ sym (append_assoc (take (8 * g) row) last (drop (8 * g + 8 * n) row))
-        ∙ rw end (side-paired h last (q refl))
-    side-back h false last p q =
+        ∙ rw end (side_paired h last (q refl))
+    side_back h false last p q =
         let long : 8 * g + 8 * n - 8 * g ≡ 8 * n = omega arith in
         rw (long, p refl) (put_same (8 * g) (8 * n) row)

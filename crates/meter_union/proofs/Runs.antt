@@ -14,35 +14,35 @@ use Rattle.group.specs.Group.{united_groups}
 use Rattle.group.proofs.Laws.{Eight}
 use Rattle.group.proofs.Outcomes.{united_eight}
 use Rattle.group_side.specs.Side.{unmerged, part, united_side, stay_unmerged}
-use Rattle.group_side.proofs.Parts.{part-eight, part_next}
+use Rattle.group_side.proofs.Parts.{part_eight, part_next}
 use Rattle.group_side.proofs.Unions.{unmerged_status}
 use Rattle.meter_runs.specs.Runs.{InRows, counts_of, none_merged}
-use Rattle.meter_runs.proofs.Runs.{counts_long, EachLeft, status-none, status-skip, side-back}
+use Rattle.meter_runs.proofs.Runs.{counts_long, EachLeft, status_none, status_skip, side_back}
 use Rattle.meter_union.specs.Union.{unite_groups}
 use Rattle.meter_union.specs.Runs.{next_merged, groups_status}
 
 -- unmerged groups of a row take those of another
 eight_of : (n g i : ℕ) (row : List ℕ) → Bytes row → 8 * (g + n) ≤ length row → i < n → Eight (part i (counts_of n g row))
-eight_of n g i row b l h = part-eight n (counts_of n g row) (counts_long n g row l) i h (bytes_take (8 * n) (drop (8 * g) row) (bytes_drop (8 * g) row b))
+eight_of n g i row b l h = part_eight n (counts_of n g row) (counts_long n g row l) i h (bytes_take (8 * n) (drop (8 * g) row) (bytes_drop (8 * g) row b))
 
 pub united_status_lem : (w n g : ℕ) (row source : List ℕ) → 8 * (g + n) ≤ w → w ≤ length row → w ≤ length source → Bytes row → Bytes source
     → none_merged w n g row source ≡ true → groups_status w source row n g ≡ 0
 united_status_lem w n g row source h l m b c e =
-    status-none united_groups w source n g row e
+    status_none united_groups w source n g row e
     (λ i p. unmerged_status (part i (counts_of n g row)) (part i (counts_of n g source)) (eight_of n g i row b (omega arith) p) (eight_of n g i source c (omega arith) p))
 
 -- eights of unmerged groups, passed over one by one
 module _ (w : ℕ) (row source : List ℕ) where
-  pub next-turn : (n e : ℕ) (b : Bool) → e < n → none_merged w 8 (8 * e) row source ≡ b
+  pub next_turn : (n e : ℕ) (b : Bool) → e < n → none_merged w 8 (8 * e) row source ≡ b
       → next_merged w row source (n - e) e ≡ cond b (next_merged w row source (n - (e + 1)) (e + 1)) e
   unfolding next_merged
-  next-turn n e b h f =
+  next_turn n e b h f =
       let k : n - e ≡ suc (n - (e + 1)) = omega arith in
       rw (k, f)
 
-  pub next-end : (n e : ℕ) → n ≤ e → next_merged w row source (n - e) e ≡ e
+  pub next_end : (n e : ℕ) → n ≤ e → next_merged w row source (n - e) e ≡ e
   unfolding next_merged
-  next-end n e h =
+  next_end n e h =
       let k : n - e ≡ 0 = omega arith in
       rw k
 
@@ -70,7 +70,7 @@ module _ (w : ℕ) (row source : List ℕ) where
             → From (cond q (next_merged w row source n (e + 1)) e) ≡ From e
         go true f p =
             let at : 8 * (e + 1) ≡ 8 * e + 8 = omega arith in
-            p ∙ rw at (status-skip united_groups w source k (8 * e) 8 row (omega arith) (united_status_lem w 8 (8 * e) row source (omega arith) l m b c f))
+            p ∙ rw at (status_skip united_groups w source k (8 * e) 8 row (omega arith) (united_status_lem w 8 (8 * e) row source (omega arith) l m b c f))
         go false f p = refl
 
 -- unions side by side, none of which is merged
@@ -97,5 +97,5 @@ pub united_back : (w g : ℕ) (row source : List ℕ) → InRows w 8 g row sourc
     → last ≡ cond r (united_side 8 (counts_of 8 g row) (counts_of 8 g source)) (counts_of 8 g row)
     → put_mid (8 * g) (8 * g + 64 - 8 * g) row last ≡ cond r (unite_groups w source 8 g row) row
 united_back w g row source h none r last stays e =
-    side-back united_groups w source 8 g row none h r last (λ f. e ∙ rw f)
+    side_back united_groups w source 8 g row none h r last (λ f. e ∙ rw f)
     (λ t. rw (rw t at e) (side_left 8 (counts_of 8 g row) (counts_of 8 g source) (counts_long 8 g row (omega arith)) (sym stays ∙ t)))

@@ -19,7 +19,7 @@ use Rattle.feed_lines.specs.Feed.{after_end, feed_lines, feed_text}
 use Rattle.feed_lines.specs.Step.{lines_from}
 use Rattle.word_bytes.proofs.Laws.{words_length}
 use Rattle.feed_lines.proofs.Heads.{accepted_some, head_geometry}
-use Rattle.feed_lines.proofs.Feed.{head-lines, head-stops}
+use Rattle.feed_lines.proofs.Feed.{head_lines, head_stops}
 use Rattle.feed_state.specs.declared.State.{State}
 use Rattle.feed_io.specs.declared.input.Input.{Input}
 use Rattle.feed_io.specs.declared.output.Output.{Output}
@@ -44,27 +44,27 @@ module _ (s : State) (input output : List ℕ) (r : State) (input' : List ℕ) (
   abbrev bytes₁ : List ℕ
   bytes₁ = unused r.input input'
 
-  after-due : (rest : List ℕ) → due_after_end s input output (c.filled.read ++ rest) ≡ c.cleared.sent ++ (take r.output.at output ++ texts (after_end s.words (bytes₁ ++ rest)))
-  after-due rest =
+  after_due : (rest : List ℕ) → due_after_end s input output (c.filled.read ++ rest) ≡ c.cleared.sent ++ (take r.output.at output ++ texts (after_end s.words (bytes₁ ++ rest)))
+  after_due rest =
       received_due 1 s.input input r.input input' c.filled c.reads output s.output.at r.output c.cleared (λ b. texts (after_end s.words b)) rest
 
   -- the lines before the end's could not be written
-  pub ended-failed : r.output.failed ≡ true → Printed (seen s input) s.input.more (due_after_end s input output) r.output output
-  ended-failed t =
+  pub ended_failed : r.output.failed ≡ true → Printed (seen s input) s.input.more (due_after_end s input output) r.output output
+  ended_failed t =
       record {
         read = c.filled.read;
         sent = c.cleared.sent;
         lost = λ rest. take r.output.at output ++ texts (after_end s.words (bytes₁ ++ rest));
         more = r.input.more;
-        same = λ short rest m. after-due rest ∙ rw t;
+        same = λ short rest m. after_due rest ∙ rw t;
         failed = c.cleared.failed;
         closed = c.filled.closed;
       }
 
   -- no byte after the end record
-  pub ended-none : r.output.failed ≡ false → r.input.start ≡ r.input.end → Printed (seen s input) s.input.more (due_after_end s input output) r.output output
+  pub ended_none : r.output.failed ≡ false → r.input.start ≡ r.input.end → Printed (seen s input) s.input.more (due_after_end s input output) r.output output
   unfolding after_end texts
-  ended-none t e =
+  ended_none t e =
       let none : bytes₁ ≡ [] = empty bytes₁ (omega (arith, unused_length r.input input' c.filled.within)) in
       let over : r.input.more ≡ false = ⊎_elim (λ l. absurd (omega (arith, ap length none))) (λ m. m) (c.enough t) in
       record {
@@ -72,22 +72,22 @@ module _ (s : State) (input output : List ℕ) (r : State) (input' : List ℕ) (
         sent = c.cleared.sent;
         lost = λ rest. [];
         more = r.input.more;
-        same = λ short rest m. after-due rest ∙ rw (none, m over, t) (ap (λ (x : List ℕ). c.cleared.sent ++ x) (append-nil (take r.output.at output)));
+        same = λ short rest m. after_due rest ∙ rw (none, m over, t) (ap (λ (x : List ℕ). c.cleared.sent ++ x) (append-nil (take r.output.at output)));
         failed = c.cleared.failed;
         closed = c.filled.closed;
       }
 
   -- a byte after it
-  pub ended-more : (out : ℕ) (output' : List ℕ) → (r.input.start ≡ r.input.end → ⊥) → take out output' ≡ take r.output.at output ++ text (line.Stopped 8 s.words)
+  pub ended_more : (out : ℕ) (output' : List ℕ) → (r.input.start ≡ r.input.end → ⊥) → take out output' ≡ take r.output.at output ++ text (line.Stopped 8 s.words)
       → Printed (seen s input) s.input.more (due_after_end s input output) (record { at = out; failed = false }) output'
-  ended-more out output' n put =
+  ended_more out output' n put =
       record {
         read = c.filled.read;
         sent = c.cleared.sent;
         lost = λ rest. [];
         more = r.input.more;
         same = λ short rest m.
-            after-due rest
+            after_due rest
             ∙ ap (λ (x : List ℕ). c.cleared.sent ++ (take r.output.at output ++ x))
             (byte_after s.words bytes₁ rest (omega (arith, unused_length r.input input' c.filled.within, c.filled.within.0, n)))
             ∙ ap (λ (x : List ℕ). c.cleared.sent ++ x) (sym put);
@@ -104,26 +104,26 @@ module _ (d w : ℕ) (i : Input) (input : List ℕ) (out : ℕ) (output : List �
   firstState = record { input = advanced i 4; output = record { at = out; failed = false }; words = 1; records = 0; runs = true; ended = false }
 
   -- the same from what the code finds one after another
-  pub ran-from : (last : State) (memory' input' output' memory : List ℕ) (after : Input) → memory ≡ zeros → after ≡ advanced i 4
+  pub ran_from : (last : State) (memory' input' output' memory : List ℕ) (after : Input) → memory ≡ zeros → after ≡ advanced i 4
       → Ran d w memory (record { input = after; output = record { at = out; failed = false }; words = 1; records = 0; runs = true; ended = false }) input output memory' last input' output'
       → Ran d w zeros firstState input output memory' last input' output'
-  ran-from last memory' input' output' memory after e k g = rw (e, k) at g
+  ran_from last memory' input' output' memory after e k g = rw (e, k) at g
 
-  first-due : (bytes : List ℕ) → due_after_head d w i input out output bytes ≡ due d w zeros firstState input output bytes
-  first-due bytes = ap (λ (x : List ℕ). take out output ++ texts (lines_from d w zeros 1 0 (x ++ bytes))) (sym (advanced_is i 4 input word))
+  first_due : (bytes : List ℕ) → due_after_head d w i input out output bytes ≡ due d w zeros firstState input output bytes
+  first_due bytes = ap (λ (x : List ℕ). take out output ++ texts (lines_from d w zeros 1 0 (x ++ bytes))) (sym (advanced_is i 4 input word))
 
-  first-seen : seen firstState input ≡ length (unused i input)
-  first-seen = omega (arith, ap length (advanced_is i 4 input word), length-drop 4 (unused i input), unused_length i input inside)
+  first_seen : seen firstState input ≡ length (unused i input)
+  first_seen = omega (arith, ap length (advanced_is i 4 input word), length-drop 4 (unused i input), unused_length i input inside)
 
   module _ (last : State) (memory' input' output' : List ℕ) (g : Ran d w zeros firstState input output memory' last input' output')
       (turns : last.runs ≡ true → 2 ^ 58 < last.words) where
     -- a short feed's records are all carried out
     over : (n : ℕ) → length (unused i input) + n < 2 ^ 60 → length g.read ≤ n → last.runs ≡ false
-    over n short h = cases last.runs (λ t. absurd (omega (arith, turns t, g.counted, first-seen))) (λ t. t)
+    over n short h = cases last.runs (λ t. absurd (omega (arith, turns t, g.counted, first_seen))) (λ t. t)
 
-    pub meter-stopped : last.ended ≡ false → Printed (length (unused i input)) i.more (due_after_head d w i input out output) last.output output'
+    pub meter_stopped : last.ended ≡ false → Printed (length (unused i input)) i.more (due_after_head d w i input out output) last.output output'
     unfolding texts
-    meter-stopped e =
+    meter_stopped e =
         record {
           read = g.read;
           sent = g.sent;
@@ -132,14 +132,14 @@ module _ (d w : ℕ) (i : Input) (input : List ℕ) (out : ℕ) (output : List �
           same = λ short rest c.
               let stopped = over (length g.read) short (omega arith) in
               let none : due d w memory' last input' output' rest ≡ take last.output.at output' = rw (stopped, e) (append-nil (take last.output.at output')) in
-              first-due (g.read ++ rest) ∙ g.same rest c ∙ ap (λ (x : List ℕ). g.sent ++ cond last.output.failed (g.lost rest) x) none;
+              first_due (g.read ++ rest) ∙ g.same rest c ∙ ap (λ (x : List ℕ). g.sent ++ cond last.output.failed (g.lost rest) x) none;
           failed = λ t. ((g.failed t).0, (g.failed t).1);
           closed = g.closed;
         }
 
-    pub meter-ended : last.ended ≡ true → (r : Output) (after : List ℕ) → Printed (seen last input') last.input.more (due_after_end last input' output') r after
+    pub meter_ended : last.ended ≡ true → (r : Output) (after : List ℕ) → Printed (seen last input') last.input.more (due_after_end last input' output') r after
         → Printed (length (unused i input)) i.more (due_after_head d w i input out output) r after
-    meter-ended e r after p =
+    meter_ended e r after p =
         let wrote : last.output.failed ≡ false = cases last.output.failed (λ t. absurd (true≢false (sym e ∙ (g.failed t).3))) (λ t. t) in
         record {
           read = g.read ++ p.read;
@@ -150,11 +150,11 @@ module _ (d w : ℕ) (i : Input) (input : List ℕ) (out : ℕ) (output : List �
               let long = length-append g.read p.read in
               let stopped = over (length (g.read ++ p.read)) short (omega arith) in
               let end : due d w memory' last input' output' (p.read ++ rest) ≡ due_after_end last input' output' (p.read ++ rest) = rw (stopped, e) in
-              first-due ((g.read ++ p.read) ++ rest)
+              first_due ((g.read ++ p.read) ++ rest)
               ∙ ap (due d w zeros firstState input output) (append_assoc g.read p.read rest)
               ∙ g.same (p.read ++ rest) (λ m. let k = p.closed m in ap₂ (λ (x y : List ℕ). x ++ y) k.0 (c k.1))
               ∙ ap (λ (b : Bool). g.sent ++ cond b (g.lost (p.read ++ rest)) (due d w memory' last input' output' (p.read ++ rest))) wrote
-              ∙ ap (λ (x : List ℕ). g.sent ++ x) (end ∙ p.same (omega (arith, g.counted, first-seen)) rest c)
+              ∙ ap (λ (x : List ℕ). g.sent ++ x) (end ∙ p.same (omega (arith, g.counted, first_seen)) rest c)
               ∙ sym (append_assoc g.sent p.sent (cond r.failed (p.lost rest) (take r.at after)));
           failed = λ t. let k = p.failed t in (omega (arith, k.0, length-append g.sent p.sent), k.1);
           closed = λ m. let k = g.closed m in let l = p.closed k.1 in (ap₂ (λ (x y : List ℕ). x ++ y) k.0 l.0, l.1);
@@ -172,8 +172,8 @@ module _ (input : List ℕ) (i : Input) (input' : List ℕ) (f : Refilled 4 unre
   headed' = head_line (headed (take 1 (whole_words hand)))
 
   -- an accepted head's word is at hand
-  pub head-word : (d w : ℕ) → headed' ≡ line.Geometry d w → i.start + 4 ≤ i.end
-  head-word d w e =
+  pub head_word : (d w : ℕ) → headed' ≡ line.Geometry d w → i.start + 4 ≤ i.end
+  head_word d w e =
       omega (
         arith,
         accepted_some (take 1 (whole_words hand)) (head_geometry (headed (take 1 (whole_words hand))) d w e).0,
@@ -183,9 +183,9 @@ module _ (input : List ℕ) (i : Input) (input' : List ℕ) (f : Refilled 4 unre
         f.within.0,
       )
 
-  pub whole-stopped : continues headed' ≡ false → take out output' ≡ text headed' → Printed 0 true feed_text (record { at = out; failed = false }) output'
+  pub whole_stopped : continues headed' ≡ false → take out output' ≡ text headed' → Printed 0 true feed_text (record { at = out; failed = false }) output'
   unfolding feed_text texts
-  whole-stopped e put =
+  whole_stopped e put =
       record {
         read = f.read;
         sent = [];
@@ -193,7 +193,7 @@ module _ (input : List ℕ) (i : Input) (input' : List ℕ) (f : Refilled 4 unre
         more = i.more;
         same = λ short rest c.
             ap (λ (x : List ℕ). texts (feed_lines (x ++ rest))) (sym f.joined)
-            ∙ ap texts (head-stops hand rest (enough_held 4 i hand rest held c) e)
+            ∙ ap texts (head_stops hand rest (enough_held 4 i hand rest held c) e)
             ∙ append-nil (text headed')
             ∙ sym put;
         failed = λ t. absurd (true≢false (sym t));
@@ -215,7 +215,7 @@ module _ (input : List ℕ) (i : Input) (input' : List ℕ) (f : Refilled 4 unre
             let records = texts (lines_from d w (replicate (size d w) 0) 1 0 (drop 4 hand ++ bytes)) in
             ap (λ (x : List ℕ). texts (feed_lines x)) (append_assoc f.read p.read rest)
             ∙ ap (λ (x : List ℕ). texts (feed_lines (x ++ bytes))) (sym f.joined)
-            ∙ ap texts (head-lines hand bytes enough d w e)
+            ∙ ap texts (head_lines hand bytes enough d w e)
             ∙ ap (λ (x : List ℕ). x ++ records) (sym (put ∙ ap text e))
             ∙ p.same (omega (arith, length-append f.read p.read, ap length f.joined)) rest c;
         failed = p.failed;

@@ -34,67 +34,67 @@ module _ (d w : ℕ) (memory key hashes : List ℕ) {state : ℕ} (start : state
   hash_at : (k : ℕ) → k < d → get_or hashes (0 + k) 0 ≡ row_hash basis (0 + k) key
   hash_at k h = are (0 + k) (omega arith) ∙ ap (λ (s : ℕ). row_hash s (0 + k) key) start
 
-  reads-by-key : {A : Type 0} (f : ℕ → List ℕ → A)
+  reads_by_key : {A : Type 0} (f : ℕ → List ℕ → A)
       → of_rows (λ (r : ℕ) (row : List ℕ). f (get_or hashes r 0) row) (stride w) d 0 memory ≡ of_rows (λ (r : ℕ) (row : List ℕ). f (row_hash basis r key) row) (stride w) d 0 memory
-  reads-by-key f =
+  reads_by_key f =
       reads_same (stride w) (λ (r : ℕ) (row : List ℕ). f (get_or hashes r 0) row) (λ (r : ℕ) (row : List ℕ). f (row_hash basis r key) row) d 0 memory memory
       (λ k h. ap (λ (x : ℕ). f x (take (stride w) (drop (k * stride w) memory))) (hash_at k h))
 
-  pub status-by-key : (amount : ℤ) → earliest (of_rows (added_status w hashes amount) (stride w) d 0 memory) ≡ earliest (of_rows (update_status basis w key amount) (stride w) d 0 memory)
+  pub status_by_key : (amount : ℤ) → earliest (of_rows (added_status w hashes amount) (stride w) d 0 memory) ≡ earliest (of_rows (update_status basis w key amount) (stride w) d 0 memory)
   unfolding update_status key_slot key_sign
-  status-by-key amount = ap earliest (reads-by-key (λ (x : ℕ) (row : List ℕ). (added_by w x amount row).status))
+  status_by_key amount = ap earliest (reads_by_key (λ (x : ℕ) (row : List ℕ). (added_by w x amount row).status))
 
-  pub added-by-key : (amount : ℤ) → map_rows (hash_added w hashes amount) (stride w) d 0 memory ≡ map_rows (update_row basis w key amount) (stride w) d 0 memory
+  pub added_by_key : (amount : ℤ) → map_rows (hash_added w hashes amount) (stride w) d 0 memory ≡ map_rows (update_row basis w key amount) (stride w) d 0 memory
   unfolding update_row key_slot key_sign
-  added-by-key amount =
+  added_by_key amount =
       maps_same (stride w) (hash_added w hashes amount) (λ (r : ℕ) (row : List ℕ). stored_by w (row_hash basis r key) (added_by w (row_hash basis r key) amount row).group row) d 0 memory
       (λ k h.
       let row = take (stride w) (drop (k * stride w) memory) in
       ap (λ (x : ℕ). stored_by w x (added_by w x amount row).group row) (hash_at k h))
 
-  pub read-status-by-key : earliest (of_rows (hash_status w hashes) (stride w) d 0 memory) ≡ earliest (of_rows (read_status basis w key) (stride w) d 0 memory)
+  pub read_status_by_key : earliest (of_rows (hash_status w hashes) (stride w) d 0 memory) ≡ earliest (of_rows (read_status basis w key) (stride w) d 0 memory)
   unfolding read_status read_row key_slot
-  read-status-by-key = ap earliest (reads-by-key (λ (x : ℕ) (row : List ℕ). (read_by w x row).status))
+  read_status_by_key = ap earliest (reads_by_key (λ (x : ℕ) (row : List ℕ). (read_by w x row).status))
 
-  pub figures-by-key : of_rows (hash_figure w hashes) (stride w) d 0 memory ≡ of_rows (row_figure basis w key) (stride w) d 0 memory
+  pub figures_by_key : of_rows (hash_figure w hashes) (stride w) d 0 memory ≡ of_rows (row_figure basis w key) (stride w) d 0 memory
   unfolding row_figure read_row key_slot key_sign
-  figures-by-key = reads-by-key (λ (x : ℕ) (row : List ℕ). figure_by w x row)
+  figures_by_key = reads_by_key (λ (x : ℕ) (row : List ℕ). figure_by w x row)
 
 module _ (d w : ℕ) (memory : List ℕ) where
-  pub cleared-bad : (s : ℕ) → s ≡ bad_shape d w (length memory) → (s ≡ 0 → ⊥) → (answer_of s 0 ≡ (cleared d w memory).answer) × (memory ≡ (cleared d w memory).memory)
+  pub cleared_bad : (s : ℕ) → s ≡ bad_shape d w (length memory) → (s ≡ 0 → ⊥) → (answer_of s 0 ≡ (cleared d w memory).answer) × (memory ≡ (cleared d w memory).memory)
   unfolding cleared
-  cleared-bad s e h = refusing s (bad_shape d w (length memory)) (replicate (length memory) 0) memory (sym e) h
+  cleared_bad s e h = refusing s (bad_shape d w (length memory)) (replicate (length memory) 0) memory (sym e) h
 
   pub cleared_good : bad_shape d w (length memory) ≡ 0 → (answer_of 0 0 ≡ (cleared d w memory).answer) × (replicate (length memory) 0 ≡ (cleared d w memory).memory)
   unfolding cleared
   cleared_good e = accepting (bad_shape d w (length memory)) (replicate (length memory) 0) memory e
 
   module _ (key : List ℕ) where
-    pub updated-bad : (amount : ℤ) (s : ℕ) → s ≡ bad_call d w memory key → (s ≡ 0 → ⊥)
+    pub updated_bad : (amount : ℤ) (s : ℕ) → s ≡ bad_call d w memory key → (s ≡ 0 → ⊥)
         → (answer_of s 0 ≡ (updated d w memory key amount).answer) × (memory ≡ (updated d w memory key amount).memory)
     unfolding updated
-    updated-bad amount s e h =
+    updated_bad amount s e h =
         let rows = earliest (of_rows (update_status basis w key amount) (stride w) d 0 memory) in
         refusing s (first_of (bad_call d w memory key ∷ rows ∷ [])) (map_rows (update_row basis w key amount) (stride w) d 0 memory) memory (rw (← e) (first_stop s (rows ∷ []) h)) h
 
-    pub updated-rows : (amount : ℤ) → bad_call d w memory key ≡ 0 → (s : ℕ) (m : List ℕ) → s ≡ earliest (of_rows (update_status basis w key amount) (stride w) d 0 memory)
+    pub updated_rows : (amount : ℤ) → bad_call d w memory key ≡ 0 → (s : ℕ) (m : List ℕ) → s ≡ earliest (of_rows (update_status basis w key amount) (stride w) d 0 memory)
         → m ≡ cond (eqb s 0) (map_rows (update_row basis w key amount) (stride w) d 0 memory) memory
         → (answer_of s 0 ≡ (updated d w memory key amount).answer) × (m ≡ (updated d w memory key amount).memory)
     unfolding updated finish leaves
-    updated-rows amount b s m e h =
+    updated_rows amount b s m e h =
         let rows = earliest (of_rows (update_status basis w key amount) (stride w) d 0 memory) in
         let t : first_of (bad_call d w memory key ∷ rows ∷ []) ≡ s = first_skip (bad_call d w memory key) (rows ∷ []) b ∙ first_one rows ∙ sym e in
         rw t (refl, h)
 
-    pub estimated-bad : (s : ℕ) → s ≡ bad_call d w memory key → (s ≡ 0 → ⊥) → signed_answer s (pos 0) ≡ estimated d w memory key
+    pub estimated_bad : (s : ℕ) → s ≡ bad_call d w memory key → (s ≡ 0 → ⊥) → signed_answer s (pos 0) ≡ estimated d w memory key
     unfolding estimated
-    estimated-bad s e h =
+    estimated_bad s e h =
         rw (← e, first_stop s (earliest (of_rows (read_status basis w key) (stride w) d 0 memory) ∷ []) h) (signed_bad s (median (of_rows (row_figure basis w key) (stride w) d 0 memory)) h)
 
-    pub estimated-good : bad_call d w memory key ≡ 0
+    pub estimated_good : bad_call d w memory key ≡ 0
         → signed_answer (earliest (of_rows (read_status basis w key) (stride w) d 0 memory)) (median (of_rows (row_figure basis w key) (stride w) d 0 memory)) ≡ estimated d w memory key
     unfolding estimated
-    estimated-good b =
+    estimated_good b =
         rw (first_skip (bad_call d w memory key) (earliest (of_rows (read_status basis w key) (stride w) d 0 memory) ∷ []) b, first_one (earliest (of_rows (read_status basis w key) (stride w) d 0 memory)))
 
   module _ (minus : Bool) (source : List ℕ) where
@@ -107,35 +107,35 @@ module _ (d w : ℕ) (memory : List ℕ) where
     sum : List ℕ
     sum = map_rows (source_combined minus w source) (stride w) d 0 memory
 
-    pub combined-bad : (s : ℕ) → s ≡ bad_shape d w (length memory) → (s ≡ 0 → ⊥)
+    pub combined_bad : (s : ℕ) → s ≡ bad_shape d w (length memory) → (s ≡ 0 → ⊥)
         → (answer_of s 0 ≡ (combined_meters minus d w memory source).answer) × (memory ≡ (combined_meters minus d w memory source).memory)
     unfolding combined_meters sources tests sum
-    combined-bad s e h = refusing s tests sum memory (rw (← e) (first_stop s (bad_length d w (length source) ∷ sources ∷ []) h)) h
+    combined_bad s e h = refusing s tests sum memory (rw (← e) (first_stop s (bad_length d w (length source) ∷ sources ∷ []) h)) h
 
-    pub combined-length : bad_shape d w (length memory) ≡ 0 → (length source ≡ length memory → ⊥)
+    pub combined_length : bad_shape d w (length memory) ≡ 0 → (length source ≡ length memory → ⊥)
         → (answer_of 3 0 ≡ (combined_meters minus d w memory source).answer) × (memory ≡ (combined_meters minus d w memory source).memory)
     unfolding combined_meters sources tests sum
-    combined-length b h =
+    combined_length b h =
         let long : length memory ≡ size d w = (shape_rows d w (length memory) b).1.2 in
         refusing 3 tests sum memory
         (first_skip (bad_shape d w (length memory)) (bad_length d w (length source) ∷ sources ∷ []) b
         ∙ rw (ne_eqb (length source) (size d w) (λ e. h (e ∙ sym long))) (first_stop 3 (sources ∷ []) (λ z. omega arith))) (λ z. omega arith)
 
-    combined-tests : bad_shape d w (length memory) ≡ 0 → length source ≡ length memory → tests ≡ sources
+    combined_tests : bad_shape d w (length memory) ≡ 0 → length source ≡ length memory → tests ≡ sources
     unfolding sources tests
-    combined-tests b l =
+    combined_tests b l =
         let long : length memory ≡ size d w = (shape_rows d w (length memory) b).1.2 in
         first_skip (bad_shape d w (length memory)) (bad_length d w (length source) ∷ sources ∷ []) b
         ∙ first_skip (bad_length d w (length source)) (sources ∷ []) (rw (eq-eqb (length source) (size d w) (l ∙ long)))
         ∙ first_one sources
 
-    pub combined-full : bad_shape d w (length memory) ≡ 0 → length source ≡ length memory
+    pub combined_full : bad_shape d w (length memory) ≡ 0 → length source ≡ length memory
         → (s : ℕ) → s ≡ earliest (of_rows (source_status minus w source) (stride w) d 0 memory) → (s ≡ 0 → ⊥)
         → (answer_of s 0 ≡ (combined_meters minus d w memory source).answer) × (memory ≡ (combined_meters minus d w memory source).memory)
     unfolding combined_meters sources tests sum
-    combined-full b l s e h = refusing s tests sum memory (combined-tests b l ∙ sym e) h
+    combined_full b l s e h = refusing s tests sum memory (combined_tests b l ∙ sym e) h
 
-    pub combined-good : bad_shape d w (length memory) ≡ 0 → length source ≡ length memory → earliest (of_rows (source_status minus w source) (stride w) d 0 memory) ≡ 0
+    pub combined_good : bad_shape d w (length memory) ≡ 0 → length source ≡ length memory → earliest (of_rows (source_status minus w source) (stride w) d 0 memory) ≡ 0
         → (answer_of 0 0 ≡ (combined_meters minus d w memory source).answer) × (map_rows (source_combined minus w source) (stride w) d 0 memory ≡ (combined_meters minus d w memory source).memory)
     unfolding combined_meters sources tests sum
-    combined-good b l e = accepting tests sum memory (combined-tests b l ∙ e)
+    combined_good b l e = accepting tests sum memory (combined_tests b l ∙ e)

@@ -34,10 +34,10 @@ use Rattle.signed_row.specs.Row.{read_row, read_status, row_figure, source_statu
 use Rattle.signed.specs.Signed.{bad_shape, bad_call, estimated, signed_answer, combined_meters}
 use Rattle.signed_claim.specs.Traffic.{Pair, block_total}
 use Rattle.signed_claim.specs.Claim.{up_to}
-use Rattle.signed_claim.proofs.Totals.{totals-itself}
+use Rattle.signed_claim.proofs.Totals.{totals_itself}
 use Rattle.signed_claim.proofs.Holds.{Holds, counter_of}
-use Rattle.signed_claim.proofs.Calls.{combine-accepted}
-use Rattle.signed_claim.proofs.Steps.{combine-step}
+use Rattle.signed_claim.proofs.Calls.{combine_accepted}
+use Rattle.signed_claim.proofs.Steps.{combine_step}
 
 -- what is read of rows, by the rows' numbers
 by_number : (f : ℕ → List ℕ → ℤ) (g : ℕ → ℤ) (s n r : ℕ) (memory : List ℕ) → ((k : ℕ) → k < r + n → f k (take s (drop (k * s) memory)) ≡ g k)
@@ -57,12 +57,12 @@ module _ (d w : ℕ) (vd : valid_depth d ≡ true) (odd : d % 2 ≡ 1) (vw : val
   abbrev total_of : ℕ → ℕ → ℤ
   total_of r s = block_total w r ps (counter_of w memory r s).level (s / 2 ^ (counter_of w memory r s).level)
 
-  pub counter-is : (r s : ℕ) → r < d → s < w → counter_of w memory r s ≡ record { status = 0; value = signed_of (total_of r s); level = (counter_of w memory r s).level }
-  counter-is r s p q = group.read_is (holds.groups r (s / 8) p (slot_in w s vw q)) s refl
+  pub counter_is : (r s : ℕ) → r < d → s < w → counter_of w memory r s ≡ record { status = 0; value = signed_of (total_of r s); level = (counter_of w memory r s).level }
+  counter_is r s p q = group.read_is (holds.groups r (s / 8) p (slot_in w s vw q)) s refl
 
   pub counters : (r s : ℕ) → r < d → s < w → ((counter_of w memory r s).status ≡ 0) × (integer_of (counter_of w memory r s).value ≡ total_of r s)
   counters r s p q =
-      let e = counter-is r s p q in
+      let e = counter_is r s p q in
       (ap (λ (x : Reading). x.status) e, ap (λ (x : Reading). integer_of x.value) e ∙ integer_of_lem (total_of r s))
 
   good_shape : bad_shape d w (length memory) ≡ 0
@@ -71,9 +71,9 @@ module _ (d w : ℕ) (vd : valid_depth d ≡ true) (odd : d % 2 ≡ 1) (vw : val
 
   -- estimates
   module _ (key : List ℕ) (k : bad_key (length key) ≡ 0) where
-    good-call : bad_call d w memory key ≡ 0
+    good_call : bad_call d w memory key ≡ 0
     unfolding bad_call first_of
-    good-call = rw (vd, vw, eq-eqb (d % 2) 1 odd, eq-eqb (length memory) (size d w) holds.long, k)
+    good_call = rw (vd, vw, eq-eqb (d % 2) 1 odd, eq-eqb (length memory) (size d w) holds.long, k)
 
     abbrev figure : ℕ → ℤ
     figure r = times_sign (key_sign basis key r) (total_of r (key_slot basis w key r))
@@ -91,48 +91,48 @@ module _ (d w : ℕ) (vd : valid_depth d ≡ true) (odd : d % 2 ≡ 1) (vw : val
         rows_give (row_figure basis w key) figure d w memory
         (λ r p. ap (times_sign (key_sign basis key r)) (counters r (key_slot basis w key r) p (key_in w key r vw)).1)
 
-    pub estimate-is : estimated d w memory key ≡ signed_answer 0 (median (up_to (λ r. times_sign (key_sign basis key r) (total_of r (key_slot basis w key r))) 0 d))
+    pub estimate_is : estimated d w memory key ≡ signed_answer 0 (median (up_to (λ r. times_sign (key_sign basis key r) (total_of r (key_slot basis w key r))) 0 d))
     unfolding estimated
-    estimate-is =
+    estimate_is =
         let rows = earliest (of_rows (read_status basis w key) (stride w) d 0 memory) in
-        let none : first_of (bad_call d w memory key ∷ rows ∷ []) ≡ 0 = first_skip (bad_call d w memory key) (rows ∷ []) good-call ∙ first_one rows ∙ statuses in
+        let none : first_of (bad_call d w memory key ∷ rows ∷ []) ≡ 0 = first_skip (bad_call d w memory key) (rows ∷ []) good_call ∙ first_one rows ∙ statuses in
         rw (none, figures)
 
   -- a copy taken away
   abbrev after : List ℕ
   after = (combined_meters true d w memory memory).memory
 
-  copy-statuses : earliest (of_rows (source_status true w memory) (stride w) d 0 memory) ≡ 0
+  copy_statuses : earliest (of_rows (source_status true w memory) (stride w) d 0 memory) ≡ 0
   unfolding row_status_by pairs_status pair_status paired_at
-  copy-statuses =
+  copy_statuses =
       rw (rows_are (source_status true w memory) d w memory)
       (none_earliest (λ r. source_status true w memory r (row_of w memory r)) d 0
       (λ r h p.
       none_earliest (pair_status (combined true) w (row_of w memory r) (row_of w memory r)) (w / 8) 0
       (λ g h q. (group.itself (holds.groups r g (omega arith) (omega arith))).0)))
 
-  pub copy-taken : (combined_meters true d w memory memory).answer.status ≡ 0
+  pub copy_taken : (combined_meters true d w memory memory).answer.status ≡ 0
   unfolding combined_meters finish
-  copy-taken =
+  copy_taken =
       let rows = earliest (of_rows (source_status true w memory) (stride w) d 0 memory) in
       let same : bad_length d w (length memory) ≡ 0 = rw (eq-eqb (length memory) (size d w) holds.long) in
       status_is _ 0
       ∙ first_skip (bad_shape d w (length memory)) (bad_length d w (length memory) ∷ rows ∷ []) good_shape
       ∙ first_skip (bad_length d w (length memory)) (rows ∷ []) same
       ∙ first_one rows
-      ∙ copy-statuses
+      ∙ copy_statuses
 
   -- leaves zeros, and the layout as it was
-  pub copy-left : (r s : ℕ) → r < d → s < w
+  pub copy_left : (r s : ℕ) → r < d → s < w
       → counter_of w (combined_meters true d w memory memory).memory r s ≡ record { status = 0; value = signed_of (pos 0); level = (counter_of w memory r s).level }
-  copy-left r s p q =
+  copy_left r s p q =
       let g = slot_in w s vw q in
       let before = holds.groups r (s / 8) p g in
-      let now = (combine-step d w vd vw memory ps holds true memory ps holds copy-taken).0.groups r (s / 8) p g in
-      let c = combine-accepted true d w memory memory (vw, (depth_in d vd).1, holds.long) copy-taken in
+      let now = (combine_step d w vd vw memory ps holds true memory ps holds copy_taken).0.groups r (s / 8) p g in
+      let c = combine_accepted true d w memory memory (vw, (depth_in d vd).1, holds.long) copy_taken in
       let merge : (group_at w (row_of w after r) (s / 8)).merge ≡ (group_at w (row_of w memory r) (s / 8)).merge =
       ap (λ (x : Group). x.merge) (c.at r (s / 8) p g) ∙ (group.itself before).1 in
       let level : (counter_of w after r s).level ≡ (counter_of w memory r s).level =
       group.level_is now s ∙ ap (λ (m : ℕ). level_of (layout 3 m) (s % 8)) merge ∙ sym (group.level_is before s) in
       group.read_is now s refl
-      ∙ ap₂ (λ (v : ℤ) (n : ℕ). record { status = 0; value = signed_of v; level = n }) (totals-itself w r ps (counter_of w after r s).level (s / 2 ^ (counter_of w after r s).level)) level
+      ∙ ap₂ (λ (v : ℤ) (n : ℕ). record { status = 0; value = signed_of v; level = n }) (totals_itself w r ps (counter_of w after r s).level (s / 2 ^ (counter_of w after r s).level)) level

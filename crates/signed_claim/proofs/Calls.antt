@@ -17,11 +17,11 @@ use Rattle.group.specs.declared.Outcome.{Outcome}
 use Rattle.meter_memory.specs.Rows.{row_of, map_rows, of_rows, group_at}
 use Rattle.meter_memory.specs.Pairs.{paired_at}
 use Rattle.meter_memory.proofs.Groups.{eight_at}
-use Rattle.meter_memory.proofs.Written.{row_none, rows_after, length_after, rows_long, in_row, full-row, slot_length, slot-group, slot-other, pairs-taken, pairs-long, pairs-group}
+use Rattle.meter_memory.proofs.Written.{row_none, rows_after, length_after, rows_long, in_row, full_row, slot_length, slot_group, slot_other, pairs_taken, pairs_long, pairs_group}
 use Rattle.meter_keys.specs.Keys.{key_slot}
 use Rattle.meter_keys.proofs.Landing.{key_in}
 use Rattle.signed_group.specs.Group.{combined}
-use Rattle.signed_group.proofs.Outcomes.{added_eight, combined-eight}
+use Rattle.signed_group.proofs.Outcomes.{added_eight, combined_eight}
 use Rattle.signed_row.specs.Row.{added_in, row_amount, update_status, update_row, source_status, source_combined}
 use Rattle.signed.specs.Signed.{bad_shape, bad_call, updated, combined_meters}
 
@@ -50,7 +50,7 @@ module _ (d w : ℕ) (memory : List ℕ) (p : RowsIn d w (length memory)) (key :
   unfolding added_in
   eight r row l =
       added_eight (group_at w row (slot r / 8)) (slot r) (row_amount basis key amount r)
-      (eight_at w (slot r / 8) row (in_row w p.0 (slot r / 8) row l (slot_in w (slot r) p.0 (key_in w key r p.0))).0 (full-row w p.0 row l))
+      (eight_at w (slot r / 8) row (in_row w p.0 (slot r / 8) row l (slot_in w (slot r) p.0 (key_in w key r p.0))).0 (full_row w p.0 row l))
 
   keeps : (r : ℕ) (row : List ℕ) → length row ≡ stride w → length (update_row basis w key amount r row) ≡ stride w
   unfolding update_row
@@ -69,12 +69,12 @@ module _ (d w : ℕ) (memory : List ℕ) (p : RowsIn d w (length memory)) (key :
             let row = row_of w memory r in
             let l = rows_long d w memory p r h in
             ap (λ (x : List ℕ). group_at w x (slot r / 8)) (row_is r h)
-            ∙ slot-group w p.0 row l (slot r) (key_in w key r p.0) (outcome r row).group (eight r row l);
+            ∙ slot_group w p.0 row l (slot r) (key_in w key r p.0) (outcome r row).group (eight r row l);
         other = λ r g h k n.
             let row = row_of w memory r in
             let l = rows_long d w memory p r h in
             ap (λ (x : List ℕ). group_at w x g) (row_is r h)
-            ∙ slot-other w p.0 row l (slot r) (key_in w key r p.0) (outcome r row).group (eight r row l) g k n;
+            ∙ slot_other w p.0 row l (slot r) (key_in w key r p.0) (outcome r row).group (eight r row l) g k n;
       }
 
   pub update_accepted : (updated d w memory key amount).answer.status ≡ 0 → Updated (updated d w memory key amount).memory
@@ -98,14 +98,14 @@ module _ (minus : Bool) (d w : ℕ) (memory source : List ℕ) (p : RowsIn d w (
   unfolding paired_at
   merged e =
       record {
-        long = pairs-long w p.0 (combined minus) (combined-eight minus) d memory source p e;
-        taken = λ r g h k. pairs-taken w p.0 (combined minus) (combined-eight minus) d memory source p e r g h k;
-        at = λ r g h k. pairs-group w p.0 (combined minus) (combined-eight minus) d memory source p e r g h k;
+        long = pairs_long w p.0 (combined minus) (combined_eight minus) d memory source p e;
+        taken = λ r g h k. pairs_taken w p.0 (combined minus) (combined_eight minus) d memory source p e r g h k;
+        at = λ r g h k. pairs_group w p.0 (combined minus) (combined_eight minus) d memory source p e r g h k;
       }
 
-  pub combine-accepted : (combined_meters minus d w memory source).answer.status ≡ 0 → Combined (combined_meters minus d w memory source).memory
+  pub combine_accepted : (combined_meters minus d w memory source).answer.status ≡ 0 → Combined (combined_meters minus d w memory source).memory
   unfolding combined_meters
-  combine-accepted e =
+  combine_accepted e =
       let rows = earliest (of_rows (source_status minus w source) (stride w) d 0 memory) in
       let same = bad_length d w (length source) in
       let f = finish_taken (first_of (bad_shape d w (length memory) ∷ same ∷ rows ∷ [])) 0 (map_rows (source_combined minus w source) (stride w) d 0 memory) memory e in

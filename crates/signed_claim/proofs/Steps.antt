@@ -19,9 +19,9 @@ use Rattle.signed_totals.proofs.Groups as group
 use Rattle.signed_row.specs.Row.{added_in, row_amount}
 use Rattle.signed.specs.Signed.{updated, combined_meters}
 use Rattle.signed_claim.specs.Traffic.{Pair, block_total, times_pairs}
-use Rattle.signed_claim.proofs.Totals.{pair-plus, totals-add, totals-combined}
+use Rattle.signed_claim.proofs.Totals.{pair_plus, totals_add, totals_combined}
 use Rattle.signed_claim.proofs.Holds.{Holds, Grows}
-use Rattle.signed_claim.proofs.Calls.{Updated, update_accepted, Combined, combine-accepted}
+use Rattle.signed_claim.proofs.Calls.{Updated, update_accepted, Combined, combine_accepted}
 
 pub start_holds : (d w : ℕ) → valid_width w ≡ true → Holds d w (replicate (size d w) 0) []
 unfolding block_total
@@ -60,38 +60,38 @@ module _ (d w : ℕ) (vd : valid_depth d ≡ true) (vw : valid_width w ≡ true)
       unfolding added_in Now
       at_slot =
           rw (accepted.at r p)
-          (group.added_next (block_total w r ps) (block_total w r new) slot (row_amount basis key amount r) (pair-plus w r (record { key = key; amount = amount }) ps)
-          (totals-add w r new) (holds.groups r (slot / 8) p (slot_in w slot vw (key_in w key r vw))) (accepted.taken r p))
+          (group.added_next (block_total w r ps) (block_total w r new) slot (row_amount basis key amount r) (pair_plus w r (record { key = key; amount = amount }) ps)
+          (totals_add w r new) (holds.groups r (slot / 8) p (slot_in w slot vw (key_in w key r vw))) (accepted.taken r p))
 
-      off-slot : (g : ℕ) → g < w / 8 → (g ≡ slot / 8 → ⊥) → Now r g
+      off_slot : (g : ℕ) → g < w / 8 → (g ≡ slot / 8 → ⊥) → Now r g
       unfolding Now
-      off-slot g q z =
+      off_slot g q z =
           rw (accepted.other r g p q z)
           (record {
-            holds = group.off-holds (block_total w r ps) (block_total w r new) slot (row_amount basis key amount r) (pair-plus w r (record { key = key; amount = amount }) ps)
+            holds = group.off_holds (block_total w r ps) (block_total w r new) slot (row_amount basis key amount r) (pair_plus w r (record { key = key; amount = amount }) ps)
                 (λ y. z (sym y)) (holds.groups r g p q);
             grows = λ s. omega arith;
           })
 
       now : (g : ℕ) → g < w / 8 → Now r g
-      now g q = elim (ℕ_discrete g (slot / 8)) [ yes z ↦ rw z at_slot | no z ↦ off-slot g q z ]
+      now g q = elim (ℕ_discrete g (slot / 8)) [ yes z ↦ rw z at_slot | no z ↦ off_slot g q z ]
 
-    pub update-step : Holds d w (updated d w memory key amount).memory (record { key = key; amount = amount } ∷ ps)
+    pub update_step : Holds d w (updated d w memory key amount).memory (record { key = key; amount = amount } ∷ ps)
         × Grows d w memory (updated d w memory key amount).memory
     unfolding Now
-    update-step = step d w vw memory after new (accepted.long ∙ holds.long) (λ r g p q. now r p g q)
+    update_step = step d w vw memory after new (accepted.long ∙ holds.long) (λ r g p q. now r p g q)
 
   -- a source added or taken away
   module _ (minus : Bool) (source : List ℕ) (qs : List Pair) (behind : Holds d w source qs) (e : (combined_meters minus d w memory source).answer.status ≡ 0) where
-    accepted-source : Combined minus d w memory source rows (combined_meters minus d w memory source).memory
-    accepted-source = combine-accepted minus d w memory source rows e
+    accepted_source : Combined minus d w memory source rows (combined_meters minus d w memory source).memory
+    accepted_source = combine_accepted minus d w memory source rows e
 
-    pub combine-step : Holds d w (combined_meters minus d w memory source).memory (times_pairs minus qs ++ ps)
+    pub combine_step : Holds d w (combined_meters minus d w memory source).memory (times_pairs minus qs ++ ps)
         × Grows d w memory (combined_meters minus d w memory source).memory
-    combine-step =
-        step d w vw memory (combined_meters minus d w memory source).memory (times_pairs minus qs ++ ps) (accepted-source.long ∙ holds.long)
+    combine_step =
+        step d w vw memory (combined_meters minus d w memory source).memory (times_pairs minus qs ++ ps) (accepted_source.long ∙ holds.long)
         (λ r g p q.
-        rw (accepted-source.at r g p q)
-        (group.combined_next minus (block_total w r ps) (block_total w r qs) (block_total w r (times_pairs minus qs ++ ps)) (totals-add w r ps) (totals-add w r qs)
-        (totals-add w r (times_pairs minus qs ++ ps)) (totals-combined w r minus qs ps) (holds.groups r g p q) (behind.groups r g p q)
-        (accepted-source.taken r g p q)))
+        rw (accepted_source.at r g p q)
+        (group.combined_next minus (block_total w r ps) (block_total w r qs) (block_total w r (times_pairs minus qs ++ ps)) (totals_add w r ps) (totals_add w r qs)
+        (totals_add w r (times_pairs minus qs ++ ps)) (totals_combined w r minus qs ps) (holds.groups r g p q) (behind.groups r g p q)
+        (accepted_source.taken r g p q)))

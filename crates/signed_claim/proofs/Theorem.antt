@@ -19,8 +19,8 @@ use Rattle.signed_claim.specs.Calls.{Call, clear, update, estimate, combine, Sou
 use Rattle.signed_claim.specs.Claim.{counter_after, Later, now, next, Claim, SignedClaim}
 use Rattle.signed_claim.proofs.Holds.{Holds, Grows}
 use Rattle.signed_claim.proofs.Calls.{finish_taken}
-use Rattle.signed_claim.proofs.Steps.{start_holds, update-step, combine-step}
-use Rattle.signed_claim.proofs.Answers.{counters, estimate-is, copy-taken, copy-left}
+use Rattle.signed_claim.proofs.Steps.{start_holds, update_step, combine_step}
+use Rattle.signed_claim.proofs.Answers.{counters, estimate_is, copy_taken, copy_left}
 
 -- a refused call leaves the memory as it was
 pub kept : (d w d' w' : ℕ) (call : Call) (memory : List ℕ) → eqb (done d w d' w' call memory).status 0 ≡ false → (done d w d' w' call memory).memory ≡ memory
@@ -51,30 +51,30 @@ module _ (d w : ℕ) (vd : valid_depth d ≡ true) (vw : valid_width w ≡ true)
     holds (then calls d' w' call true) f =
         let l = f.2 refl in
         told d w d' w' call (run d w calls) (λ m. Holds d w m (after call (traffic calls))) l.0 l.1
-        (λ e. accepted-holds call (run d w calls) (traffic calls) (holds calls f.0) l.2 e) f.1
+        (λ e. accepted_holds call (run d w calls) (traffic calls) (holds calls f.0) l.2 e) f.1
     holds (then calls d' w' call false) f = rw (kept d w d' w' call (run d w calls) f.1) (holds calls f.0)
 
-    accepted-holds : (call : Call) (memory : List ℕ) (ps : List Pair) → Holds d w memory ps → Listed d w call
+    accepted_holds : (call : Call) (memory : List ℕ) (ps : List Pair) → Holds d w memory ps → Listed d w call
         → eqb (done d w d w call memory).status 0 ≡ true → Holds d w (done d w d w call memory).memory (after call ps)
-    accepted-holds clear memory ps h l e = rw (cleared_is d w memory h.long (eqb-true _ _ e)) (start_holds d w vw)
-    accepted-holds (update key amount) memory ps h l e = (update-step d w vd vw memory ps h key amount (eqb-true _ _ e)).0
-    accepted-holds (estimate key) memory ps h l e = h
-    accepted-holds (combine minus source) memory ps h l e =
-        (combine-step d w vd vw memory ps h minus (bytes_of d w source) (behind source) (source-holds source l) (eqb-true _ _ e)).0
+    accepted_holds clear memory ps h l e = rw (cleared_is d w memory h.long (eqb-true _ _ e)) (start_holds d w vw)
+    accepted_holds (update key amount) memory ps h l e = (update_step d w vd vw memory ps h key amount (eqb-true _ _ e)).0
+    accepted_holds (estimate key) memory ps h l e = h
+    accepted_holds (combine minus source) memory ps h l e =
+        (combine_step d w vd vw memory ps h minus (bytes_of d w source) (behind source) (source_holds source l) (eqb-true _ _ e)).0
 
-    source-holds : (source : Source) → LeftBy d w source → Holds d w (bytes_of d w source) (behind source)
-    source-holds (from calls) l = holds calls l
-    source-holds (raw content) l = absurd l
+    source_holds : (source : Source) → LeftBy d w source → Holds d w (bytes_of d w source) (behind source)
+    source_holds (from calls) l = holds calls l
+    source_holds (raw content) l = absurd l
 
   -- an accepted call other than a clearing lowers no level
-  accepted-grows : (call : Call) (memory : List ℕ) (ps : List Pair) → Holds d w memory ps → Listed d w call → (call ≡ clear → ⊥)
+  accepted_grows : (call : Call) (memory : List ℕ) (ps : List Pair) → Holds d w memory ps → Listed d w call → (call ≡ clear → ⊥)
       → eqb (done d w d w call memory).status 0 ≡ true → Grows d w memory (done d w d w call memory).memory
   unfolding done Listed
-  accepted-grows clear memory ps h l n e = absurd (n refl)
-  accepted-grows (update key amount) memory ps h l n e = (update-step d w vd vw memory ps h key amount (eqb-true _ _ e)).1
-  accepted-grows (estimate key) memory ps h l n e = λ r s p q. omega arith
-  accepted-grows (combine minus source) memory ps h l n e =
-      (combine-step d w vd vw memory ps h minus (bytes_of d w source) (behind source) (source-holds source l) (eqb-true _ _ e)).1
+  accepted_grows clear memory ps h l n e = absurd (n refl)
+  accepted_grows (update key amount) memory ps h l n e = (update_step d w vd vw memory ps h key amount (eqb-true _ _ e)).1
+  accepted_grows (estimate key) memory ps h l n e = λ r s p q. omega arith
+  accepted_grows (combine minus source) memory ps h l n e =
+      (combine_step d w vd vw memory ps h minus (bytes_of d w source) (behind source) (source_holds source l) (eqb-true _ _ e)).1
 
   one_grows : (calls : Calls) (d' w' : ℕ) (call : Call) (ok : Bool) → (call ≡ clear → ok ≡ false) → Faithful d w (then calls d' w' call ok)
       → Grows d w (run d w calls) (run d w (then calls d' w' call ok))
@@ -82,33 +82,33 @@ module _ (d w : ℕ) (vd : valid_depth d ≡ true) (vw : valid_width w ≡ true)
   one_grows calls d' w' call true n f =
       let l = f.2 refl in
       told d w d' w' call (run d w calls) (Grows d w (run d w calls)) l.0 l.1
-      (λ e. accepted-grows call (run d w calls) (traffic calls) (holds calls f.0) l.2 (λ z. true≢false (n z)) e) f.1
+      (λ e. accepted_grows call (run d w calls) (traffic calls) (holds calls f.0) l.2 (λ z. true≢false (n z)) e) f.1
   one_grows calls d' w' call false n f = rw (kept d w d' w' call (run d w calls) f.1) (λ r s p q. omega arith)
 
-  later-grows : (calls more : Calls) → Later calls more → Faithful d w more → Grows d w (run d w calls) (run d w more)
+  later_grows : (calls more : Calls) → Later calls more → Faithful d w more → Grows d w (run d w calls) (run d w more)
   unfolding Faithful
-  later-grows calls more now f r s p q = omega arith
-  later-grows calls more (next {more = before} l d' w' call ok n) f r s p q =
-      omega (arith, later-grows calls before l f.0 r s p q, one_grows before d' w' call ok n f r s p q)
+  later_grows calls more now f r s p q = omega arith
+  later_grows calls more (next {more = before} l d' w' call ok n) f r s p q =
+      omega (arith, later_grows calls before l f.0 r s p q, one_grows before d' w' call ok n f r s p q)
 
   module _ (odd : d % 2 ≡ 1) (calls : Calls) (f : Faithful d w calls) where
-    copy-faithful : Faithful d w (then calls d w (combine true (from calls)) true)
+    copy_faithful : Faithful d w (then calls d w (combine true (from calls)) true)
     unfolding Faithful Listed LeftBy done bytes_of
-    copy-faithful = (f, eq-eqb _ 0 (copy-taken d w vd odd vw (run d w calls) (traffic calls) (holds calls f)), λ e. (refl, refl, f))
+    copy_faithful = (f, eq-eqb _ 0 (copy_taken d w vd odd vw (run d w calls) (traffic calls) (holds calls f)), λ e. (refl, refl, f))
 
-    copy-zero : (r s : ℕ) → r < d → s < w
+    copy_zero : (r s : ℕ) → r < d → s < w
         → counter_after d w (then calls d w (combine true (from calls)) true) r s
         ≡ record { status = 0; value = signed_of (pos 0); level = (counter_after d w calls r s).level }
     unfolding run done bytes_of
-    copy-zero = copy-left d w vd odd vw (run d w calls) (traffic calls) (holds calls f)
+    copy_zero = copy_left d w vd odd vw (run d w calls) (traffic calls) (holds calls f)
 
     claim : Claim d w calls
     claim =
         record {
           counters = counters d w vd odd vw (run d w calls) (traffic calls) (holds calls f);
-          estimates = λ key p q. estimate-is d w vd odd vw (run d w calls) (traffic calls) (holds calls f) key (good_key (length key) p q);
-          stays = later-grows calls;
-          taken_away = (copy-faithful, copy-zero);
+          estimates = λ key p q. estimate_is d w vd odd vw (run d w calls) (traffic calls) (holds calls f) key (good_key (length key) p q);
+          stays = later_grows calls;
+          taken_away = (copy_faithful, copy_zero);
         }
 
 -- Request 3's law, of every list of a signed meter's calls.

@@ -7,7 +7,7 @@ use borrow.Author.Tests.{eq-eqb, ne_eqb}
 use lib.Dec.{eqb}
 use lib.IntN.{ℤ, pos, ◌+ℤ◌, +ℤ_comm, +ℤ_assoc, +ℤ_idl, +ℤ_invr}
 use Rattle.group_block_laws.specs.Counts.{Adds}
-use Rattle.group_block_laws.proofs.Counting.{Plus, plus-adds}
+use Rattle.group_block_laws.proofs.Counting.{Plus, plus_adds}
 use Rattle.hash.specs.Hash.{basis}
 use Rattle.meter_keys.specs.Keys.{key_slot, key_sign}
 use Rattle.signed_number.specs.Number.{times_sign}
@@ -27,10 +27,10 @@ times_swap false false v = refl
 
 module _ (w r : ℕ) where
   -- one pair more is its amount times the sign more at the key's slot
-  pub pair-plus : (p : Pair) (ps : List Pair)
+  pub pair_plus : (p : Pair) (ps : List Pair)
       → Plus signed (block_total w r ps) (block_total w r (p ∷ ps)) (key_slot basis w p.key r) (times_sign (key_sign basis p.key r) p.amount)
   unfolding block_total share block_of
-  pair-plus p ps =
+  pair_plus p ps =
       let s = key_slot basis w p.key r in
       record {
         at = λ n i e. rw (eq-eqb (s / 2 ^ n) i e) (+ℤ_comm (times_sign (key_sign basis p.key r) p.amount) (block_total w r ps n i));
@@ -38,23 +38,23 @@ module _ (w r : ℕ) where
       }
 
   -- a block's total is the sum of its halves'
-  pub totals-add : (ps : List Pair) → Adds signed (block_total w r ps)
+  pub totals_add : (ps : List Pair) → Adds signed (block_total w r ps)
   unfolding block_total
-  totals-add [] n i = refl
-  totals-add (p ∷ ps) n i =
-      plus-adds signed (block_total w r ps) (block_total w r (p ∷ ps)) (key_slot basis w p.key r) (times_sign (key_sign basis p.key r) p.amount)
-      (pair-plus p ps) signed_sums (totals-add ps) n i
+  totals_add [] n i = refl
+  totals_add (p ∷ ps) n i =
+      plus_adds signed (block_total w r ps) (block_total w r (p ∷ ps)) (key_slot basis w p.key r) (times_sign (key_sign basis p.key r) p.amount)
+      (pair_plus p ps) signed_sums (totals_add ps) n i
 
   -- two traffics together, and one times a sign
-  totals-append : (ps qs : List Pair) (n i : ℕ) → block_total w r (ps ++ qs) n i ≡ block_total w r ps n i +ℤ block_total w r qs n i
+  totals_append : (ps qs : List Pair) (n i : ℕ) → block_total w r (ps ++ qs) n i ≡ block_total w r ps n i +ℤ block_total w r qs n i
   unfolding block_total
-  totals-append [] qs n i = sym (+ℤ_idl (block_total w r qs n i))
-  totals-append (p ∷ ps) qs n i =
-      ap (λ (x : ℤ). share w r n i p +ℤ x) (totals-append ps qs n i) ∙ sym (+ℤ_assoc (share w r n i p) (block_total w r ps n i) (block_total w r qs n i))
+  totals_append [] qs n i = sym (+ℤ_idl (block_total w r qs n i))
+  totals_append (p ∷ ps) qs n i =
+      ap (λ (x : ℤ). share w r n i p +ℤ x) (totals_append ps qs n i) ∙ sym (+ℤ_assoc (share w r n i p) (block_total w r ps n i) (block_total w r qs n i))
 
-  share-times : (minus : Bool) (p : Pair) (n i : ℕ) → share w r n i (record { key = p.key; amount = times_sign minus p.amount }) ≡ times_sign minus (share w r n i p)
+  share_times : (minus : Bool) (p : Pair) (n i : ℕ) → share w r n i (record { key = p.key; amount = times_sign minus p.amount }) ≡ times_sign minus (share w r n i p)
   unfolding share
-  share-times minus p n i = go (eqb (block_of w r n p.key) i)
+  share_times minus p n i = go (eqb (block_of w r n p.key) i)
     where
       sign : Bool
       sign = key_sign basis p.key r
@@ -63,21 +63,21 @@ module _ (w r : ℕ) where
       go true = times_swap sign minus p.amount
       go false = sym (times_zero minus)
 
-  totals-times : (minus : Bool) (ps : List Pair) (n i : ℕ) → block_total w r (times_pairs minus ps) n i ≡ times_sign minus (block_total w r ps n i)
+  totals_times : (minus : Bool) (ps : List Pair) (n i : ℕ) → block_total w r (times_pairs minus ps) n i ≡ times_sign minus (block_total w r ps n i)
   unfolding block_total times_pairs
-  totals-times minus [] n i = sym (times_zero minus)
-  totals-times minus (p ∷ ps) n i =
-      ap₂ (λ (x y : ℤ). x +ℤ y) (share-times minus p n i) (totals-times minus ps n i) ∙ sym (times_plus minus (share w r n i p) (block_total w r ps n i))
+  totals_times minus [] n i = sym (times_zero minus)
+  totals_times minus (p ∷ ps) n i =
+      ap₂ (λ (x y : ℤ). x +ℤ y) (share_times minus p n i) (totals_times minus ps n i) ∙ sym (times_plus minus (share w r n i p) (block_total w r ps n i))
 
   -- a source added or taken away
-  pub totals-combined : (minus : Bool) (qs ps : List Pair) (n i : ℕ)
+  pub totals_combined : (minus : Bool) (qs ps : List Pair) (n i : ℕ)
       → block_total w r (times_pairs minus qs ++ ps) n i ≡ block_total w r ps n i +ℤ times_sign minus (block_total w r qs n i)
-  totals-combined minus qs ps n i =
-      totals-append (times_pairs minus qs) ps n i
-      ∙ ap (λ (x : ℤ). x +ℤ block_total w r ps n i) (totals-times minus qs n i)
+  totals_combined minus qs ps n i =
+      totals_append (times_pairs minus qs) ps n i
+      ∙ ap (λ (x : ℤ). x +ℤ block_total w r ps n i) (totals_times minus qs n i)
       ∙ +ℤ_comm (times_sign minus (block_total w r qs n i)) (block_total w r ps n i)
 
   -- a traffic taken away from itself
-  pub totals-itself : (ps : List Pair) (n i : ℕ) → block_total w r (times_pairs true ps ++ ps) n i ≡ pos 0
+  pub totals_itself : (ps : List Pair) (n i : ℕ) → block_total w r (times_pairs true ps ++ ps) n i ≡ pos 0
   unfolding times_sign
-  totals-itself ps n i = totals-combined true ps ps n i ∙ +ℤ_invr (block_total w r ps n i)
+  totals_itself ps n i = totals_combined true ps ps n i ∙ +ℤ_invr (block_total w r ps n i)

@@ -101,41 +101,41 @@ module _ (g : Group) (s : Summed) (x : SumOf signed 3) (e : s ≡ signed_summed 
 
 -- additions and unions, by the lines that refuse them
 module _ (g : Group) (slot : ℕ) (a : ℤ) where
-  pub added-refused : (bad_group g ≡ 0 → ⊥) → added g slot a ≡ unchanged (bad_group g) g
+  pub added_refused : (bad_group g ≡ 0 → ⊥) → added g slot a ≡ unchanged (bad_group g) g
   unfolding added
-  added-refused n = rw (ne_eqb (bad_group g) 0 n)
+  added_refused n = rw (ne_eqb (bad_group g) 0 n)
 
-  pub added-settled : bad_group g ≡ 0 → added g slot a ≡ settle g (add (decode g) (slot % 8) a)
+  pub added_settled : bad_group g ≡ 0 → added g slot a ≡ settle g (add (decode g) (slot % 8) a)
   unfolding added
-  added-settled e = rw (eq-eqb (bad_group g) 0 e)
+  added_settled e = rw (eq-eqb (bad_group g) 0 e)
 
 module _ (minus : Bool) (g h : Group) where
   abbrev united : SumOf signed 3
   united = unite (decode g) (times_block minus (decode h))
 
-  pub combined-refused : (bad_pair g h ≡ 0 → ⊥) → combined minus g h ≡ unchanged (bad_pair g h) g
+  pub combined_refused : (bad_pair g h ≡ 0 → ⊥) → combined minus g h ≡ unchanged (bad_pair g h) g
   unfolding combined
-  combined-refused n = rw (ne_eqb (bad_pair g h) 0 n)
+  combined_refused n = rw (ne_eqb (bad_pair g h) 0 n)
 
-  pub combined-settled : bad_pair g h ≡ 0 → combined minus g h ≡ settle g united
+  pub combined_settled : bad_pair g h ≡ 0 → combined minus g h ≡ settle g united
   unfolding combined
-  combined-settled e = rw (eq-eqb (bad_pair g h) 0 e)
+  combined_settled e = rw (eq-eqb (bad_pair g h) 0 e)
 
   -- by the totals
   module _ (k : number g.counts < cap 3) (k' : number h.counts < cap 3) where
-    pub united-sound : Sound united
-    united-sound = unite_sound (decode g) (times_block minus (decode h)) (decode_fits g k) (times_fits minus (decode h) (decode_fits h k'))
+    pub united_sound : Sound united
+    united_sound = unite_sound (decode g) (times_block minus (decode h)) (decode_fits g k) (times_fits minus (decode h) (decode_fits h k'))
 
-    united-total : sum_total united ≡ total (decode g) +ℤ times_sign minus (total (decode h))
-    united-total = unite_total_of signed_sums (decode g) (times_block minus (decode h)) ∙ ap (λ (x : ℤ). total (decode g) +ℤ x) (times_total minus (decode h))
+    united_total : sum_total united ≡ total (decode g) +ℤ times_sign minus (total (decode h))
+    united_total = unite_total_of signed_sums (decode g) (times_block minus (decode h)) ∙ ap (λ (x : ℤ). total (decode g) +ℤ x) (times_total minus (decode h))
 
-    pub status-fits : bad_pair g h ≡ 0 → nat_abs (total (decode g) +ℤ times_sign minus (total (decode h))) < top 3 → (combined minus g h).status ≡ 0
+    pub status_fits : bad_pair g h ≡ 0 → nat_abs (total (decode g) +ℤ times_sign minus (total (decode h))) < top 3 → (combined minus g h).status ≡ 0
     unfolding stored
-    status-fits e s =
+    status_fits e s =
         ap (λ (o : Outcome). o.status)
-        (combined-settled e ∙ settle_summed signed_passing g united (fits_of signed_passing united united-sound (rw united-total s)))
+        (combined_settled e ∙ settle_summed signed_passing g united (fits_of signed_passing united united_sound (rw united_total s)))
 
-    pub status-full : bad_pair g h ≡ 0 → top 3 ≤ nat_abs (total (decode g) +ℤ times_sign minus (total (decode h))) → (combined minus g h).status ≡ counter_full
-    status-full e s =
+    pub status_full : bad_pair g h ≡ 0 → top 3 ≤ nat_abs (total (decode g) +ℤ times_sign minus (total (decode h))) → (combined minus g h).status ≡ counter_full
+    status_full e s =
         ap (λ (o : Outcome). o.status)
-        (combined-settled e ∙ settle_past signed_passing g united (over_of_lem signed_sums signed_passing united united-sound (rw united-total s)))
+        (combined_settled e ∙ settle_past signed_passing g united (over_of_lem signed_sums signed_passing united united_sound (rw united_total s)))

@@ -18,7 +18,7 @@ use Rattle.group.specs.Group.{encode, unchanged, settle}
 use Rattle.group.proofs.Outcomes.{settle_eight}
 use Rattle.signed_block.specs.Signed.{signed, times_block}
 use Rattle.signed_group.specs.Group.{decode, bad_group, bad_pair, added, combined}
-use Rattle.signed_group.proofs.Laws.{decode_encode, encode_good, decode_fits, united-sound}
+use Rattle.signed_group.proofs.Laws.{decode_encode, encode_good, decode_fits, united_sound}
 
 -- a sum that is a block, and the group that encodes it
 pub record Left (x : SumOf signed 3) (g : Group) : Type 0 where
@@ -49,27 +49,27 @@ settle_refused g (fits b) n = absurd (n refl)
 settle_refused g (over s) n = refl
 
 module _ (s : ℕ) (g : Group) (x : SumOf signed 3) where
-  call-clean : (call s g x).status ≡ 0 → s ≡ 0
-  call-clean = go (eqb s 0) refl
+  call_clean : (call s g x).status ≡ 0 → s ≡ 0
+  call_clean = go (eqb s 0) refl
     where
       go : (t : Bool) → eqb s 0 ≡ t → (cond t (settle g x) (unchanged s g)).status ≡ 0 → s ≡ 0
       go true t e = eqb-true s 0 t
       go false t e = e
 
-  call-accepted : Sound x → (call s g x).status ≡ 0 → (s ≡ 0) × Left x (call s g x).group
-  call-accepted f e =
-      let z = call-clean e in
+  call_accepted : Sound x → (call s g x).status ≡ 0 → (s ≡ 0) × Left x (call s g x).group
+  call_accepted f e =
+      let z = call_clean e in
       rw (eq-eqb s 0 z) (z, settle_accepted g x f (rw (eq-eqb s 0 z) at e))
 
-  call-refused : ((call s g x).status ≡ 0 → ⊥) → (call s g x).group ≡ g
-  call-refused = go (eqb s 0)
+  call_refused : ((call s g x).status ≡ 0 → ⊥) → (call s g x).group ≡ g
+  call_refused = go (eqb s 0)
     where
       go : (t : Bool) → ((cond t (settle g x) (unchanged s g)).status ≡ 0 → ⊥) → (cond t (settle g x) (unchanged s g)).group ≡ g
       go true n = settle_refused g x n
       go false n = refl
 
-  call-eight : length g.counts ≡ 8 → length (call s g x).group.counts ≡ 8
-  call-eight h = go (eqb s 0)
+  call_eight : length g.counts ≡ 8 → length (call s g x).group.counts ≡ 8
+  call_eight h = go (eqb s 0)
     where
       go : (t : Bool) → length (cond t (settle g x) (unchanged s g)).group.counts ≡ 8
       go true = settle_eight g x h
@@ -77,34 +77,34 @@ module _ (s : ℕ) (g : Group) (x : SumOf signed 3) where
 
 -- an addition
 module _ (g : Group) (slot : ℕ) (a : ℤ) where
-  pub added-accepted : number g.counts < cap 3 → (added g slot a).status ≡ 0 → (bad_group g ≡ 0) × Left (add (decode g) (slot % 8) a) (added g slot a).group
+  pub added_accepted : number g.counts < cap 3 → (added g slot a).status ≡ 0 → (bad_group g ≡ 0) × Left (add (decode g) (slot % 8) a) (added g slot a).group
   unfolding added
-  added-accepted h e =
-      call-accepted (bad_group g) g (add (decode g) (slot % 8) a) (add_sound (decode g) (slot % 8) a (decode_fits g h)) e
+  added_accepted h e =
+      call_accepted (bad_group g) g (add (decode g) (slot % 8) a) (add_sound (decode g) (slot % 8) a (decode_fits g h)) e
 
-  pub added-same : ((added g slot a).status ≡ 0 → ⊥) → (added g slot a).group ≡ g
+  pub added_same : ((added g slot a).status ≡ 0 → ⊥) → (added g slot a).group ≡ g
   unfolding added
-  added-same n = call-refused (bad_group g) g (add (decode g) (slot % 8) a) n
+  added_same n = call_refused (bad_group g) g (add (decode g) (slot % 8) a) n
 
   pub added_eight : length g.counts ≡ 8 → length (added g slot a).group.counts ≡ 8
   unfolding added
-  added_eight h = call-eight (bad_group g) g (add (decode g) (slot % 8) a) h
+  added_eight h = call_eight (bad_group g) g (add (decode g) (slot % 8) a) h
 
 -- a source times a sign united with a target
 module _ (minus : Bool) (g h : Group) where
-  pub combined-clean : (combined minus g h).status ≡ 0 → bad_pair g h ≡ 0
+  pub combined_clean : (combined minus g h).status ≡ 0 → bad_pair g h ≡ 0
   unfolding combined
-  combined-clean e = call-clean (bad_pair g h) g (unite (decode g) (times_block minus (decode h))) e
+  combined_clean e = call_clean (bad_pair g h) g (unite (decode g) (times_block minus (decode h))) e
 
-  pub combined-accepted : number g.counts < cap 3 → number h.counts < cap 3 → (combined minus g h).status ≡ 0
+  pub combined_accepted : number g.counts < cap 3 → number h.counts < cap 3 → (combined minus g h).status ≡ 0
       → (bad_pair g h ≡ 0) × Left (unite (decode g) (times_block minus (decode h))) (combined minus g h).group
   unfolding combined
-  combined-accepted k k' e = call-accepted (bad_pair g h) g (unite (decode g) (times_block minus (decode h))) (united-sound minus g h k k') e
+  combined_accepted k k' e = call_accepted (bad_pair g h) g (unite (decode g) (times_block minus (decode h))) (united_sound minus g h k k') e
 
-  pub combined-same : ((combined minus g h).status ≡ 0 → ⊥) → (combined minus g h).group ≡ g
+  pub combined_same : ((combined minus g h).status ≡ 0 → ⊥) → (combined minus g h).group ≡ g
   unfolding combined
-  combined-same n = call-refused (bad_pair g h) g (unite (decode g) (times_block minus (decode h))) n
+  combined_same n = call_refused (bad_pair g h) g (unite (decode g) (times_block minus (decode h))) n
 
-  pub combined-eight : length g.counts ≡ 8 → length (combined minus g h).group.counts ≡ 8
+  pub combined_eight : length g.counts ≡ 8 → length (combined minus g h).group.counts ≡ 8
   unfolding combined
-  combined-eight k = call-eight (bad_pair g h) g (unite (decode g) (times_block minus (decode h))) k
+  combined_eight k = call_eight (bad_pair g h) g (unite (decode g) (times_block minus (decode h))) k

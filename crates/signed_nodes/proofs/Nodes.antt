@@ -83,27 +83,27 @@ module _ (n w m w' m' : ℕ) (h : w < cap (suc n)) (h' : w' < cap (suc n)) where
   abbrev r' : BlockOf signed n
   r' = signed_block n (w' / cap n) (m' / 2 ^ (2 ^ n))
 
-  lefts-sound : Sound (unite l l')
-  lefts-sound = unite_sound l l' (block_fits_of signed_codes n _ _ (mod-lt w (cap_pos n))) (block_fits_of signed_codes n _ _ (mod-lt w' (cap_pos n)))
+  lefts_sound : Sound (unite l l')
+  lefts_sound = unite_sound l l' (block_fits_of signed_codes n _ _ (mod-lt w (cap_pos n))) (block_fits_of signed_codes n _ _ (mod-lt w' (cap_pos n)))
 
-  rights-sound : Sound (unite r r')
-  rights-sound = unite_sound r r' (block_fits_of signed_codes n _ _ (high_lt n w h)) (block_fits_of signed_codes n _ _ (high_lt n w' h'))
+  rights_sound : Sound (unite r r')
+  rights_sound = unite_sound r r' (block_fits_of signed_codes n _ _ (high_lt n w h)) (block_fits_of signed_codes n _ _ (high_lt n w' h'))
 
   module _ (s : Node) (a-is : Raised (suc n) s.a (total l +ℤ total r)) (b-is : Raised (suc n) s.b (total l' +ℤ total r'))
-      (p q : Summed) (p-is : Tells p (unite l l')) (q-is : Tells q (unite r r')) (s-is : BesideAs n p q (passed s)) where
-    pub sides-are : Sides (suc n) s w m w' m'
+      (p q : Summed) (p_is : Tells p (unite l l')) (q-is : Tells q (unite r r')) (s-is : BesideAs n p q (passed s)) where
+    pub sides_are : Sides (suc n) s w m w' m'
     unfolding unite total
-    sides-are = record {
+    sides_are = record {
       first = λ e. rw (block_suc signed n w m e) a-is;
       second = λ e. rw (block_suc signed n w' m' e) b-is;
       one = λ e e' o. rw (block_suc signed n w m e, block_suc signed n w' m' e')
-          (join_over (unite l l') (unite r r') (ap₂ (λ (a b : Bool). a || b) (sym p-is.whether) (sym q-is.whether) ∙ sym s-is.either ∙ o)
+          (join_over (unite l l') (unite r r') (ap₂ (λ (a b : Bool). a || b) (sym p_is.whether) (sym q-is.whether) ∙ sym s-is.either ∙ o)
           ∙ ap (held (suc n)) (ap₂ (λ (x y : ℤ). x +ℤ y) (unite_total_of signed_sums l l') (unite_total_of signed_sums r r')
           ∙ cross signed_sums (total l) (total l') (total r) (total r')));
       both = λ e e' o.
           let f = or_false p.over q.over (sym s-is.either ∙ o) in
           rw (block_suc signed n w m e, block_suc signed n w' m' e')
-          (join_kept p q (passed s) (unite l l') (unite r r') (kept p (unite l l') lefts-sound p-is f.0) (kept q (unite r r') rights-sound q-is f.1) s-is o);
+          (join_kept p q (passed s) (unite l l') (unite r r') (kept p (unite l l') lefts_sound p_is f.0) (kept q (unite r r') rights_sound q-is f.1) s-is o);
     }
 
 -- where either is one counter, or the union of two halves is over, so is the union
@@ -114,13 +114,13 @@ module _ (n w m w' m' : ℕ) (sides : Node) (known : Sides n sides w m w' m') wh
   abbrev y : BlockOf signed n
   y = signed_block n w' m'
 
-  one-counter : (a b c : Bool) → is_merged (layout n m) ≡ a → is_merged (layout n m') ≡ b → sides.over ≡ c → ((a || b) || c) ≡ true
+  one_counter : (a b c : Bool) → is_merged (layout n m) ≡ a → is_merged (layout n m') ≡ b → sides.over ≡ c → ((a || b) || c) ≡ true
       → unite x y ≡ held n (total x +ℤ total y)
   unfolding unite total
-  one-counter true b c e f g o = rw (block_merged_of signed n w m e)
-  one-counter false true c e f g o = rw (block_merged_of signed n w' m' f) (unite_counter x (sign_read n w'))
-  one-counter false false true e f g o = known.one e f g
-  one-counter false false false e f g o = absurd (true≢false (sym o))
+  one_counter true b c e f g o = rw (block_merged_of signed n w m e)
+  one_counter false true c e f g o = rw (block_merged_of signed n w' m' f) (unite_counter x (sign_read n w'))
+  one_counter false false true e f g o = known.one e f g
+  one_counter false false false e f g o = absurd (true≢false (sym o))
 
   sides_apart : (a b c : Bool) → is_merged (layout n m) ≡ a → is_merged (layout n m') ≡ b → sides.over ≡ c → ((a || b) || c) ≡ false
       → record { over = false; word = sides.word; merge = sides.merge } ≡ signed_summed (unite x y)
@@ -130,10 +130,10 @@ module _ (n w m w' m' : ℕ) (sides : Node) (known : Sides n sides w m w' m') wh
   sides_apart false false false e f g o = ap (λ (b : Bool). record { over = b; word = sides.word; merge = sides.merge }) (sym g) ∙ known.both e f g
 
   -- the union as the code chooses it
-  pub chosen-tells : (t : Summed) → Tells t (held {K = signed} n (total x +ℤ total y)) → (one : Bool) → ((is_merged (layout n m) || is_merged (layout n m')) || sides.over) ≡ one
+  pub chosen_tells : (t : Summed) → Tells t (held {K = signed} n (total x +ℤ total y)) → (one : Bool) → ((is_merged (layout n m) || is_merged (layout n m')) || sides.over) ≡ one
       → Tells (record { over = one && t.over; word = cond one t.word sides.word; merge = cond one t.merge sides.merge }) (unite x y)
-  chosen-tells t k true e = rw (one-counter _ _ _ refl refl refl e) k
-  chosen-tells t k false e = let s = sides_apart _ _ _ refl refl refl e in
+  chosen_tells t k true e = rw (one_counter _ _ _ refl refl refl e) k
+  chosen_tells t k false e = let s = sides_apart _ _ _ refl refl refl e in
       record { whether = ap (λ (u : Summed). u.over) s; block = λ o. s }
 
 -- a block's total is held by one counter of its level

@@ -123,7 +123,7 @@ canonical_is s v e = e ∙ ap signed_of (sym (integer_is s v e))
 -- zero is plus
 pub minus_nonzero : (s : Signed) → s ≡ signed_of (integer_of s) → s.minus ≡ true → 0 < s.magnitude
 unfolding signed_of
-minus_nonzero s c e = elim (dec_lt 0 s.magnitude) [ yes h ↦ h | no h ↦ absurd (true≢false (sym e ∙ zero-plus (omega arith))) ]
+minus_nonzero s c e = elim (dec_lt 0 s.magnitude) [ yes h ↦ h | no h ↦ absurd (true≢false (sym e ∙ zero_plus (omega arith))) ]
   where
-    zero-plus : s.magnitude ≡ 0 → s.minus ≡ false
-    zero-plus z = ap (λ (t : Signed). t.minus) (c ∙ ap (λ (m : ℕ). signed_of (integer s.minus m)) z ∙ ap signed_of (times_zero s.minus))
+    zero_plus : s.magnitude ≡ 0 → s.minus ≡ false
+    zero_plus z = ap (λ (t : Signed). t.minus) (c ∙ ap (λ (m : ℕ). signed_of (integer s.minus m)) z ∙ ap signed_of (times_zero s.minus))

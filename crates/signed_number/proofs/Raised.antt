@@ -75,12 +75,12 @@ module _ (t x : ℕ) (v : ℤ) (r : Raised t x v) where
   pub raised_minus : x < t → v ≡ neg_ℤ (pos (t - x))
   raised_minus h = sym r ∙ sub_minus x t h
 
-  pub raised-size : nat_abs v ≡ (x - t) + (t - x)
-  raised-size = ap nat_abs (sym r) ∙ sub_size x t
+  pub raised_size : nat_abs v ≡ (x - t) + (t - x)
+  raised_size = ap nat_abs (sym r) ∙ sub_size x t
 
   -- more taken away than there is: at least t is taken from 0
-  pub sunken-size : (m : ℕ) → x ≤ m → t ≤ nat_abs (v +ℤ neg_ℤ (pos m))
-  sunken-size m h =
+  pub sunken_size : (m : ℕ) → x ≤ m → t ≤ nat_abs (v +ℤ neg_ℤ (pos m))
+  sunken_size m h =
       let e : v +ℤ neg_ℤ (pos m) ≡ sub_ℕ x (t + m) =
       ap (λ (z : ℤ). z +ℤ neg_ℤ (pos m)) (sym r ∙ sub_is x t)
       ∙ +ℤ_assoc (pos x) (neg_ℤ (pos t)) (neg_ℤ (pos m))

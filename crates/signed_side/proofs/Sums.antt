@@ -68,9 +68,9 @@ module _ (a b s : ℕ) (h : a < 256) (k : b < 256) (e : s ≡ (a + b) % 256) (o 
 
 -- a slot as a byte modulo 256, and back
 module _ (b : ℕ) (h : b < 256) (n : b ≡ 128 → ⊥) where
-  complement-in : (complement b < 256) × (complement b ≡ 128 → ⊥)
+  complement_in : (complement b < 256) × (complement b ≡ 128 → ⊥)
   unfolding complement
-  complement-in = elim (dec_lt b 128) [
+  complement_in = elim (dec_lt b 128) [
     | yes l ↦ rw (lt-ltb b 128 l) (h, n)
     | no l ↦ rw (le-ltb b 128 (omega arith)) (omega arith, λ e. n (omega arith))
   ]
@@ -106,19 +106,19 @@ module _ (b : ℕ) (h : b < 256) (n : b ≡ 128 → ⊥) where
     | no l ↦ low ((256 - b) % 256) (omega arith) ∙ ap pos (omega arith) ∙ ap neg_ℤ (sym (high b (omega arith)))
   ]
 
-  times-is : (minus : Bool) → value (times minus b) ≡ times_sign minus (value b)
+  times_is : (minus : Bool) → value (times minus b) ≡ times_sign minus (value b)
   unfolding times times_sign
-  times-is true = negated
-  times-is false = refl
+  times_is true = negated
+  times_is false = refl
 
 -- the slot of the sum of two, by the bytes that the code makes
 module _ (minus : Bool) (a b : ℕ) (h : a < 256) (k : b < 256) (n : Neither a b) where
   pub slot_held : (x y s c : ℕ) → x ≡ complement a → y ≡ times minus (complement b) → s ≡ (x + y) % 256 → c ≡ complement s → InSlot x y → HoldsSum minus a b c
   slot_held x y s c ex ey es ec o =
-      let d = complement-in b k n.1 in
+      let d = complement_in b k n.1 in
       let first : sign_read 0 a ≡ value x = read_is a h n.0 ∙ ap value (sym ex) in
       let second : times_sign minus (sign_read 0 b) ≡ value y =
-      ap (times_sign minus) (read_is b k n.1) ∙ sym (times-is (complement b) d.0 d.1 minus) ∙ ap value (sym ey) in
+      ap (times_sign minus) (read_is b k n.1) ∙ sym (times_is (complement b) d.0 d.1 minus) ∙ ap value (sym ey) in
       let sum : sign_read 0 a +ℤ times_sign minus (sign_read 0 b) ≡ value s = ap₂ (λ (u v : ℤ). u +ℤ v) first second ∙ o.0 ∙ ap value (sym es) in
       let slot = slot_is s (omega arith) (λ z. o.1 (sym es ∙ z)) in
       (n, rw sum slot.0, ec ∙ slot.1 ∙ ap (sign_bits 0) (sym sum))
@@ -133,9 +133,9 @@ module _ (counts source : List ℕ) (i bad : ℕ) where
       below_more (λ (k : ℕ). Neither (get_or counts k 0) (get_or source k 0)) i (before (omega (arith, o.0, p.0)))
       (unmarked 1 (get_or counts i 0) m e (omega (arith, o.1, p.0)), unmarked 1 (get_or source i 0) n f (omega (arith, p.1)))
 
-  pub sums-turn : (minus : Bool) (bytes : List ℕ) (c m : ℕ) → i < length bytes → (bad < 128 → HoldSums minus i counts source bytes)
+  pub sums_turn : (minus : Bool) (bytes : List ℕ) (c m : ℕ) → i < length bytes → (bad < 128 → HoldSums minus i counts source bytes)
       → (m < 128 → HoldsSum minus (get_or counts i 0) (get_or source i 0) c) → bit_or bad m < 128 → HoldSums minus (i + 1) counts source (set bytes i c)
-  sums-turn minus bytes c m h before here z =
+  sums_turn minus bytes c m h before here z =
       let o = or_above bad m in
       below_more (λ (k : ℕ). HoldsSum minus (get_or counts k 0) (get_or source k 0) (get_or (set bytes i c) k 0)) i
       (λ k l. rw (get_or-set_other bytes i k c 0 (λ e. omega arith)) (before (omega (arith, o.0)) k l))

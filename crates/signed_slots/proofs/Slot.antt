@@ -12,7 +12,7 @@ use Rattle.signed_number.proofs.Integers.{abs_integer, times_plus, sum_parts}
 use Rattle.signed_block.specs.Signed.{top, sign_bits, sign_read}
 use Rattle.signed_block.proofs.Counters.{bits_neg}
 use Rattle.signed_slots.specs.Slots.{signs, magnitudes, folded, apart, total, past, size, minus, sums, over}
-use Rattle.signed_slots.proofs.Lanes.{signs_is, magnitudes_is, size-le}
+use Rattle.signed_slots.proofs.Lanes.{signs_is, magnitudes_is, size_le}
 
 -- a slot's value by its sign and its magnitude
 read_is : (w : ℕ) (s : Bool) → w / 128 ≡ cond s 1 0 → sign_read 0 w ≡ integer s (w % 128)
@@ -89,9 +89,9 @@ module _ (x y : ℕ) (h : x < 256) (k : y < 256) where
   abbrev n : ℕ
   n = y % 128
 
-  sums-coded : sums 1 127 x y ≡ coded (bit_xor (signs 1 x) (past 1 127 x y)) (size 1 127 x y)
+  sums_coded : sums 1 127 x y ≡ coded (bit_xor (signs 1 x) (past 1 127 x y)) (size 1 127 x y)
   unfolding sums minus coded
-  sums-coded = rw (signs_is (size 1 127 x y + 127) (omega (arith, size-le x y)))
+  sums_coded = rw (signs_is (size 1 127 x y + 127) (omega (arith, size_le x y)))
 
   -- of one sign
   module _ (a : apart 1 x y ≡ 0) where
@@ -105,50 +105,50 @@ module _ (x y : ℕ) (h : x < 256) (k : y < 256) where
         let t : signs 1 (total 1 127 x y) ≡ (m + n) / 128 = rw same_total (signs_is (m + n) (omega arith)) in
         rw (t, a) (omega (arith, and_mask ((m + n) / 128) 1))
 
-    same-past : past 1 127 x y ≡ 0
+    same_past : past 1 127 x y ≡ 0
     unfolding past
-    same-past = rw a (and_zero_l (bit_xor (signs 1 (total 1 127 x y)) 1))
+    same_past = rw a (and_zero_l (bit_xor (signs 1 (total 1 127 x y)) 1))
 
     same_size : m + n < 128 → size 1 127 x y ≡ m + n
     unfolding size
-    same_size l = rw (same-past, fold_none (magnitudes 127 (total 1 127 x y)), magnitudes_is (total 1 127 x y), same_total) (omega arith)
+    same_size l = rw (same_past, fold_none (magnitudes 127 (total 1 127 x y)), magnitudes_is (total 1 127 x y), same_total) (omega arith)
 
   -- of two signs
   module _ (a : apart 1 x y ≡ 1) where
-    other-total : total 1 127 x y ≡ m + (128 - n)
+    other_total : total 1 127 x y ≡ m + (128 - n)
     unfolding total
-    other-total = rw (a, magnitudes_is x, magnitudes_is y, fold_one n (omega arith))
+    other_total = rw (a, magnitudes_is x, magnitudes_is y, fold_one n (omega arith))
 
-    other-over : over 1 127 x y ≡ 0
+    other_over : over 1 127 x y ≡ 0
     unfolding over
-    other-over = rw a (and_zero_r (signs 1 (total 1 127 x y)))
+    other_over = rw a (and_zero_r (signs 1 (total 1 127 x y)))
 
     above : signs 1 (total 1 127 x y) ≡ (m + (128 - n)) / 128
-    above = rw other-total (signs_is (m + (128 - n)) (omega arith))
+    above = rw other_total (signs_is (m + (128 - n)) (omega arith))
 
-    large-past : n ≤ m → past 1 127 x y ≡ 0
+    large_past : n ≤ m → past 1 127 x y ≡ 0
     unfolding past
-    large-past l = let e : (m + (128 - n)) / 128 ≡ 1 = omega arith in rw (a, above, e)
+    large_past l = let e : (m + (128 - n)) / 128 ≡ 1 = omega arith in rw (a, above, e)
 
-    large-size : n ≤ m → size 1 127 x y ≡ m - n
+    large_size : n ≤ m → size 1 127 x y ≡ m - n
     unfolding size
-    large-size l = rw (large-past l, fold_none (magnitudes 127 (total 1 127 x y)), magnitudes_is (total 1 127 x y), other-total) (omega arith)
+    large_size l = rw (large_past l, fold_none (magnitudes 127 (total 1 127 x y)), magnitudes_is (total 1 127 x y), other_total) (omega arith)
 
-    small-past : m < n → past 1 127 x y ≡ 1
+    small_past : m < n → past 1 127 x y ≡ 1
     unfolding past
-    small-past l = let e : (m + (128 - n)) / 128 ≡ 0 = omega arith in rw (a, above, e)
+    small_past l = let e : (m + (128 - n)) / 128 ≡ 0 = omega arith in rw (a, above, e)
 
     small_size : m < n → size 1 127 x y ≡ n - m
     unfolding size
     small_size l =
         let e : (m + (128 - n)) % 128 ≡ 128 - (n - m) = omega arith in
-        rw (small-past l, magnitudes_is (total 1 127 x y), other-total, e, fold_one (128 - (n - m)) (omega arith)) (omega arith)
+        rw (small_past l, magnitudes_is (total 1 127 x y), other_total, e, fold_one (128 - (n - m)) (omega arith)) (omega arith)
 
   -- by the signs
   module _ (s t : Bool) (e : x / 128 ≡ cond s 1 0) (f : y / 128 ≡ cond t 1 0) where
-    apart-is : apart 1 x y ≡ bit_xor (cond s 1 0) (cond t 1 0)
+    apart_is : apart 1 x y ≡ bit_xor (cond s 1 0) (cond t 1 0)
     unfolding apart
-    apart-is = rw (signs_is x h, signs_is y k, e, f)
+    apart_is = rw (signs_is x h, signs_is y k, e, f)
 
     first_is : signs 1 x ≡ cond s 1 0
     first_is = signs_is x h ∙ e
@@ -156,27 +156,27 @@ module _ (x y : ℕ) (h : x < 256) (k : y < 256) where
     value_is : sign_read 0 x +ℤ sign_read 0 y ≡ integer s m +ℤ integer t n
     value_is = ap₂ (λ (u v : ℤ). u +ℤ v) (read_is x s e) (read_is y t f)
 
-  same-apart : (s : Bool) → x / 128 ≡ cond s 1 0 → y / 128 ≡ cond s 1 0 → apart 1 x y ≡ 0
-  same-apart s e f = apart-is s s e f ∙ xor_self (cond s 1 0)
+  same_apart : (s : Bool) → x / 128 ≡ cond s 1 0 → y / 128 ≡ cond s 1 0 → apart 1 x y ≡ 0
+  same_apart s e f = apart_is s s e f ∙ xor_self (cond s 1 0)
 
-  other-apart : (s : Bool) → x / 128 ≡ cond s 1 0 → y / 128 ≡ cond (not s) 1 0 → apart 1 x y ≡ 1
-  other-apart s e f = apart-is s (not s) e f ∙ flags_apart s
+  other_apart : (s : Bool) → x / 128 ≡ cond s 1 0 → y / 128 ≡ cond (not s) 1 0 → apart 1 x y ≡ 1
+  other_apart s e f = apart_is s (not s) e f ∙ flags_apart s
 
-  one-sign : (s : Bool) → x / 128 ≡ cond s 1 0 → y / 128 ≡ cond s 1 0 → over 1 127 x y ≡ 0 → Sum x y
-  one-sign s e f o =
-      let a = same-apart s e f in
+  one_sign : (s : Bool) → x / 128 ≡ cond s 1 0 → y / 128 ≡ cond s 1 0 → over 1 127 x y ≡ 0 → Sum x y
+  one_sign s e f o =
+      let a = same_apart s e f in
       let l : m + n < 128 = omega (arith, same_over a) in
       record {
         sign = s;
         magnitude = m + n;
         small = l;
         value = value_is s s e f ∙ same_sign s m n;
-        slot = sums-coded ∙ rw (same-past a, same_size a l, first_is s s e f, xor_zero_r (cond s 1 0));
+        slot = sums_coded ∙ rw (same_past a, same_size a l, first_is s s e f, xor_zero_r (cond s 1 0));
       }
 
   two_signs : (s : Bool) → x / 128 ≡ cond s 1 0 → y / 128 ≡ cond (not s) 1 0 → Sum x y
   two_signs s e f =
-      let a = other-apart s e f in
+      let a = other_apart s e f in
       elim (dec_lt m n) [
         | yes l ↦
             record {
@@ -184,7 +184,7 @@ module _ (x y : ℕ) (h : x < 256) (k : y < 256) where
               magnitude = n - m;
               small = omega arith;
               value = value_is s (not s) e f ∙ smaller s m n l;
-              slot = sums-coded ∙ rw (small-past a l, small_size a l, first_is s (not s) e f, flag_turned s);
+              slot = sums_coded ∙ rw (small_past a l, small_size a l, first_is s (not s) e f, flag_turned s);
             }
         | no o ↦
             let l : n ≤ m = omega arith in
@@ -193,27 +193,27 @@ module _ (x y : ℕ) (h : x < 256) (k : y < 256) where
               magnitude = m - n;
               small = omega arith;
               value = value_is s (not s) e f ∙ larger s m n l;
-              slot = sums-coded ∙ rw (large-past a l, large-size a l, first_is s (not s) e f, xor_zero_r (cond s 1 0));
+              slot = sums_coded ∙ rw (large_past a l, large_size a l, first_is s (not s) e f, xor_zero_r (cond s 1 0));
             }
       ]
 
   sum_is : over 1 127 x y ≡ 0 → Sum x y
   sum_is o = elim (dec_lt x 128) [
-    | yes l ↦ elim (dec_lt y 128) [ yes p ↦ one-sign false (omega arith) (omega arith) o | no p ↦ two_signs false (omega arith) (omega arith) ]
-    | no l ↦ elim (dec_lt y 128) [ yes p ↦ two_signs true (omega arith) (omega arith) | no p ↦ one-sign true (omega arith) (omega arith) o ]
+    | yes l ↦ elim (dec_lt y 128) [ yes p ↦ one_sign false (omega arith) (omega arith) o | no p ↦ two_signs false (omega arith) (omega arith) ]
+    | no l ↦ elim (dec_lt y 128) [ yes p ↦ two_signs true (omega arith) (omega arith) | no p ↦ one_sign true (omega arith) (omega arith) o ]
   ]
 
   -- the slot holds the sum, and has its bits
-  pub sum-held : over 1 127 x y ≡ 0
+  pub sum_held : over 1 127 x y ≡ 0
       → (nat_abs (sign_read 0 x +ℤ sign_read 0 y) < top 0) × (sums 1 127 x y ≡ sign_bits 0 (sign_read 0 x +ℤ sign_read 0 y))
   unfolding top
-  sum-held o = let r = sum_is o in
+  sum_held o = let r = sum_is o in
       (rw (r.value, abs_integer r.sign r.magnitude) r.small, r.slot ∙ coded_is r.sign r.magnitude r.small ∙ ap (sign_bits 0) (sym r.value))
 
   -- a slot that is over does not: two signs never are
-  one-over : (s : Bool) → x / 128 ≡ cond s 1 0 → y / 128 ≡ cond s 1 0 → (over 1 127 x y ≡ 0 → ⊥) → 128 ≤ nat_abs (sign_read 0 x +ℤ sign_read 0 y)
-  one-over s e f o =
-      let a = same_over (same-apart s e f) in
+  one_over : (s : Bool) → x / 128 ≡ cond s 1 0 → y / 128 ≡ cond s 1 0 → (over 1 127 x y ≡ 0 → ⊥) → 128 ≤ nat_abs (sign_read 0 x +ℤ sign_read 0 y)
+  one_over s e f o =
+      let a = same_over (same_apart s e f) in
       let l : 128 ≤ m + n = elim (dec_lt (m + n) 128) [ yes l ↦ absurd (o (omega arith)) | no l ↦ omega arith ] in
       rw (value_is s s e f, same_sign s m n, abs_integer s (m + n)) l
 
@@ -221,11 +221,11 @@ module _ (x y : ℕ) (h : x < 256) (k : y < 256) where
   unfolding top
   sum_over o = elim (dec_lt x 128) [
     | yes l ↦ elim (dec_lt y 128) [
-      | yes p ↦ one-over false (omega arith) (omega arith) o
-      | no p ↦ absurd (o (other-over (other-apart false (omega arith) (omega arith))))
+      | yes p ↦ one_over false (omega arith) (omega arith) o
+      | no p ↦ absurd (o (other_over (other_apart false (omega arith) (omega arith))))
     ]
     | no l ↦ elim (dec_lt y 128) [
-      | yes p ↦ absurd (o (other-over (other-apart true (omega arith) (omega arith))))
-      | no p ↦ one-over true (omega arith) (omega arith) o
+      | yes p ↦ absurd (o (other_over (other_apart true (omega arith) (omega arith))))
+      | no p ↦ one_over true (omega arith) (omega arith) o
     ]
   ]

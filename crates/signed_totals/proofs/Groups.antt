@@ -12,7 +12,7 @@ use Rattle.group_block.specs.Block.{BlockOf, cap, Fits, shape, number_of, fill, 
 use Rattle.group_block.specs.Sum.{SumOf, add, unite}
 use Rattle.group_block.proofs.Laws.{word_lt_of, block_fits_of, cap_pos}
 use Rattle.group_block_laws.specs.Counts.{Totals, Adds, Counts, SumCounts, Grows}
-use Rattle.group_block_laws.proofs.Counting.{clear_counts, Plus, off-counts, add-counts, unite-counts, value_counts, add_grows, unite_grows, inside_level}
+use Rattle.group_block_laws.proofs.Counting.{clear_counts, Plus, off_counts, add_counts, unite_counts, value_counts, add_grows, unite_grows, inside_level}
 use Rattle.group_block_laws.proofs.Least.{unite_stays_of}
 use Rattle.answer.specs.Order.{earlier}
 use Rattle.group.specs.declared.Group.{Group}
@@ -23,9 +23,9 @@ use Rattle.signed_number.specs.Number.{times_sign, signed_of}
 use Rattle.signed_block.specs.Signed.{top, sign_bits, sign_read, signed, times_block}
 use Rattle.signed_block.proofs.Counters.{top_pos, signed_codes, signed_sums}
 use Rattle.signed_group.specs.Group.{decode, bad_group, bad_pair, read, added, combined}
-use Rattle.signed_group.proofs.Laws.{decode_encode, encode_good, combined-settled}
-use Rattle.signed_group.proofs.Outcomes.{Left, added-accepted, combined-accepted}
-use Rattle.signed_totals.proofs.Times.{times-adds, times-counts, suits_itself}
+use Rattle.signed_group.proofs.Laws.{decode_encode, encode_good, combined_settled}
+use Rattle.signed_group.proofs.Outcomes.{Left, added_accepted, combined_accepted}
+use Rattle.signed_totals.proofs.Times.{times_adds, times_counts, suits_itself}
 
 -- Group g of a row holds totals: it is the encoding of a block whose counters hold their values, and these are the totals.
 pub record Holds (t : Totals signed) (g : ℕ) (x : Group) : Type 0 where
@@ -103,23 +103,23 @@ module _ (t t' : Totals signed) (s : ℕ) (a : ℤ) (p : Plus signed t t' s a) w
   pub added_next : Adds signed t' → {x : Group} → Holds t (s / 8) x → (added x s a).status ≡ 0 → Next t' (s / 8) x (added x s a).group
   added_next adds {x} h e =
       next h (add h.block (s % 8) a)
-      (subst (λ (b : BlockOf signed 3). Left (add b (s % 8) a) (added x s a).group) (decode_is h) (added-accepted x s a (number_in h) e).1)
-      (add-counts signed t t' s a p adds (s / 8) h.block refl h.counts)
+      (subst (λ (b : BlockOf signed 3). Left (add b (s % 8) a) (added x s a).group) (decode_is h) (added_accepted x s a (number_in h) e).1)
+      (add_counts signed t t' s a p adds (s / 8) h.block refl h.counts)
       (add_grows h.block (s % 8) a)
 
   -- a group that the slot is not in
-  pub off-holds : {g : ℕ} {x : Group} → (s / 8 ≡ g → ⊥) → Holds t g x → Holds t' g x
-  off-holds {g} e h = record { block = h.block; sound = h.sound; counts = off-counts signed t t' s a p g h.block e h.counts; is = h.is }
+  pub off_holds : {g : ℕ} {x : Group} → (s / 8 ≡ g → ⊥) → Holds t g x → Holds t' g x
+  off_holds {g} e h = record { block = h.block; sound = h.sound; counts = off_counts signed t t' s a p g h.block e h.counts; is = h.is }
 
 -- a source times a sign, united with a target
 pub combined_next : (minus : Bool) (t u v : Totals signed) → Adds signed t → Adds signed u → Adds signed v → ((n i : ℕ) → v n i ≡ t n i +ℤ times_sign minus (u n i))
     → {g : ℕ} {x y : Group} → Holds t g x → Holds u g y → (combined minus x y).status ≡ 0 → Next v g x (combined minus x y).group
 combined_next minus t u v at au av sum {g} {x} {y} h k e =
     let times : Totals signed = λ n i. times_sign minus (u n i) in
-    let left : Left (unite (decode x) (times_block minus (decode y))) (combined minus x y).group = (combined-accepted minus x y (number_in h) (number_in k) e).1 in
+    let left : Left (unite (decode x) (times_block minus (decode y))) (combined minus x y).group = (combined_accepted minus x y (number_in h) (number_in k) e).1 in
     next h (unite h.block (times_block minus k.block)) (rw (decode_is h, decode_is k) at left)
-    (unite-counts signed t times v sum at (times-adds minus u times (λ n i. refl) au) av g h.block (times_block minus k.block) h.counts
-    (times-counts minus u times (λ n i. refl) g k.block k.counts))
+    (unite_counts signed t times v sum at (times_adds minus u times (λ n i. refl) au) av g h.block (times_block minus k.block) h.counts
+    (times_counts minus u times (λ n i. refl) g k.block k.counts))
     (unite_grows h.block (times_block minus k.block)).0
 
 -- a group taken away from itself: accepted, and the layout stays
@@ -130,6 +130,6 @@ itself {x = x} h =
     let stays = unite_stays_of signed_sums h.block (times_block true h.block) (suits_itself h.block) in
     let two : bad_pair x x ≡ 0 = rw (good h) in
     let done : combined true x x ≡ record { status = 0; group = encode stays.0 } =
-    combined-settled true x x two ∙ rw (decode_is h, stays.1) in
+    combined_settled true x x two ∙ rw (decode_is h, stays.1) in
     let merge : marks (shape stays.0) ≡ x.merge = ap marks stays.2 ∙ ap (λ (y : Group). y.merge) (sym h.is) in
     (ap (λ (o : Outcome). o.status) done, ap (λ (o : Outcome). o.group.merge) done ∙ merge)

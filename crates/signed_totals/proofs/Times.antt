@@ -13,14 +13,14 @@ use Rattle.signed_block.proofs.Counters.{top_pos}
 
 -- totals times a sign
 module _ (minus : Bool) (t u : Totals signed) (times : (n i : ℕ) → u n i ≡ times_sign minus (t n i)) where
-  pub times-adds : Adds signed t → Adds signed u
-  times-adds adds n i =
+  pub times_adds : Adds signed t → Adds signed u
+  times_adds adds n i =
       rw (times (suc n) i, adds n i, times_plus minus (t n (2 * i)) (t n (2 * i + 1)), ← times n (2 * i), ← times n (2 * i + 1))
 
-  pub times-counts : {n : ℕ} (i : ℕ) (b : BlockOf signed n) → Counts t i b → Counts u i (times_block minus b)
+  pub times_counts : {n : ℕ} (i : ℕ) (b : BlockOf signed n) → Counts t i b → Counts u i (times_block minus b)
   unfolding Counts times_block
-  times-counts {n} i (counter v) c = ap (times_sign minus) c ∙ sym (times n i)
-  times-counts i (split l r) c = (times-counts (2 * i) l c.0, times-counts (2 * i + 1) r c.1)
+  times_counts {n} i (counter v) c = ap (times_sign minus) c ∙ sym (times n i)
+  times_counts i (split l r) c = (times_counts (2 * i) l c.0, times_counts (2 * i + 1) r c.1)
 
 -- a block's counters hold what is left of it taken away from itself: zeros
 pub suits_itself : {n : ℕ} (b : BlockOf signed n) → Suits (shape b) b (times_block true b)

@@ -18,13 +18,13 @@ use Rattle.group_block.proofs.Laws.{cap_pos, high_lt}
 use Rattle.signed_block.specs.Signed.{top, sign_read}
 use Rattle.signed_block.specs.Passed.{signed_block}
 use Rattle.signed_slots.specs.Slots.{sums_of, over_of}
-use Rattle.signed_slots.proofs.Blocks.{sums-halves, over-halves, sums_lt, over-lt, sums-parts, over-parts, slot_held, slot-over}
+use Rattle.signed_slots.proofs.Blocks.{sums_halves, over_halves, sums_lt, over_lt, sums_parts, over_parts, slot_held, slot_over}
 use Rattle.signed_nodes.specs.declared.Node.{Node}
 use Rattle.signed_union.specs.declared.Blocks.{Blocks}
 use Rattle.signed_nodes.specs.Nodes.{Raised, Tells, passed, BesideAs}
 use Rattle.signed_union.specs.Slotted.{NodeOf, SidesOf, Slotted, lefts_of, rights_of, halves_of}
 use Rattle.signed_nodes.proofs.Integers.{raised_sum}
-use Rattle.signed_nodes.proofs.Nodes.{sides-are, raised_in}
+use Rattle.signed_nodes.proofs.Nodes.{sides_are, raised_in}
 
 -- one slot
 abbrev slot : ℕ → ℕ → Summed
@@ -37,7 +37,7 @@ slot_tells x y h k =
     elim (dec_lt 0 (over_of 0 x y)) [
       | yes o ↦
           let n : over_of 0 x y ≡ 0 → ⊥ = λ e. omega arith in
-          rw (ne_eqb (over_of 0 x y) 0 n, le-ltb (nat_abs v) (top 0) (slot-over x y h k n)) (record { whether = refl; block = λ e. absurd (true≢false e) })
+          rw (ne_eqb (over_of 0 x y) 0 n, le-ltb (nat_abs v) (top 0) (slot_over x y h k n)) (record { whether = refl; block = λ e. absurd (true≢false e) })
       | no o ↦
           let z : over_of 0 x y ≡ 0 = omega arith in
           let s = slot_held x y h k z in
@@ -62,8 +62,8 @@ slots_beside : (w v s o : ℕ) → s ≡ sums_of 1 w v → o ≡ over_of 1 w v
     → BesideAs 0 (slot (w % cap 0) (v % cap 0)) (slot (w / cap 0) (v / cap 0)) (record { over = not (eqb o 0); word = s; merge = 0 })
 unfolding cap
 slots_beside w v s o e f = record {
-  either = either_over _ _ o (f ∙ over-halves 0 w v);
-  words = λ h k. e ∙ sums-halves 0 w v;
+  either = either_over _ _ o (f ∙ over_halves 0 w v);
+  words = λ h k. e ∙ sums_halves 0 w v;
   merges = λ h k. refl;
 }
 
@@ -75,7 +75,7 @@ unfolding block_as layout fill total
 two_sides b a a' h p q =
     let w = b.word in
     let v = b.other_word in
-    sides-are 0 w b.merge v b.other_merge h.word_in h.other_in _ p q _ _
+    sides_are 0 w b.merge v b.other_merge h.word_in h.other_in _ p q _ _
     (slot_tells (w % cap 0) (v % cap 0) (mod-lt w (cap_pos 0)) (mod-lt v (cap_pos 0)))
     (slot_tells (w / cap 0) (v / cap 0) (high_lt 0 w h.word_in) (high_lt 0 v h.other_in))
     (slots_beside w v b.sums b.overs h.sums_are h.overs_are)
@@ -88,61 +88,61 @@ module _ (n : ℕ) (b : Blocks) (h : Slotted (suc n) b) where
   abbrev v : ℕ
   v = b.other_word
 
-  pub sums-in : b.sums < cap (suc n)
-  sums-in = rw h.sums_are (sums_lt (suc n) w v h.word_in h.other_in)
+  pub sums_in : b.sums < cap (suc n)
+  sums_in = rw h.sums_are (sums_lt (suc n) w v h.word_in h.other_in)
 
-  pub overs-in : b.overs < cap (suc n)
-  overs-in = rw h.overs_are (over-lt (suc n) w v h.word_in h.other_in)
+  pub overs_in : b.overs < cap (suc n)
+  overs_in = rw h.overs_are (over_lt (suc n) w v h.word_in h.other_in)
 
-  merge-high : (m : ℕ) → m < 2 ^ (2 ^ suc n) → m / 2 ^ (2 ^ n) < 2 ^ (2 ^ n)
-  merge-high m k = let e : 2 ^ suc n ≡ 2 ^ n + 2 ^ n = omega arith in shr_lt (2 ^ n) (2 ^ n) (rw e at k)
+  merge_high : (m : ℕ) → m < 2 ^ (2 ^ suc n) → m / 2 ^ (2 ^ n) < 2 ^ (2 ^ n)
+  merge_high m k = let e : 2 ^ suc n ≡ 2 ^ n + 2 ^ n = omega arith in shr_lt (2 ^ n) (2 ^ n) (rw e at k)
 
-  lefts-slotted : Slotted n (lefts_of n b)
+  lefts_slotted : Slotted n (lefts_of n b)
   unfolding lefts_of
-  lefts-slotted = record {
+  lefts_slotted = record {
     word_in = mod-lt w (cap_pos n);
     other_in = mod-lt v (cap_pos n);
     merge_in = mod-lt b.merge (pow_pos (2 ^ n));
     other_merge_in = mod-lt b.other_merge (pow_pos (2 ^ n));
-    sums_are = ap (λ (s : ℕ). s % cap n) h.sums_are ∙ (sums-parts n w v).1;
-    overs_are = ap (λ (s : ℕ). s % cap n) h.overs_are ∙ (over-parts n w v).1;
+    sums_are = ap (λ (s : ℕ). s % cap n) h.sums_are ∙ (sums_parts n w v).1;
+    overs_are = ap (λ (s : ℕ). s % cap n) h.overs_are ∙ (over_parts n w v).1;
   }
 
-  rights-slotted : Slotted n (rights_of n b)
+  rights_slotted : Slotted n (rights_of n b)
   unfolding rights_of
-  rights-slotted = record {
+  rights_slotted = record {
     word_in = high_lt n w h.word_in;
     other_in = high_lt n v h.other_in;
-    merge_in = merge-high b.merge h.merge_in;
-    other_merge_in = merge-high b.other_merge h.other_merge_in;
-    sums_are = ap (λ (s : ℕ). s / cap n) h.sums_are ∙ (sums-parts n w v).0;
-    overs_are = ap (λ (s : ℕ). s / cap n) h.overs_are ∙ (over-parts n w v).0;
+    merge_in = merge_high b.merge h.merge_in;
+    other_merge_in = merge_high b.other_merge h.other_merge_in;
+    sums_are = ap (λ (s : ℕ). s / cap n) h.sums_are ∙ (sums_parts n w v).0;
+    overs_are = ap (λ (s : ℕ). s / cap n) h.overs_are ∙ (over_parts n w v).0;
   }
 
-  pub halves-slotted : (k : ℕ) → Slotted n (halves_of n k b)
+  pub halves_slotted : (k : ℕ) → Slotted n (halves_of n k b)
   unfolding halves_of
-  halves-slotted k = go (eqb k 0)
+  halves_slotted k = go (eqb k 0)
     where
       go : (t : Bool) → Slotted n (cond t (lefts_of n b) (rights_of n b))
-      go true = lefts-slotted
-      go false = rights-slotted
+      go true = lefts_slotted
+      go false = rights_slotted
 
   -- and their unions side by side
   module _ (l r : Node) (l_is : NodeOf n l (halves_of n 0 b)) (r_is : NodeOf n r (halves_of n 1 b)) where
-    pub nodes-small : n ≤ 2 → (l.a + r.a < 2 ^ 64) × (l.b + r.b < 2 ^ 64)
-    nodes-small k =
-        let p = halves-slotted 0 in
-        let q = halves-slotted 1 in
+    pub nodes_small : n ≤ 2 → (l.a + r.a < 2 ^ 64) × (l.b + r.b < 2 ^ 64)
+    nodes_small k =
+        let p = halves_slotted 0 in
+        let q = halves_slotted 1 in
         let la = raised_in n l.a _ _ k p.word_in l_is.first in
         let lb = raised_in n l.b _ _ k p.other_in l_is.second in
         let ra = raised_in n r.a _ _ k q.word_in r_is.first in
         let rb = raised_in n r.b _ _ k q.other_in r_is.second in
         (omega arith, omega arith)
 
-    pub nodes-beside : (s : Node) → (s.a ≡ l.a + r.a) × (s.b ≡ l.b + r.b) → BesideAs n (passed l) (passed r) (passed s) → SidesOf (suc n) s b
+    pub nodes_beside : (s : Node) → (s.a ≡ l.a + r.a) × (s.b ≡ l.b + r.b) → BesideAs n (passed l) (passed r) (passed s) → SidesOf (suc n) s b
     unfolding halves_of lefts_of rights_of
-    nodes-beside s e k =
-        sides-are n b.word b.merge b.other_word b.other_merge h.word_in h.other_in s
+    nodes_beside s e k =
+        sides_are n b.word b.merge b.other_word b.other_merge h.word_in h.other_in s
         (rw e.0 (raised_sum n l.a r.a _ _ l_is.first r_is.first))
         (rw e.1 (raised_sum n l.b r.b _ _ l_is.second r_is.second))
         (passed l) (passed r) l_is.union r_is.union k

@@ -30,9 +30,9 @@ module _ (w m k : ℕ) (r : Counter) (e : r ≡ counter_at (block 3 w m) k) wher
   value_is = ap (λ (x : ℕ). sign_read x r.value) level_of_lem ∙ ap (λ (x : Counter). sign_read (level_of (layout 3 m) k) x.value) e ∙ sym (value_of signed (layout 3 m) w k)
 
   -- not those of minus zero
-  pub clean-value : all_clean signed (layout 3 m) w ≡ true → not_minus_zero r.level r.value ≡ true
+  pub clean_value : all_clean signed (layout 3 m) w ≡ true → not_minus_zero r.level r.value ≡ true
   unfolding block_as
-  clean-value c =
+  clean_value c =
       ap (λ (x : ℕ). not_minus_zero x r.value) level_of_lem
       ∙ ap (λ (x : Counter). not_minus_zero (level_of (layout 3 m) k) x.value) e
       ∙ clean_at signed (layout 3 m) w k c

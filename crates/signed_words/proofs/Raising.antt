@@ -8,7 +8,7 @@ use borrow.Author.Tests.{lt-ltb, le-ltb}
 use lib.IntN.{ℤ, pos, ◌+ℤ◌, nat_abs}
 use Rattle.group_block.specs.Block.{cap}
 use Rattle.signed_number.specs.Number.{times_sign, integer}
-use Rattle.signed_number.proofs.Raised.{Raised, raise_plus, raise_minus, raised_more, raised_less, raised_plus, raised_minus, raised-size, sunken-size}
+use Rattle.signed_number.proofs.Raised.{Raised, raise_plus, raise_minus, raised_more, raised_less, raised_plus, raised_minus, raised_size, sunken_size}
 use Rattle.signed_block.specs.Signed.{top, sign_bits, sign_read}
 use Rattle.signed_block.proofs.Counters.{top_twice, top_pos, bits_neg}
 use Rattle.signed_words.specs.Words.{raised, lowered, room, moved}
@@ -34,12 +34,12 @@ raised_is n w x h e = rw e (value_raised n w h, (value_in n w h).0, (value_in n 
 module _ (n x : ℕ) (v : ℤ) (r : Raised (top n) x v) where
   pub holds : 0 < x → x < cap n → nat_abs v < top n
   holds l h = elim (dec_lt x (top n)) [
-    | yes k ↦ omega (arith, raised-size (top n) x v r)
-    | no k ↦ omega (arith, raised-size (top n) x v r, top_twice n)
+    | yes k ↦ omega (arith, raised_size (top n) x v r)
+    | no k ↦ omega (arith, raised_size (top n) x v r, top_twice n)
   ]
 
   pub holds_not : cap n ≤ x → top n ≤ nat_abs v
-  holds_not h = omega (arith, raised-size (top n) x v r, top_twice n)
+  holds_not h = omega (arith, raised_size (top n) x v r, top_twice n)
 
   pub lowered_is : lowered (top n) x ≡ sign_bits n v
   unfolding lowered sign_bits
@@ -50,15 +50,15 @@ module _ (n x : ℕ) (v : ℤ) (r : Raised (top n) x v) where
 
 -- an amount added to a raised value, if there is room for it; where there is none, no counter holds the sum
 module _ (n x : ℕ) (v : ℤ) (r : Raised (top n) x v) (l : 0 < x) (h : x < cap n) where
-  pub moved-is : (minus : Bool) (m y : ℕ) → m ≤ room x (cap n - 1) minus → y ≡ moved x (record { minus = minus; magnitude = m })
+  pub moved_is : (minus : Bool) (m y : ℕ) → m ≤ room x (cap n - 1) minus → y ≡ moved x (record { minus = minus; magnitude = m })
       → Raised (top n) y (v +ℤ integer minus m) × (0 < y) × (y < cap n)
   unfolding room moved times_sign
-  moved-is true m y k e = rw e (raised_less (top n) x m v (omega arith) r, omega arith, omega arith)
-  moved-is false m y k e = rw e (raised_more (top n) x m v r, omega arith, omega arith)
+  moved_is true m y k e = rw e (raised_less (top n) x m v (omega arith) r, omega arith, omega arith)
+  moved_is false m y k e = rw e (raised_more (top n) x m v r, omega arith, omega arith)
 
   pub no_room : (minus : Bool) (m : ℕ) → room x (cap n - 1) minus < m → top n ≤ nat_abs (v +ℤ integer minus m)
   unfolding room times_sign
-  no_room true m k = sunken-size (top n) x v r m (omega arith)
+  no_room true m k = sunken_size (top n) x v r m (omega arith)
   no_room false m k = holds_not n (x + m) (v +ℤ pos m) (raised_more (top n) x m v r) (omega arith)
 
 pub room_more : (x a b : ℕ) (minus : Bool) → a ≤ b → room x a minus ≤ room x b minus

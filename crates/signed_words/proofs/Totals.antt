@@ -39,14 +39,14 @@ module _ (minus : Bool) (w m : ℕ) (h : w < cap 3) (v : valid 3 m ≡ true) whe
   abbrev turned : ℕ
   turned = number_of (times_block minus (signed_block 3 w m))
 
-  turned-shape : shape (times_block minus (signed_block 3 w m)) ≡ layout 3 m
+  turned_shape : shape (times_block minus (signed_block 3 w m)) ≡ layout 3 m
   unfolding block_as
-  turned-shape = times_shape minus (signed_block 3 w m) ∙ shape_fill_of signed (layout 3 m) w
+  turned_shape = times_shape minus (signed_block 3 w m) ∙ shape_fill_of signed (layout 3 m) w
 
-  pub turned-clean : all_clean signed (layout 3 m) turned ≡ true
-  turned-clean = rw turned-shape at (word_clean signed_codes (times_block minus (signed_block 3 w m)) (times_fits minus (signed_block 3 w m) (block_fits_of signed_codes 3 w m h)))
+  pub turned_clean : all_clean signed (layout 3 m) turned ≡ true
+  turned_clean = rw turned_shape at (word_clean signed_codes (times_block minus (signed_block 3 w m)) (times_fits minus (signed_block 3 w m) (block_fits_of signed_codes 3 w m h)))
 
-  pub turned-block : signed_block 3 turned m ≡ times_block minus (signed_block 3 w m)
-  turned-block =
+  pub turned_block : signed_block 3 turned m ≡ times_block minus (signed_block 3 w m)
+  turned_block =
       rw (ap marks (times_shape minus (signed_block 3 w m)) ∙ marks_block_of signed 3 w m v) at
       (block_is_of signed_codes (times_block minus (signed_block 3 w m)) (times_fits minus (signed_block 3 w m) (block_fits_of signed_codes 3 w m h)))

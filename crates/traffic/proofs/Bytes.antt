@@ -13,7 +13,7 @@ use lib.Seq.{get_or-take, get_or-drop, drop-drop, ext_get_or, length-take-le}
 use Rattle.laws.proofs.Lists.{Bytes}
 use Rattle.group_layout.specs.Layout.{valid}
 use Rattle.group.specs.declared.Group.{Group}
-use Rattle.group_totals.proofs.Groups.{group_of, group_same, count-lt, merge-lt, merge-valid}
+use Rattle.group_totals.proofs.Groups.{group_of, group_same, count_lt, merge_lt, merge_valid}
 use Rattle.geometry.specs.Geometry.{valid_width, stride, size}
 use Rattle.meter_memory.specs.Rows.{group_at}
 use Rattle.geometry.proofs.Widths.{wide, stride_is}
@@ -43,35 +43,35 @@ in_row w row groups v same j h =
     ]
 
 module _ (d w : ℕ) (vw : valid_width w ≡ true) (memory : List ℕ) (ps : List Pair) (holds : Holds d w memory ps) where
-  stride-pos : 0 < stride w
-  stride-pos = omega (arith, stride_is w, (wide w vw).low)
+  stride_pos : 0 < stride w
+  stride_pos = omega (arith, stride_is w, (wide w vw).low)
 
-  pub byte-is : (i : ℕ) → i < size d w → get_or memory i 0 ≡ byte_at w ps i
+  pub byte_is : (i : ℕ) → i < size d w → get_or memory i 0 ≡ byte_at w ps i
   unfolding byte_at size row_of
-  byte-is i h =
+  byte_is i h =
       let s = stride w in
       let r = i / s in
       let j = i % s in
-      let p : r < d = (div-lt_iff_lt-mul {k = s} {x = i} {y = d} stride-pos).1 h in
-      let l : j < s = mod-lt i stride-pos in
+      let p : r < d = (div-lt_iff_lt-mul {k = s} {x = i} {y = d} stride_pos).1 h in
+      let l : j < s = mod-lt i stride_pos in
       ap (λ (k : ℕ). get_or memory k 0) (sym (div-add-mod' i s))
       ∙ sym (get_or-drop (r * s) memory j 0)
       ∙ sym (get_or-take s (drop (r * s) memory) j 0 l)
       ∙ in_row w (row_of w memory r) (group_of (block_total w r ps)) vw (λ g q. holds.groups r g p q) j l
 
-  in-lt : (t : ℕ → ℕ → ℕ) (j : ℕ) → byte_in w (group_of t) j < 256
+  in_lt : (t : ℕ → ℕ → ℕ) (j : ℕ) → byte_in w (group_of t) j < 256
   unfolding byte_in
-  in-lt t j = go (ltb j w)
+  in_lt t j = go (ltb j w)
     where
       go : (c : Bool) → cond c (get_or (group_of t (j / 8)).counts (j % 8) 0) (group_of t (j - w)).merge < 256
-      go true = count-lt t (j / 8) (j % 8)
-      go false = merge-lt t (j - w)
+      go true = count_lt t (j / 8) (j % 8)
+      go false = merge_lt t (j - w)
 
-  pub all-bytes : Bytes memory
+  pub all_bytes : Bytes memory
   unfolding byte_at
-  all-bytes i =
+  all_bytes i =
       elim (dec_lt i (size d w)) [
-        | yes h ↦ rw (byte-is i h) (in-lt (block_total w (i / stride w) ps) (i % stride w))
+        | yes h ↦ rw (byte_is i h) (in_lt (block_total w (i / stride w) ps) (i % stride w))
         | no h ↦ rw (get_or-eq_default memory 0 {n = i} (omega (arith, holds.long))) (omega arith)
       ]
 
@@ -93,7 +93,7 @@ one_memory d w vw memory other ps qs same holds held =
     ext_get_or 0 memory other (holds.long ∙ sym held.long)
     (λ i h.
     let k : i < size d w = omega (arith, holds.long) in
-    byte-is d w vw memory qs (holds_too d w memory ps qs same holds) i k ∙ sym (byte-is d w vw other qs held i k))
+    byte_is d w vw memory qs (holds_too d w memory ps qs same holds) i k ∙ sym (byte_is d w vw other qs held i k))
 
 -- merge bytes that are valid group by group are valid for the image
 list_valid : (ms : List ℕ) → ((i : ℕ) → i < length ms → valid 3 (get_or ms i 0) ≡ true) → all_valid ms ≡ true
@@ -121,4 +121,4 @@ pub holds_valid : (d w : ℕ) (memory : List ℕ) (ps : List Pair) → Holds d w
 unfolding size
 holds_valid d w memory ps holds =
     rows_valid d w memory (omega (arith, holds.long))
-    (λ r g p q. rw (holds.groups r g p q) (merge-valid (block_total w r ps) g))
+    (λ r g p q. rw (holds.groups r g p q) (merge_valid (block_total w r ps) g))

@@ -20,7 +20,7 @@ use Rattle.traffic.specs.Calls.{Call, clear, update, estimate, widest, unite, wr
 use Rattle.traffic.specs.Claim.{Between, Claim}
 use Rattle.traffic.specs.Corollaries.{EveryAnswer, Answered, EveryBehind, Within, Reordered, AnyOrder}
 use Rattle.traffic.proofs.Records.{only_queries}
-use Rattle.traffic.proofs.Theorem.{demand_3, same-totals}
+use Rattle.traffic.proofs.Theorem.{demand_3, same_totals}
 
 module _ (d w : ℕ) (vd : valid_depth d ≡ true) (vw : valid_width w ≡ true) where
   mutual
@@ -43,15 +43,15 @@ module _ (d w : ℕ) (vd : valid_depth d ≡ true) (vw : valid_width w ≡ true)
     answered calls c (update key amount) l e = tt
     answered calls c (estimate key) l e = c.estimates key e
     answered calls c widest l e = ap (λ (x : Answer). x.value) c.widest_level
-    answered calls c (unite source) l e = every-behind source l
+    answered calls c (unite source) l e = every_behind source l
     answered calls c (write words) l e = tt
-    answered calls c (read source) l e = every-behind source l
+    answered calls c (read source) l e = every_behind source l
     answered calls c (feed before words) l e = λ due. c.records before words due e
     answered calls c (watch list key amount threshold) l e = tt
 
-    every-behind : (source : Source) → LeftBy d w source → EveryBehind d w source
-    every-behind (from calls) l = every calls l
-    every-behind (raw content) l = absurd l
+    every_behind : (source : Source) → LeftBy d w source → EveryBehind d w source
+    every_behind (from calls) l = every calls l
+    every_behind (raw content) l = absurd l
 
 -- Demand 3 of every answer within a list.
 pub within : Within
@@ -79,4 +79,4 @@ sum_reordered f (Permᴰ.trans p q) = sum_reordered f p ∙ sum_reordered f q
 
 pub any_order : AnyOrder
 unfolding block_total
-any_order d w vd vw calls others f g p = same-totals d w vd vw calls others f g (λ r h n i. sum_reordered (λ key. eqb (block_of w r n key) i) p)
+any_order d w vd vw calls others f g p = same_totals d w vd vw calls others f g (λ r h n i. sum_reordered (λ key. eqb (block_of w r n key) i) p)

@@ -57,8 +57,8 @@ module _ (d w : ℕ) (memory : List ℕ) (before : ℕ) (words : List ℕ) where
     after zero = sound
     after (suc s) = refuses (suc s) 0 (eqb-suc-zero s)
 
-    pub record-cases : P (recorded d w memory before words)
-    record-cases = rw (by_cases d w memory before words) (after (bad_shape d w (length memory)))
+    pub record_cases : P (recorded d w memory before words)
+    record_cases = rw (by_cases d w memory before words) (after (bad_shape d w (length memory)))
 
 -- an outcome is accepted as what it carries out
 pub outcome_status : (a : Answer) (r : Recorded) → (record_answer r).status ≡ 0 → eqb (record_answer (outcome_of a r)).status 0 ≡ eqb a.status 0
@@ -80,14 +80,14 @@ pub query_is : (d w : ℕ) (memory : List ℕ) (before : ℕ) (words : List ℕ)
 unfolding outcome_of
 query_is d w memory before words due =
     let a = estimated d w memory (key_of (payload words 0) words) in
-    record-cases d w memory before words (λ c. (record_answer c.outcome).status ≡ 0 → (a.status ≡ 0) × (a.value ≡ (record_answer c.outcome).value))
+    record_cases d w memory before words (λ c. (record_answer c.outcome).status ≡ 0 → (a.status ≡ 0) × (a.value ≡ (record_answer c.outcome).value))
     (λ s p f e. absurd (eqb-false s 0 f e))
-    (λ u e. absurd (five-not-six (one_kind words 0 update_kind query_kind u due)))
+    (λ u e. absurd (five_not_six (one_kind words 0 update_kind query_kind u due)))
     (λ u q. cases (eqb a.status 0) (λ t. rw t (λ e. (eqb-true a.status 0 t, refl))) (λ t. rw t (λ e. absurd (eqb-false a.status 0 t e))))
     (λ u q e. absurd (true≢false (sym due ∙ q)))
   where
-    five-not-six : update_kind ≡ query_kind → ⊥
-    five-not-six e = omega arith
+    five_not_six : update_kind ≡ query_kind → ⊥
+    five_not_six e = omega arith
 
 -- only a query answers with an estimate
 pub only_queries : (d w : ℕ) (memory : List ℕ) (before : ℕ) (words : List ℕ) (value : ℕ) → (recorded d w memory before words).outcome ≡ case.Estimate value
@@ -95,7 +95,7 @@ pub only_queries : (d w : ℕ) (memory : List ℕ) (before : ℕ) (words : List 
 unfolding outcome_of
 only_queries d w memory before words value =
     let u = (updated d w memory (key_of (payload words 0) words) (amount_of (payload words 0) words)).answer in
-    record-cases d w memory before words (λ c. c.outcome ≡ case.Estimate value → is_due words 0 query_kind ≡ true)
+    record_cases d w memory before words (λ c. c.outcome ≡ case.Estimate value → is_due words 0 query_kind ≡ true)
     (λ s p f e. cc)
     (λ due. cases (eqb u.status 0) (λ t. rw t (λ e. cc)) (λ t. rw t (λ e. cc)))
     (λ due q e. q)

@@ -10,7 +10,7 @@ use Rattle.answer.proofs.Answers.{finish_kept}
 use Rattle.image_format.specs.Read.{finish_read, taken}
 use Rattle.feed.specs.Answers.{record_answer}
 use Rattle.feed.specs.Record.{finish_record, recorded}
-use Rattle.watch.proofs.Laws.{watched-kept}
+use Rattle.watch.proofs.Laws.{watched_kept}
 use Rattle.traffic.specs.Calls.{Call, clear, update, estimate, widest, unite, write, read, feed, watch, done, words_of}
 
 -- an image read
@@ -35,4 +35,4 @@ kept d w d' w' (unite source) memory e = finish_kept _ _ _ _ e
 kept d w d' w' (write words) memory e = refl
 kept d w d' w' (read source) memory e = read_kept d' w' memory (words_of d w source) e
 kept d w d' w' (feed before words) memory e = record_kept d' w' memory before words e
-kept d w d' w' (watch list key amount threshold) memory e = (watched-kept d' w' memory list key amount threshold e).0
+kept d w d' w' (watch list key amount threshold) memory e = (watched_kept d' w' memory list key amount threshold e).0

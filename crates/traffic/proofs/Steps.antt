@@ -9,7 +9,7 @@ use native.Mathlib.Omega.{arith}
 use lib.Dec.{eqb}
 use lib.ListN.{length, take, drop, replicate, length-replicate, get_or-replicate}
 use Rattle.group_block.specs.Block.{cap}
-use Rattle.group_totals.proofs.Groups.{group_of, group_clear, Left, added-left, total-off, group-off, united_left}
+use Rattle.group_totals.proofs.Groups.{group_of, group_clear, Left, added_left, total_off, group_off, united_left}
 use Rattle.hash.specs.Hash.{basis}
 use Rattle.geometry.specs.Geometry.{valid_depth, valid_width, stride, size, RowsIn}
 use Rattle.meter_memory.specs.Pairs.{paired_at}
@@ -20,11 +20,11 @@ use Rattle.meter_union.specs.Union.{united_at}
 use Rattle.geometry.proofs.Widths.{depth_in, group_in}
 use Rattle.geometry.proofs.Widths.{row_in}
 use Rattle.meter.specs.Meter.{row_of, updated, united}
-use Rattle.meter.proofs.Memory.{Updated, update_accepted, update-group, update_other, United, unite_accepted, unite_group}
+use Rattle.meter.proofs.Memory.{Updated, update_accepted, update_group, update_other, United, unite_accepted, unite_group}
 use Rattle.meter_memory.proofs.Written.{rows_long}
 use Rattle.traffic.specs.Traffic.{Pair, amount_sum, block_total}
 use Rattle.traffic.proofs.Holds.{Holds}
-use Rattle.traffic.proofs.Totals.{totals-add, totals-more, totals-append}
+use Rattle.traffic.proofs.Totals.{totals_add, totals_more, totals_append}
 
 -- zeros hold no traffic
 take_zeros : (k n : ℕ) → k ≤ n → take {A = ℕ} k (replicate n 0) ≡ replicate k 0
@@ -81,41 +81,41 @@ module _ (d w : ℕ) (vw : valid_width w ≡ true) where
 
         more : (n i : ℕ) → block_total w r new n i ≡ cond (eqb (slot / 2 ^ n) i) amount 0 + block_total w r ps n i
         unfolding slot new
-        more = totals-more w r (record { key = key; amount = amount }) ps
+        more = totals_more w r (record { key = key; amount = amount }) ps
 
-        added-now : slot / 8 < w / 8 → Now (slot / 8)
+        added_now : slot / 8 < w / 8 → Now (slot / 8)
         unfolding added_in slot Now
-        added-now i =
+        added_now i =
             let row = row_of w memory r in
             let g = group_at w row (slot / 8) in
             let e : g ≡ group_of (block_total w r ps) (slot / 8) = holds.groups r (slot / 8) p i in
-            let left = added-left (block_total w r ps) (block_total w r new) (totals-add w r new) slot amount more (holds.fits r (slot / 8) p i) in
+            let left = added_left (block_total w r ps) (block_total w r new) (totals_add w r new) slot amount more (holds.fits r (slot / 8) p i) in
             let l = left (rw e at (accepted.taken r p)) in
-            (l.fits, rw (accepted.row r p, update-group w vw key amount r row (rows_long d w memory rows r p), e) l.is)
+            (l.fits, rw (accepted.row r p, update_group w vw key amount r row (rows_long d w memory rows r p), e) l.is)
 
-        other-now : (g : ℕ) → g < w / 8 → (g ≡ slot / 8 → ⊥) → Now g
+        other_now : (g : ℕ) → g < w / 8 → (g ≡ slot / 8 → ⊥) → Now g
         unfolding slot Now
-        other-now g q z =
+        other_now g q z =
             let row = row_of w memory r in
             let away : slot / 8 ≡ g → ⊥ = λ y. z (sym y) in
             rw (
               accepted.row r p,
               update_other w vw key amount r row (rows_long d w memory rows r p) g q z,
-              total-off (block_total w r ps) (block_total w r new) (totals-add w r new) slot amount more g away,
-              group-off (block_total w r ps) (block_total w r new) (totals-add w r new) slot amount more g away,
+              total_off (block_total w r ps) (block_total w r new) (totals_add w r new) slot amount more g away,
+              group_off (block_total w r ps) (block_total w r new) (totals_add w r new) slot amount more g away,
             )
             (holds.fits r g p q, holds.groups r g p q)
 
-        group-now : (g : ℕ) → g < w / 8 → Now g
-        group-now g q = elim (ℕ_discrete g (slot / 8)) [ yes z ↦ rw z (added-now (omega arith)) | no z ↦ other-now g q z ]
+        group_now : (g : ℕ) → g < w / 8 → Now g
+        group_now g q = elim (ℕ_discrete g (slot / 8)) [ yes z ↦ rw z (added_now (omega arith)) | no z ↦ other_now g q z ]
 
-      pub update-holds : Holds d w (updated d w memory key amount).memory (record { key = key; amount = amount } ∷ ps)
+      pub update_holds : Holds d w (updated d w memory key amount).memory (record { key = key; amount = amount } ∷ ps)
       unfolding new Now
-      update-holds =
+      update_holds =
           record {
             long = accepted.long ∙ holds.long;
-            fits = λ r g p q. (group-now r p g q).0;
-            groups = λ r g p q. (group-now r p g q).1;
+            fits = λ r g p q. (group_now r p g q).0;
+            groups = λ r g p q. (group_now r p g q).1;
           }
 
     -- a union
@@ -126,21 +126,21 @@ module _ (d w : ℕ) (vw : valid_width w ≡ true) where
       both : ℕ → ℕ → ℕ → ℕ
       both r = block_total w r (qs ++ ps)
 
-      group-joined : (r g : ℕ) → r < d → g < w / 8 → Left (both r) g (united_at w (row_of w source r) (row_of w memory r) g)
+      group_joined : (r g : ℕ) → r < d → g < w / 8 → Left (both r) g (united_at w (row_of w source r) (row_of w memory r) g)
       unfolding paired_at both
-      group-joined r g p q =
+      group_joined r g p q =
           let e : group_at w (row_of w memory r) g ≡ group_of (block_total w r ps) g = holds.groups r g p q in
           let f : group_at w (row_of w source r) g ≡ group_of (block_total w r qs) g = behind.groups r g p q in
           rw (e, f)
-          (united_left (block_total w r ps) (block_total w r qs) (block_total w r (qs ++ ps)) (totals-add w r ps) (totals-add w r qs) (totals-add w r (qs ++ ps))
-          (λ n i. omega (arith, totals-append w r qs ps n i)) g (holds.fits r g p q) (behind.fits r g p q) (rw (e, f) at (joined.taken r g p q)))
+          (united_left (block_total w r ps) (block_total w r qs) (block_total w r (qs ++ ps)) (totals_add w r ps) (totals_add w r qs) (totals_add w r (qs ++ ps))
+          (λ n i. omega (arith, totals_append w r qs ps n i)) g (holds.fits r g p q) (behind.fits r g p q) (rw (e, f) at (joined.taken r g p q)))
 
-      pub unite-holds : Holds d w (united d w memory source).memory (qs ++ ps)
+      pub unite_holds : Holds d w (united d w memory source).memory (qs ++ ps)
       unfolding both
-      unite-holds =
+      unite_holds =
           record {
             long = joined.long ∙ holds.long;
-            fits = λ r g p q. (group-joined r g p q).fits;
+            fits = λ r g p q. (group_joined r g p q).fits;
             groups = λ r g p q.
-                rw (joined.row r p, unite_group w vw (row_of w source r) (row_of w memory r) (rows_long d w memory rows r p) g q) (group-joined r g p q).is;
+                rw (joined.row r p, unite_group w vw (row_of w source r) (row_of w memory r) (rows_long d w memory rows r p) g q) (group_joined r g p q).is;
           }

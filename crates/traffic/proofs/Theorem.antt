@@ -13,7 +13,7 @@ use Rattle.group_block.specs.Block.{cap}
 use Rattle.geometry.specs.Geometry.{valid_depth, valid_width, size}
 use Rattle.geometry.specs.Checks.{bad_key}
 use Rattle.meter.specs.Meter.{cleared, updated, estimated}
-use Rattle.meter.proofs.Calls.{cleared_good, call_key, estimated-bad}
+use Rattle.meter.proofs.Calls.{cleared_good, call_key, estimated_bad}
 use Rattle.image_format.specs.Image.{image}
 use Rattle.image_format.specs.Write.{written}
 use Rattle.image_format.specs.Read.{taken}
@@ -25,17 +25,17 @@ use Rattle.feed.specs.Answers.{record_answer}
 use Rattle.feed_records.specs.Words.{update_kind, key_of, amount_of}
 use Rattle.feed.specs.Record.{recorded}
 use Rattle.watch.specs.Watch.{watched}
-use Rattle.watch.proofs.Laws.{watched-accepted}
+use Rattle.watch.proofs.Laws.{watched_accepted}
 use Rattle.traffic.specs.Traffic.{Pair}
 use Rattle.traffic.specs.Calls.{Call, clear, update, estimate, widest, unite, write, read, feed, watch, Source, from, raw, Calls, none, then, record_pair, traffic, after, behind, run, done, bytes_of, words_of, Faithful, Listed, LeftBy}
 use Rattle.traffic.proofs.Holds.{Holds}
 use Rattle.traffic.specs.Claim.{Between, Claim, Demand3}
-use Rattle.traffic.proofs.Answers.{good_shape, good_key, widest-holds, estimate-holds, estimate-fits, estimate-between}
-use Rattle.traffic.proofs.Steps.{start_holds, update-holds, unite-holds}
-use Rattle.traffic.proofs.Records.{record-cases, outcome_status, query_is}
+use Rattle.traffic.proofs.Answers.{good_shape, good_key, widest_holds, estimate_holds, estimate_fits, estimate_between}
+use Rattle.traffic.proofs.Steps.{start_holds, update_holds, unite_holds}
+use Rattle.traffic.proofs.Records.{record_cases, outcome_status, query_is}
 use Rattle.answer.proofs.Answers.{status_is}
 use Rattle.traffic.proofs.Refused.{kept}
-use Rattle.traffic.proofs.Bytes.{SameTotals, all-bytes, one_memory, holds_valid}
+use Rattle.traffic.proofs.Bytes.{SameTotals, all_bytes, one_memory, holds_valid}
 
 -- a clearing that is accepted leaves what a list starts from
 pub cleared_is : (d w : ℕ) (memory : List ℕ) → valid_depth d ≡ true → valid_width w ≡ true → length memory ≡ size d w → (cleared d w memory).memory ≡ replicate (size d w) 0
@@ -51,32 +51,32 @@ told d w d' w' call memory P p q f = rw (p, q) f
 module _ (d w : ℕ) (vd : valid_depth d ≡ true) (vw : valid_width w ≡ true) where
   image_holds : (memory old : List ℕ) (ps : List Pair) → Holds d w memory ps → length old ≡ size d w → Holds d w (taken d w old (image d w memory)).memory ps
   image_holds memory old ps holds long =
-      let back = restored d w memory old (good_shape d w (length memory) vd vw holds.long) (all-bytes d w vw memory ps holds) (holds_valid d w memory ps holds) (long ∙ sym holds.long) in
+      let back = restored d w memory old (good_shape d w (length memory) vd vw holds.long) (all_bytes d w vw memory ps holds) (holds_valid d w memory ps holds) (long ∙ sym holds.long) in
       rw back holds
 
   -- a record or the end
-  record-holds : (memory : List ℕ) (ps : List Pair) → Holds d w memory ps → (before : ℕ) (words : List ℕ)
+  record_holds : (memory : List ℕ) (ps : List Pair) → Holds d w memory ps → (before : ℕ) (words : List ℕ)
       → eqb (record_answer (recorded d w memory before words).outcome).status 0 ≡ true
       → Holds d w (recorded d w memory before words).memory (cond (is_due words 0 update_kind) (record_pair words ∷ ps) ps)
   unfolding record_pair
-  record-holds memory ps h before words =
+  record_holds memory ps h before words =
       let k = key_of (payload words 0) words in
       let a = amount_of (payload words 0) words in
       let m = (updated d w memory k a).answer in
-      record-cases d w memory before words
+      record_cases d w memory before words
       (λ c. eqb (record_answer c.outcome).status 0 ≡ true → Holds d w c.memory (cond (is_due words 0 update_kind) (record_pair words ∷ ps) ps))
       (λ s p f e. absurd (true≢false (sym e ∙ f)))
-      (λ due e. rw due (update-holds d w vw vd memory ps h k a (eqb-true m.status 0 (sym (outcome_status m case.Updated refl) ∙ e))))
+      (λ due e. rw due (update_holds d w vw vd memory ps h k a (eqb-true m.status 0 (sym (outcome_status m case.Updated refl) ∙ e))))
       (λ due q e. rw due h)
       (λ due q e. rw due h)
 
   -- an update through a watch list
-  watch-holds : (memory : List ℕ) (ps : List Pair) → Holds d w memory ps → (list key : List ℕ) (amount threshold : ℕ)
+  watch_holds : (memory : List ℕ) (ps : List Pair) → Holds d w memory ps → (list key : List ℕ) (amount threshold : ℕ)
       → (watched d w memory list key amount threshold).answer.status ≡ 0
       → Holds d w (watched d w memory list key amount threshold).memory (record { key = key; amount = amount } ∷ ps)
-  watch-holds memory ps h list key amount threshold e =
-      let a = watched-accepted d w memory list key amount threshold e in
-      rw a.memory-is (update-holds d w vw vd memory ps h key amount a.update)
+  watch_holds memory ps h list key amount threshold e =
+      let a = watched_accepted d w memory list key amount threshold e in
+      rw a.memory-is (update_holds d w vw vd memory ps h key amount a.update)
 
   mutual
     unfolding run done bytes_of words_of traffic after behind Faithful Listed LeftBy
@@ -87,32 +87,32 @@ module _ (d w : ℕ) (vd : valid_depth d ≡ true) (vw : valid_width w ≡ true)
     holds (then calls d' w' call true) f =
         let l = f.2 refl in
         told d w d' w' call (run d w calls) (λ m. Holds d w m (after call (traffic calls))) l.0 l.1
-        (λ e. accepted-holds call (run d w calls) (traffic calls) (holds calls f.0) l.2 e) f.1
+        (λ e. accepted_holds call (run d w calls) (traffic calls) (holds calls f.0) l.2 e) f.1
     holds (then calls d' w' call false) f = rw (kept d w d' w' call (run d w calls) f.1) (holds calls f.0)
 
-    accepted-holds : (call : Call) (memory : List ℕ) (ps : List Pair) → Holds d w memory ps → Listed d w call
+    accepted_holds : (call : Call) (memory : List ℕ) (ps : List Pair) → Holds d w memory ps → Listed d w call
         → eqb (done d w d w call memory).answer.status 0 ≡ true → Holds d w (done d w d w call memory).memory (after call ps)
-    accepted-holds clear memory ps h l e = rw (cleared_is d w memory vd vw h.long) (start_holds d w vw)
-    accepted-holds (update key amount) memory ps h l e = update-holds d w vw vd memory ps h key amount (eqb-true _ _ e)
-    accepted-holds (estimate key) memory ps h l e = h
-    accepted-holds widest memory ps h l e = h
-    accepted-holds (unite source) memory ps h l e = unite-holds d w vw vd memory ps h (bytes_of d w source) (behind source) (source-holds source l) (eqb-true _ _ e)
-    accepted-holds (write words) memory ps h l e = h
-    accepted-holds (read source) memory ps h l e = read_holds source memory h.long l
-    accepted-holds (feed before words) memory ps h l e = record-holds memory ps h before words e
-    accepted-holds (watch list key amount threshold) memory ps h l e = watch-holds memory ps h list key amount threshold (eqb-true _ _ e)
+    accepted_holds clear memory ps h l e = rw (cleared_is d w memory vd vw h.long) (start_holds d w vw)
+    accepted_holds (update key amount) memory ps h l e = update_holds d w vw vd memory ps h key amount (eqb-true _ _ e)
+    accepted_holds (estimate key) memory ps h l e = h
+    accepted_holds widest memory ps h l e = h
+    accepted_holds (unite source) memory ps h l e = unite_holds d w vw vd memory ps h (bytes_of d w source) (behind source) (source_holds source l) (eqb-true _ _ e)
+    accepted_holds (write words) memory ps h l e = h
+    accepted_holds (read source) memory ps h l e = read_holds source memory h.long l
+    accepted_holds (feed before words) memory ps h l e = record_holds memory ps h before words e
+    accepted_holds (watch list key amount threshold) memory ps h l e = watch_holds memory ps h list key amount threshold (eqb-true _ _ e)
 
-    source-holds : (source : Source) → LeftBy d w source → Holds d w (bytes_of d w source) (behind source)
-    source-holds (from calls) l = holds calls l
-    source-holds (raw content) l = absurd l
+    source_holds : (source : Source) → LeftBy d w source → Holds d w (bytes_of d w source) (behind source)
+    source_holds (from calls) l = holds calls l
+    source_holds (raw content) l = absurd l
 
     read_holds : (source : Source) (memory : List ℕ) → length memory ≡ size d w → LeftBy d w source → Holds d w (taken d w memory (words_of d w source)).memory (behind source)
     read_holds (from calls) memory long l = image_holds (run d w calls) memory (traffic calls) (holds calls l) long
     read_holds (raw content) memory long l = absurd l
 
   -- The memory is a function of the traffic's totals alone, so the order of its pairs has no part in it.
-  pub same-totals : (calls others : Calls) → Faithful d w calls → Faithful d w others → SameTotals d w (traffic calls) (traffic others) → run d w calls ≡ run d w others
-  same-totals calls others f g e = one_memory d w vw (run d w calls) (run d w others) (traffic calls) (traffic others) e (holds calls f) (holds others g)
+  pub same_totals : (calls others : Calls) → Faithful d w calls → Faithful d w others → SameTotals d w (traffic calls) (traffic others) → run d w calls ≡ run d w others
+  same_totals calls others f g e = one_memory d w vw (run d w calls) (run d w others) (traffic calls) (traffic others) e (holds calls f) (holds others g)
 
   -- The image of a list is what the writer gives: it refuses no meter that a list left, if the words suffice.
   pub written_is : (calls : Calls) (lent : List ℕ) → Faithful d w calls → length (image d w (run d w calls)) ≤ length lent
@@ -126,28 +126,28 @@ module _ (d w : ℕ) (vd : valid_depth d ≡ true) (vw : valid_width w ≡ true)
     pub answers : (key : List ℕ) → bad_key (length key) ≡ 0
         → (estimated d w (run d w calls) key ≡ accepted (estimated d w (run d w calls) key).value) × Between d w (traffic calls) key (estimated d w (run d w calls) key).value
     answers key k =
-        rw (estimate-holds d w vd vw (run d w calls) (traffic calls) (holds calls f) key k)
-        (refl, estimate-between d w vd vw (run d w calls) (traffic calls) (holds calls f) key)
+        rw (estimate_holds d w vd vw (run d w calls) (traffic calls) (holds calls f) key k)
+        (refl, estimate_between d w vd vw (run d w calls) (traffic calls) (holds calls f) key)
 
     -- an estimate has 64 bits
-    pub estimate-small : (key : List ℕ) → bad_key (length key) ≡ 0 → (estimated d w (run d w calls) key).value < 2 ^ 64
+    pub estimate_small : (key : List ℕ) → bad_key (length key) ≡ 0 → (estimated d w (run d w calls) key).value < 2 ^ 64
     unfolding cap
-    estimate-small key k =
-        rw (estimate-holds d w vd vw (run d w calls) (traffic calls) (holds calls f) key k) (estimate-fits d w vd vw (run d w calls) (traffic calls) (holds calls f) key)
+    estimate_small key k =
+        rw (estimate_holds d w vd vw (run d w calls) (traffic calls) (holds calls f) key k) (estimate_fits d w vd vw (run d w calls) (traffic calls) (holds calls f) key)
 
     -- an estimate that was accepted had a sound key
-    sound-key : (key : List ℕ) → (estimated d w (run d w calls) key).status ≡ 0 → bad_key (length key) ≡ 0
-    sound-key key e =
+    sound_key : (key : List ℕ) → (estimated d w (run d w calls) key).status ≡ 0 → bad_key (length key) ≡ 0
+    sound_key key e =
         let m = run d w calls in
         let good = good_shape d w (length m) vd vw (holds calls f).long in
         elim (ℕ_discrete (bad_key (length key)) 0) [
           | yes z ↦ z
           | no n ↦ absurd (n (sym (status_is (bad_key (length key)) 0)
-              ∙ ap (λ (x : Answer). x.status) (estimated-bad d w m key (bad_key (length key)) (call_key d w m key good) n) ∙ e))
+              ∙ ap (λ (x : Answer). x.status) (estimated_bad d w m key (bad_key (length key)) (call_key d w m key good) n) ∙ e))
         ]
 
     estimates : (key : List ℕ) → (estimated d w (run d w calls) key).status ≡ 0 → Between d w (traffic calls) key (estimated d w (run d w calls) key).value
-    estimates key e = (answers key (sound-key key e)).1
+    estimates key e = (answers key (sound_key key e)).1
 
     claim : Claim d w calls
     unfolding done
@@ -159,7 +159,7 @@ module _ (d w : ℕ) (vd : valid_depth d ≡ true) (vw : valid_width w ≡ true)
               let q = query_is d w (run d w calls) before words due e in
               let k = key_of (payload words 0) words in
               subst (λ (v : ℕ). Between d w (traffic calls) k v) q.1 (estimates k q.0);
-          widest_level = widest-holds d w vd vw (run d w calls) (traffic calls) (holds calls f);
+          widest_level = widest_holds d w vd vw (run d w calls) (traffic calls) (holds calls f);
         }
 
 -- Document 01's claim, of every list of calls.

@@ -59,25 +59,25 @@ up x s m n h e =
     rw f (sym (shr-shr x m (n - m)) ∙ ap (λ (y : ℕ). y / 2 ^ (n - m)) e ∙ shr-shr s m (n - m))
 
 module _ (w r : ℕ) where
-  pub totals-add : (ps : List Pair) → Adds ordinary (block_total w r ps)
+  pub totals_add : (ps : List Pair) → Adds ordinary (block_total w r ps)
   unfolding block_total block_of
-  totals-add ps n i =
+  totals_add ps n i =
       sum_split (λ key. eqb (block_of w r (suc n) key) i) (λ key. eqb (block_of w r n key) (2 * i)) (λ key. eqb (block_of w r n key) (2 * i + 1))
       (λ key a. rw (half (key_slot basis w key r) n) (either_half (key_slot basis w key r / 2 ^ n) i a)) ps
 
   -- one pair more, and two traffics together
-  pub totals-more : (p : Pair) (ps : List Pair) (n i : ℕ) → block_total w r (p ∷ ps) n i ≡ cond (eqb (key_slot basis w p.key r / 2 ^ n) i) p.amount 0 + block_total w r ps n i
+  pub totals_more : (p : Pair) (ps : List Pair) (n i : ℕ) → block_total w r (p ∷ ps) n i ≡ cond (eqb (key_slot basis w p.key r / 2 ^ n) i) p.amount 0 + block_total w r ps n i
   unfolding block_total block_of amount_sum
-  totals-more p ps n i = refl
+  totals_more p ps n i = refl
 
-  pub totals-append : (ps qs : List Pair) (n i : ℕ) → block_total w r (ps ++ qs) n i ≡ block_total w r ps n i + block_total w r qs n i
+  pub totals_append : (ps qs : List Pair) (n i : ℕ) → block_total w r (ps ++ qs) n i ≡ block_total w r ps n i + block_total w r qs n i
   unfolding block_total
-  totals-append ps qs n i = sum_append (λ key. eqb (block_of w r n key) i) ps qs
+  totals_append ps qs n i = sum_append (λ key. eqb (block_of w r n key) i) ps qs
 
   -- a key's total is at most that of a block that the key lands in
-  pub key-le : (ps : List Pair) (key : List ℕ) (n : ℕ) → key_total key ps ≤ block_total w r ps n (key_slot basis w key r / 2 ^ n)
+  pub key_le : (ps : List Pair) (key : List ℕ) (n : ℕ) → key_total key ps ≤ block_total w r ps n (key_slot basis w key r / 2 ^ n)
   unfolding key_total block_total block_of
-  key-le ps key n = sum_mono (same_key key) (λ k. eqb (block_of w r n k) (key_slot basis w key r / 2 ^ n)) (λ k e. rw (← same_key_lem key k e) (eq-eqb (key_slot basis w key r / 2 ^ n) (key_slot basis w key r / 2 ^ n) refl)) ps
+  key_le ps key n = sum_mono (same_key key) (λ k. eqb (block_of w r n k) (key_slot basis w key r / 2 ^ n)) (λ k e. rw (← same_key_lem key k e) (eq-eqb (key_slot basis w key r / 2 ^ n) (key_slot basis w key r / 2 ^ n) refl)) ps
 
   -- a larger block around a slot has a larger total
   pub wider_le : (ps : List Pair) (s m n : ℕ) → m ≤ n → block_total w r ps m (s / 2 ^ m) ≤ block_total w r ps n (s / 2 ^ n)
@@ -108,37 +108,37 @@ pub record Overflow (d w : ℕ) (ps : List Pair) (n : ℕ) : Type 0 where
   pub large : cap n ≤ block_total w row ps n index
 
 module _ (d w : ℕ) (ps : List Pair) where
-  pub overflow-some : (n : ℕ) → overflows d w ps n ≡ true → Overflow d w ps n
+  pub overflow_some : (n : ℕ) → overflows d w ps n ≡ true → Overflow d w ps n
   unfolding overflows
-  overflow-some n e =
+  overflow_some n e =
       let r = any_some d (λ r. any_below (w / 2 ^ n) (λ i. leb (cap n) (block_total w r ps n i))) e in
       let i = any_some (w / 2 ^ n) (λ i. leb (cap n) (block_total w r.0 ps n i)) r.2 in
       record { row = r.0; index = i.0; row_in = r.1; index_in = i.1; large = leb-true _ _ i.2 }
 
-  pub some-overflow : (n : ℕ) → Overflow d w ps n → overflows d w ps n ≡ true
+  pub some_overflow : (n : ℕ) → Overflow d w ps n → overflows d w ps n ≡ true
   unfolding overflows
-  some-overflow n o =
+  some_overflow n o =
       some_any d (λ r. any_below (w / 2 ^ n) (λ i. leb (cap n) (block_total w r ps n i))) o.row o.row_in
       (some_any (w / 2 ^ n) (λ i. leb (cap n) (block_total w o.row ps n i)) o.index o.index_in (le-leb _ _ o.large))
 
   -- L is at least every level above an overflow, and is 0 or a level above one
-  pub level-least : (m n : ℕ) → n < m → overflows d w ps n ≡ true → suc n ≤ level_up_to d w ps m
+  pub level_least : (m n : ℕ) → n < m → overflows d w ps n ≡ true → suc n ≤ level_up_to d w ps m
   unfolding level_up_to
-  level-least zero n h e = absurd (omega arith)
-  level-least (suc m) n h e =
+  level_least zero n h e = absurd (omega arith)
+  level_least (suc m) n h e =
       elim (ℕ_discrete n m) [
         | yes z ↦ rw (← z, e) (omega arith)
-        | no z ↦ go (overflows d w ps m) (level-least m n (omega arith) e)
+        | no z ↦ go (overflows d w ps m) (level_least m n (omega arith) e)
       ]
     where
       go : (b : Bool) → suc n ≤ level_up_to d w ps m → suc n ≤ cond b (suc m) (level_up_to d w ps m)
       go true l = h
       go false l = l
 
-  pub level-cause : (m n : ℕ) → level_up_to d w ps m ≡ suc n → (n < m) × (overflows d w ps n ≡ true)
+  pub level_cause : (m n : ℕ) → level_up_to d w ps m ≡ suc n → (n < m) × (overflows d w ps n ≡ true)
   unfolding level_up_to
-  level-cause zero n e = absurd (omega arith)
-  level-cause (suc m) n e = go (overflows d w ps m) refl e (level-cause m n)
+  level_cause zero n e = absurd (omega arith)
+  level_cause (suc m) n e = go (overflows d w ps m) refl e (level_cause m n)
     where
       go : (b : Bool) → overflows d w ps m ≡ b → cond b (suc m) (level_up_to d w ps m) ≡ suc n
           → (level_up_to d w ps m ≡ suc n → (n < m) × (overflows d w ps n ≡ true)) → (n < suc m) × (overflows d w ps n ≡ true)

@@ -25,9 +25,9 @@ use Rattle.watch.specs.Watch.{list_cleared, watch_status, noted_in, watched, bad
 
 -- clearing
 module _ (list : List ℕ) where
-  pub cleared-bad : (s : ℕ) → s ≡ bad_list list → (s ≡ 0 → ⊥) → (answer_of s 0 ≡ (list_cleared list).answer) × (list ≡ (list_cleared list).memory)
+  pub cleared_bad : (s : ℕ) → s ≡ bad_list list → (s ≡ 0 → ⊥) → (answer_of s 0 ≡ (list_cleared list).answer) × (list ≡ (list_cleared list).memory)
   unfolding list_cleared
-  cleared-bad s e h = refusing s (bad_list list) _ list (sym e) h
+  cleared_bad s e h = refusing s (bad_list list) _ list (sym e) h
 
   pub cleared_good : bad_list list ≡ 0 → (answer_of 0 0 ≡ (list_cleared list).answer) × (replicate (length list) 0 ≡ (list_cleared list).memory)
   unfolding list_cleared
@@ -35,9 +35,9 @@ module _ (list : List ℕ) where
 
 -- lines 1 to 4
 module _ (d w : ℕ) (memory list key : List ℕ) where
-  pub lines-good : bad_lines d w memory list key ≡ 0 → (bad_call d w memory key ≡ 0) × (length list ≡ list_size) × KeyLong key
+  pub lines_good : bad_lines d w memory list key ≡ 0 → (bad_call d w memory key ≡ 0) × (length list ≡ list_size) × KeyLong key
   unfolding bad_lines
-  lines-good e =
+  lines_good e =
       let p = none_first (bad_shape d w (length memory)) (bad_list list ∷ bad_key (length key) ∷ []) e in
       let q = arguments_none list key p.1 in
       (sym (call_key d w memory key p.0) ∙ q.1, list_long list q.0, key_long key q.1)
@@ -55,24 +55,24 @@ module _ (d w : ℕ) (memory list key : List ℕ) where
     later = rw (earlier_none (bad_threshold threshold))
 
     -- a refused update leaves the memory
-    update-kept : {s : ℕ} → s ≡ (updated d w memory key amount).answer.status → (s ≡ 0 → ⊥) → (updated d w memory key amount).memory ≡ memory
+    update_kept : {s : ℕ} → s ≡ (updated d w memory key amount).answer.status → (s ≡ 0 → ⊥) → (updated d w memory key amount).memory ≡ memory
     unfolding updated
-    update-kept {s} e h = finish_kept _ _ _ _ (ne_eqb _ 0 (λ z. h (e ∙ z)))
+    update_kept {s} e h = finish_kept _ _ _ _ (ne_eqb _ 0 (λ z. h (e ∙ z)))
 
     Refused : ℕ → Type 0
     Refused s =
         (answer_of s 0 ≡ (watched d w memory list key amount threshold).answer)
         × ((memory ≡ (watched d w memory list key amount threshold).memory) × (list ≡ (watched d w memory list key amount threshold).list))
 
-    refused-by : (s : ℕ) → s ≡ watch_status d w memory list key amount threshold → (s ≡ 0 → ⊥) → Refused s
+    refused_by : (s : ℕ) → s ≡ watch_status d w memory list key amount threshold → (s ≡ 0 → ⊥) → Refused s
     unfolding watched leaves Refused
-    refused-by s e h = rw (← e, ne_eqb s 0 h) (refl, (refl, refl))
+    refused_by s e h = rw (← e, ne_eqb s 0 h) (refl, (refl, refl))
 
-    pub watched-bad : (s : ℕ) → s ≡ bad_lines d w memory list key → (s ≡ 0 → ⊥)
+    pub watched_bad : (s : ℕ) → s ≡ bad_lines d w memory list key → (s ≡ 0 → ⊥)
         → (answer_of s 0 ≡ (watched d w memory list key amount threshold).answer)
         × ((memory ≡ (watched d w memory list key amount threshold).memory) × (list ≡ (watched d w memory list key amount threshold).list))
     unfolding watch_status Refused
-    watched-bad s e h = refused-by s (e ∙ sym (first_stop (bad_lines d w memory list key) _ (λ z. h (e ∙ z)))) h
+    watched_bad s e h = refused_by s (e ∙ sym (first_stop (bad_lines d w memory list key) _ (λ z. h (e ∙ z)))) h
 
     module _ (good : bad_lines d w memory list key ≡ 0) where
       by_lines : watch_status d w memory list key amount threshold ≡ earlier status lines
@@ -83,56 +83,56 @@ module _ (d w : ℕ) (memory list key : List ℕ) where
           ∙ later
 
       -- a list that is broken, or a threshold of 0: an estimate's status does for the update's
-      pub watched-line : (line s : ℕ) → line ≡ earlier (broken_list list) (bad_threshold threshold) → (line ≡ 0 → ⊥) → s ≡ (estimated d w memory key).status
+      pub watched_line : (line s : ℕ) → line ≡ earlier (broken_list list) (bad_threshold threshold) → (line ≡ 0 → ⊥) → s ≡ (estimated d w memory key).status
           → (answer_of (earlier s line) 0 ≡ (watched d w memory list key amount threshold).answer)
           × ((memory ≡ (watched d w memory list key amount threshold).memory) × (list ≡ (watched d w memory list key amount threshold).list))
       unfolding status lines Refused
-      watched-line line s e h u =
-          refused-by (earlier s line)
+      watched_line line s e h u =
+          refused_by (earlier s line)
           (ap (λ (x : ℕ). earlier x line) u
-          ∙ sym (refused_as_estimated d w memory key amount line (lines-good good).0 (own_lines (sound list) (leb 1 threshold) line e h))
+          ∙ sym (refused_as_estimated d w memory key amount line (lines_good good).0 (own_lines (sound list) (leb 1 threshold) line e h))
           ∙ ap (earlier (updated d w memory key amount).answer.status) e
           ∙ sym by_lines)
           (λ z. h (none_earlier s line z).1)
 
       module _ (clean : earlier (broken_list list) (bad_threshold threshold) ≡ 0) where
-        by-update : watch_status d w memory list key amount threshold ≡ (updated d w memory key amount).answer.status
+        by_update : watch_status d w memory list key amount threshold ≡ (updated d w memory key amount).answer.status
         unfolding status lines
-        by-update = by_lines ∙ ap (earlier (updated d w memory key amount).answer.status) clean ∙ earlier_none (updated d w memory key amount).answer.status
+        by_update = by_lines ∙ ap (earlier (updated d w memory key amount).answer.status) clean ∙ earlier_none (updated d w memory key amount).answer.status
 
         -- an update that the meter refuses, and one that it takes
-        pub watched-full : (s : ℕ) → s ≡ (updated d w memory key amount).answer.status → (s ≡ 0 → ⊥)
+        pub watched_full : (s : ℕ) → s ≡ (updated d w memory key amount).answer.status → (s ≡ 0 → ⊥)
             → (answer_of s 0 ≡ (watched d w memory list key amount threshold).answer)
             × (((updated d w memory key amount).memory ≡ (watched d w memory list key amount threshold).memory) × (list ≡ (watched d w memory list key amount threshold).list))
         unfolding Refused
-        watched-full s u h =
-            let r = refused-by s (u ∙ sym by-update) h in
-            (r.0, (update-kept u h ∙ r.1.0, r.1.1))
+        watched_full s u h =
+            let r = refused_by s (u ∙ sym by_update) h in
+            (r.0, (update_kept u h ∙ r.1.0, r.1.1))
 
-        pub watched-done : (updated d w memory key amount).answer.status ≡ 0
+        pub watched_done : (updated d w memory key amount).answer.status ≡ 0
             → (answer_of 0 0 ≡ (watched d w memory list key amount threshold).answer)
             × (((updated d w memory key amount).memory ≡ (watched d w memory list key amount threshold).memory)
             × (noted_in d w (updated d w memory key amount).memory list key threshold ≡ (watched d w memory list key amount threshold).list))
         unfolding watched leaves
-        watched-done u = rw (by-update, u) (refl, (refl, refl))
+        watched_done u = rw (by_update, u) (refl, (refl, refl))
 
 -- taking a key off
 module _ (list key : List ℕ) where
-  pub removed-bad : (s : ℕ) → s ≡ first_of (bad_list list ∷ bad_key (length key) ∷ []) → (s ≡ 0 → ⊥) → (answer_of s 0 ≡ (removed list key).answer) × (list ≡ (removed list key).memory)
+  pub removed_bad : (s : ℕ) → s ≡ first_of (bad_list list ∷ bad_key (length key) ∷ []) → (s ≡ 0 → ⊥) → (answer_of s 0 ≡ (removed list key).answer) × (list ≡ (removed list key).memory)
   unfolding removed bad_removal
-  removed-bad s e h =
+  removed_bad s e h =
       refusing s (bad_removal list key) (encode (taken_off key (decode list))) list
       (first_part (bad_list list ∷ bad_key (length key) ∷ []) (broken_list list ∷ []) (omega arith) ∙ sym e) h
 
   module _ (good : first_of (bad_list list ∷ bad_key (length key) ∷ []) ≡ 0) where
-    by-content : bad_removal list key ≡ broken_list list
+    by_content : bad_removal list key ≡ broken_list list
     unfolding bad_removal
-    by-content = first_rest (bad_list list ∷ bad_key (length key) ∷ []) (broken_list list ∷ []) good ∙ first_one (broken_list list)
+    by_content = first_rest (bad_list list ∷ bad_key (length key) ∷ []) (broken_list list ∷ []) good ∙ first_one (broken_list list)
 
-    pub removed-broken : sound list ≡ false → (answer_of invalid_content 0 ≡ (removed list key).answer) × (list ≡ (removed list key).memory)
+    pub removed_broken : sound list ≡ false → (answer_of invalid_content 0 ≡ (removed list key).answer) × (list ≡ (removed list key).memory)
     unfolding removed
-    removed-broken e = refusing invalid_content (bad_removal list key) (encode (taken_off key (decode list))) list (by-content ∙ rw e) (λ z. omega arith)
+    removed_broken e = refusing invalid_content (bad_removal list key) (encode (taken_off key (decode list))) list (by_content ∙ rw e) (λ z. omega arith)
 
-    pub removed-good : sound list ≡ true → (answer_of 0 0 ≡ (removed list key).answer) × (encode (taken_off key (decode list)) ≡ (removed list key).memory)
+    pub removed_good : sound list ≡ true → (answer_of 0 0 ≡ (removed list key).answer) × (encode (taken_off key (decode list)) ≡ (removed list key).memory)
     unfolding removed
-    removed-good e = accepting (bad_removal list key) (encode (taken_off key (decode list))) list (by-content ∙ rw e)
+    removed_good e = accepting (bad_removal list key) (encode (taken_off key (decode list))) list (by_content ∙ rw e)

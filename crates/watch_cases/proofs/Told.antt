@@ -19,13 +19,13 @@ module _ (d w t : ℕ) where
   allTold [] = true
   allTold (step ∷ steps) = (not (passes step (entered d w steps)) || these step) && allTold steps
 
-  told-these : (step : Step) → these step ≡ true → ToldThese d w t step
+  told_these : (step : Step) → these step ≡ true → ToldThese d w t step
   unfolding these ToldThese
-  told-these (update d' w' key amount t') e =
+  told_these (update d' w' key amount t') e =
       let p = (and-eq-true_iff (eqb d' d) (eqb w' w && eqb t' t)).0 e in
       let q = (and-eq-true_iff (eqb w' w) (eqb t' t)).0 p.1 in
       (eqb-true d' d p.0, eqb-true w' w q.0, eqb-true t' t q.1)
-  told-these (remove key) e = tt
+  told_these (remove key) e = tt
 
   module _ (vd : valid_depth d ≡ true) (vw : valid_width w ≡ true) (pos : 1 ≤ t) where
     pub all_told : (steps : List Step) → allTold steps ≡ true → Told d w t steps
@@ -33,4 +33,4 @@ module _ (d w t : ℕ) where
     all_told [] e = tt
     all_told (step ∷ steps) e =
         let p = (and-eq-true_iff (not (passes step (entered d w steps)) || these step) (allTold steps)).0 e in
-        goes_on d w t vd vw pos steps (all_told steps p.1) step (λ z. told-these step (rw z at p.0))
+        goes_on d w t vd vw pos steps (all_told steps p.1) step (λ z. told_these step (rw z at p.0))

@@ -40,21 +40,21 @@ arguments_none list key e =
     (p.0, sym (first_one (bad_key (length key))) ∙ p.1)
 
 module _ (list key : List ℕ) where
-  pub arguments-list : (bad_list list ≡ 0 → ⊥) → bad_list list ≡ first_of (bad_list list ∷ bad_key (length key) ∷ [])
-  arguments-list h = sym (first_stop (bad_list list) (bad_key (length key) ∷ []) h)
+  pub arguments_list : (bad_list list ≡ 0 → ⊥) → bad_list list ≡ first_of (bad_list list ∷ bad_key (length key) ∷ [])
+  arguments_list h = sym (first_stop (bad_list list) (bad_key (length key) ∷ []) h)
 
-  pub arguments-key : bad_list list ≡ 0 → bad_key (length key) ≡ first_of (bad_list list ∷ bad_key (length key) ∷ [])
-  arguments-key e = sym (first_skip (bad_list list) (bad_key (length key) ∷ []) e ∙ first_one (bad_key (length key)))
+  pub arguments_key : bad_list list ≡ 0 → bad_key (length key) ≡ first_of (bad_list list ∷ bad_key (length key) ∷ [])
+  arguments_key e = sym (first_skip (bad_list list) (bad_key (length key) ∷ []) e ∙ first_one (bad_key (length key)))
 
 -- and with them 1 and 2
 module _ (d w : ℕ) (memory list key : List ℕ) where
-  pub lines-shape : (bad_shape d w (length memory) ≡ 0 → ⊥) → bad_shape d w (length memory) ≡ bad_lines d w memory list key
+  pub lines_shape : (bad_shape d w (length memory) ≡ 0 → ⊥) → bad_shape d w (length memory) ≡ bad_lines d w memory list key
   unfolding bad_lines
-  lines-shape h = sym (first_stop (bad_shape d w (length memory)) (bad_list list ∷ bad_key (length key) ∷ []) h)
+  lines_shape h = sym (first_stop (bad_shape d w (length memory)) (bad_list list ∷ bad_key (length key) ∷ []) h)
 
-  pub lines-arguments : bad_shape d w (length memory) ≡ 0 → first_of (bad_list list ∷ bad_key (length key) ∷ []) ≡ bad_lines d w memory list key
+  pub lines_arguments : bad_shape d w (length memory) ≡ 0 → first_of (bad_list list ∷ bad_key (length key) ∷ []) ≡ bad_lines d w memory list key
   unfolding bad_lines
-  lines-arguments e = sym (first_skip (bad_shape d w (length memory)) (bad_list list ∷ bad_key (length key) ∷ []) e)
+  lines_arguments e = sym (first_skip (bad_shape d w (length memory)) (bad_list list ∷ bad_key (length key) ∷ []) e)
 
 -- 5 comes before 11, and one of the two is what a line other than 0 is
 pub five_first : (b : Bool) → earlier 5 (unless b 11) ≡ 5

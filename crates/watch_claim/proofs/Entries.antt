@@ -6,7 +6,7 @@ use Prim.Native.Nat.{ℕ}
 use Rattle.meter_keys.specs.Keys.{same_key}
 use Rattle.meter_keys.proofs.Same.{same_key_lem, key_same}
 use Rattle.watch_list.specs.List.{Entry, listed, renewed, without}
-use Rattle.watch_list.proofs.Lists.{keys_of, same_sym, by_test, listed_append, listed_keys, renewed-cases, renewed-keys, without-cases}
+use Rattle.watch_list.proofs.Lists.{keys_of, same_sym, by_test, listed_append, listed_keys, renewed_cases, renewed_keys, without_cases}
 use Rattle.watch_claim.specs.Claim.{estimate_in, Once, filter}
 
 -- one of two tests that fails
@@ -19,8 +19,8 @@ pub renewed_once : (key : List ℕ) (estimate : ℕ) (es : List Entry) → Once 
 unfolding renewed Once
 renewed_once key estimate [] o = tt
 renewed_once key estimate (e ∷ es) o =
-    renewed-cases key estimate e es Once (λ p. o)
-    (λ p. (listed_keys e.key (renewed key estimate es) es (renewed-keys key estimate es) ∙ o.0, renewed_once key estimate es o.1))
+    renewed_cases key estimate e es Once (λ p. o)
+    (λ p. (listed_keys e.key (renewed key estimate es) es (renewed_keys key estimate es) ∙ o.0, renewed_once key estimate es o.1))
 
 pub joined_once : (es : List Entry) (last : Entry) → Once es → listed last.key es ≡ false → Once (es ++ (last ∷ []))
 unfolding Once listed
@@ -36,33 +36,33 @@ unfolding without listed
 without_none key other [] n = refl
 without_none key other (e ∷ es) n =
     let q = neither (same_key e.key other) (listed other es) n in
-    without-cases key e es (λ now. listed other now ≡ false) (λ p. q.1) (λ p. rw q.0 (without_none key other es q.1))
+    without_cases key e es (λ now. listed other now ≡ false) (λ p. q.1) (λ p. rw q.0 (without_none key other es q.1))
 
 pub without_once : (key : List ℕ) (es : List Entry) → Once es → Once (without key es)
 unfolding without Once
 without_once key [] o = tt
-without_once key (e ∷ es) o = without-cases key e es Once (λ p. o.1) (λ p. (without_none key e.key es o.0, without_once key es o.1))
+without_once key (e ∷ es) o = without_cases key e es Once (λ p. o.1) (λ p. (without_none key e.key es o.0, without_once key es o.1))
 
 -- the key that was taken off is listed no more
 pub without_same : (key : List ℕ) (es : List Entry) → Once es → listed key (without key es) ≡ false
 unfolding without Once listed
 without_same key [] o = refl
 without_same key (e ∷ es) o =
-    without-cases key e es (λ now. listed key now ≡ false) (λ p. rw (← same_key_lem e.key key p) o.0) (λ p. rw (p, without_same key es o.1))
+    without_cases key e es (λ now. listed key now ≡ false) (λ p. rw (← same_key_lem e.key key p) o.0) (λ p. rw (p, without_same key es o.1))
 
 -- estimates
 pub renewed_same : (key : List ℕ) (estimate : ℕ) (es : List Entry) → listed key es ≡ true → estimate_in key (renewed key estimate es) ≡ estimate
 unfolding renewed listed estimate_in
 renewed_same key estimate [] l = absurd (true≢false (sym l))
 renewed_same key estimate (e ∷ es) l =
-    renewed-cases key estimate e es (λ now. estimate_in key now ≡ estimate) (λ p. rw p) (λ p. rw p (renewed_same key estimate es (rw p at l)))
+    renewed_cases key estimate e es (λ now. estimate_in key now ≡ estimate) (λ p. rw p) (λ p. rw p (renewed_same key estimate es (rw p at l)))
 
 pub renewed_other : (key : List ℕ) (estimate : ℕ) (other : List ℕ) → same_key key other ≡ false
     → (es : List Entry) → estimate_in other (renewed key estimate es) ≡ estimate_in other es
 unfolding renewed estimate_in
 renewed_other key estimate other n [] = refl
 renewed_other key estimate other n (e ∷ es) =
-    renewed-cases key estimate e es (λ now. estimate_in other now ≡ cond (same_key e.key other) e.estimate (estimate_in other es))
+    renewed_cases key estimate e es (λ now. estimate_in other now ≡ cond (same_key e.key other) e.estimate (estimate_in other es))
     (λ p. rw (same_key_lem e.key key p, n)) (λ p. rw (renewed_other key estimate other n es))
 
 pub joined_same : (es : List Entry) (last : Entry) → listed last.key es ≡ false → estimate_in last.key (es ++ (last ∷ [])) ≡ last.estimate
@@ -81,7 +81,7 @@ pub without_estimate : (key other : List ℕ) → same_key key other ≡ false �
 unfolding without estimate_in
 without_estimate key other n [] = refl
 without_estimate key other n (e ∷ es) =
-    without-cases key e es (λ now. estimate_in other now ≡ cond (same_key e.key other) e.estimate (estimate_in other es))
+    without_cases key e es (λ now. estimate_in other now ≡ cond (same_key e.key other) e.estimate (estimate_in other es))
     (λ p. rw (same_key_lem e.key key p, n)) (λ p. rw (without_estimate key other n es))
 
 -- the order of keys: every key passes, and those that are left after one was taken off
@@ -102,7 +102,7 @@ pub without_passes : (key : List ℕ) (es : List Entry) → Once es → filter (
 unfolding filter without listed Once
 without_passes key [] o = refl
 without_passes key (e ∷ es) o =
-    without-cases key e es (λ now. filter (λ k. listed k now) (e.key ∷ keys_of es) ≡ keys_of now)
+    without_cases key e es (λ now. filter (λ k. listed k now) (e.key ∷ keys_of es) ≡ keys_of now)
     (λ p. rw o.0 (all_pass (λ k. listed k es) es (λ k l. l)))
     (λ p.
     rw (key_same e.key)

@@ -14,7 +14,7 @@ use Rattle.watch_list.specs.List.{Watch, noted, taken_off}
 use Rattle.watch_list.specs.Layout.{list_size, sound}
 use Rattle.watch_list.proofs.Lists.{by_test, cleared}
 use Rattle.watch.specs.Watch.{watched}
-use Rattle.watch.proofs.Laws.{watched-accepted, watched-status, removed-status}
+use Rattle.watch.proofs.Laws.{watched_accepted, watched_status, removed_status}
 use Rattle.watch_claim.specs.Steps.{Step, update, remove, State, status}
 
 -- a meter's memory and the list beside it, as entries
@@ -45,7 +45,7 @@ pub passes_is : (step : Step) (s : State) (x : Entered) → s.memory ≡ x.memor
 unfolding status passes
 passes_is (update d w key amount zero) s x e long good =
     by_test (eqb (watched d w s.memory s.list key amount 0).answer.status 0) (λ b. b ≡ false)
-    (λ p. absurd (omega (arith, (watched-accepted d w s.memory s.list key amount 0 (eqb-true _ 0 p)).positive))) (λ p. refl)
+    (λ p. absurd (omega (arith, (watched_accepted d w s.memory s.list key amount 0 (eqb-true _ 0 p)).positive))) (λ p. refl)
 passes_is (update d w key amount (suc t)) s x e long good =
-    rw (watched-status d w s.memory s.list key amount (suc t) long good (omega arith), e, le-leb 1 (suc t) (omega arith))
-passes_is (remove key) s x e long good = rw (removed-status s.list key long good)
+    rw (watched_status d w s.memory s.list key amount (suc t) long good (omega arith), e, le-leb 1 (suc t) (omega arith))
+passes_is (remove key) s x e long good = rw (removed_status s.list key long good)

@@ -10,7 +10,7 @@ use lib.ListN.{length, replicate, length-append, length-replicate, length-map}
 use Rattle.meter_keys.specs.Keys.{same_key}
 use Rattle.meter_keys.proofs.Same.{same_key_lem, key_same}
 use Rattle.watch_list.specs.List.{Entry, Watch, listed, joining, joined, renewed, noted, without, clear_place, taken_off}
-use Rattle.watch_list.proofs.Lists.{Each, each_append, each_is, Fits, WellFormed, keys_of, by_test, listed_append, listed_keys, renewed-keys, renewed-each, without-each, without-length, without_other}
+use Rattle.watch_list.proofs.Lists.{Each, each_append, each_is, Fits, WellFormed, keys_of, by_test, listed_append, listed_keys, renewed_keys, renewed_each, without_each, without_length, without_other}
 use Rattle.watch_claim.specs.Claim.{estimate_in, Once, filter, contents, canonical}
 use Rattle.watch_claim.proofs.Entries.{neither, renewed_once, joined_once, without_once, without_same, renewed_same, renewed_other, joined_same, joined_other, without_estimate, all_pass, without_passes}
 
@@ -115,10 +115,10 @@ same_order key before now order e o =
 module _ (t : ℕ) (watch : Watch) (total : List ℕ → ℕ) (Right : List ℕ → ℕ → Type 0) (since : List ℕ → Bool) (order : List (List ℕ)) (full : ℕ)
     (h : Holding t watch total Right since order full) where
   -- a refused step: totals are as they were
-  pub refused-holding : (key : List ℕ) (total' : List ℕ → ℕ) (Right' : List ℕ → ℕ → Type 0) (since' : List ℕ → Bool)
+  pub refused_holding : (key : List ℕ) (total' : List ℕ → ℕ) (Right' : List ℕ → ℕ → Type 0) (since' : List ℕ → Bool)
       → ((k : List ℕ) → total' k ≡ total k) → ((k : List ℕ) (x : ℕ) → Right k x → Right' k x) → ((k : List ℕ) → since' k ≡ since k)
       → Holding t watch total' Right' since' (order_now key watch.entries watch.entries order) full
-  refused-holding key total' Right' since' p r q =
+  refused_holding key total' Right' since' p r q =
       record {
         good = h.good;
         heavy = λ m k l s. h.heavy m k (rw (← p k) l) (sym (q k) ∙ s);
@@ -138,16 +138,16 @@ module _ (t : ℕ) (watch : Watch) (total : List ℕ → ℕ) (Right : List ℕ 
         (cond (not (listed key watch.entries) && (leb t v && eqb (length watch.entries) 64)) 1 full)
 
     -- of another key
-    heavy-other : watch.mark ≡ 0 → (k : List ℕ) → same_key key k ≡ false → t ≤ total' k → since' k ≡ false → listed k watch.entries ≡ true
-    heavy-other m k n l s = h.heavy m k (rw (← others k n) l) (sym (kept k n) ∙ s)
+    heavy_other : watch.mark ≡ 0 → (k : List ℕ) → same_key key k ≡ false → t ≤ total' k → since' k ≡ false → listed k watch.entries ≡ true
+    heavy_other m k n l s = h.heavy m k (rw (← others k n) l) (sym (kept k n) ∙ s)
 
-    estimate-other : (k : List ℕ) → same_key key k ≡ false → listed k watch.entries ≡ true → Right' k (estimate_in k watch.entries)
-    estimate-other k n l = rights k (estimate_in k watch.entries) n (h.estimates k l)
+    estimate_other : (k : List ℕ) → same_key key k ≡ false → listed k watch.entries ≡ true → Right' k (estimate_in k watch.entries)
+    estimate_other k n l = rights k (estimate_in k watch.entries) n (h.estimates k l)
 
     renews : listed key watch.entries ≡ true → Now (record { mark = watch.mark; entries = renewed key v watch.entries; free = watch.free })
     renews l =
         let es = watch.entries in
-        let ks = renewed-keys key v es in
+        let ks = renewed_keys key v es in
         let same : (k : List ℕ) → listed k (renewed key v es) ≡ listed k es = λ k. listed_keys k (renewed key v es) es ks in
         let n : length (renewed key v es) ≡ length es = sym (length-map (renewed key v es) (λ (e : Entry). e.key)) ∙ ap length ks ∙ length-map es (λ (e : Entry). e.key) in
         record {
@@ -155,14 +155,14 @@ module _ (t : ℕ) (watch : Watch) (total : List ℕ → ℕ) (Right : List ℕ 
               record {
                 mark_le = h.good.mark_le;
                 places = rw n h.good.places;
-                used = renewed-each key v Used (λ e u. record { some = u.some; most = u.most; zeros = u.zeros; small = small }) es h.good.used;
+                used = renewed_each key v Used (λ e u. record { some = u.some; most = u.most; zeros = u.zeros; small = small }) es h.good.used;
                 clear = h.good.clear;
                 once = renewed_once key v es h.good.once;
               };
-          heavy = λ m k r s. same k ∙ same_or_not key k (λ p. rw (← p) l) (λ p. heavy-other m k p r s);
+          heavy = λ m k r s. same k ∙ same_or_not key k (λ p. rw (← p) l) (λ p. heavy_other m k p r s);
           estimates = λ k r.
               same_or_not key k (λ p. rw (← p, renewed_same key v es l) right)
-              (λ p. rw (renewed_other key v k p es) (estimate-other k p (sym (same k) ∙ r)));
+              (λ p. rw (renewed_other key v k p es) (estimate_other k p (sym (same k) ∙ r)));
           order_is = same_order key es (renewed key v es) order ks h.order_is;
           mark_is = rw l h.mark_is;
         }
@@ -187,10 +187,10 @@ module _ (t : ℕ) (watch : Watch) (total : List ℕ → ℕ) (Right : List ℕ 
                 clear = clear.1;
                 once = joined_once es (joining key v) h.good.once l;
               };
-          heavy = λ m k r s. same_or_not key k (λ p. rw (← p) here) (λ p. more k (heavy-other m k p r s));
+          heavy = λ m k r s. same_or_not key k (λ p. rw (← p) here) (λ p. more k (heavy_other m k p r s));
           estimates = λ k r.
               same_or_not key k (λ p. rw (← p, joined_same es (joining key v) l) right)
-              (λ p. rw (joined_other k es (joining key v) p) (estimate-other k p (sym (or-false (listed k es)) ∙ rw (listed_append k es (joining key v ∷ []), p) at r)));
+              (λ p. rw (joined_other k es (joining key v) p) (estimate_other k p (sym (or-false (listed k es)) ∙ rw (listed_append k es (joining key v ∷ []), p) at r)));
           order_is =
               map-append (λ (e : Entry). e.key) es (joining key v ∷ [])
               ∙ rw (← h.order_is, all_pass (λ k. listed k now) es more, here, l);
@@ -205,7 +205,7 @@ module _ (t : ℕ) (watch : Watch) (total : List ℕ → ℕ) (Right : List ℕ 
         record {
           good = record { mark_le = omega arith; places = room; used = h.good.used; clear = tt; once = h.good.once };
           heavy = λ m k r s. absurd (omega (arith, m));
-          estimates = λ k r. same_or_not key k (λ p. absurd (true≢false (sym r ∙ rw (← p) l))) (λ p. estimate-other k p r);
+          estimates = λ k r. same_or_not key k (λ p. absurd (true≢false (sym r ∙ rw (← p) l))) (λ p. estimate_other k p r);
           order_is = same_order key es es order refl h.order_is;
           mark_is = rw (l, q, eq-eqb (length es) 64 (omega (arith, room)));
         }
@@ -216,14 +216,14 @@ module _ (t : ℕ) (watch : Watch) (total : List ℕ → ℕ) (Right : List ℕ 
         record {
           good = h.good;
           heavy = λ m k r s.
-              same_or_not key k (λ p. absurd (true≢false (sym (le-leb t v (omega (arith, above, rw (← p) at r))) ∙ q))) (λ p. heavy-other m k p r s);
-          estimates = λ k r. same_or_not key k (λ p. absurd (true≢false (sym r ∙ rw (← p) l))) (λ p. estimate-other k p r);
+              same_or_not key k (λ p. absurd (true≢false (sym (le-leb t v (omega (arith, above, rw (← p) at r))) ∙ q))) (λ p. heavy_other m k p r s);
+          estimates = λ k r. same_or_not key k (λ p. absurd (true≢false (sym r ∙ rw (← p) l))) (λ p. estimate_other k p r);
           order_is = same_order key es es order refl h.order_is;
           mark_is = rw (l, q) h.mark_is;
         }
 
-    pub noted-holding : Now (noted key v t watch)
-    noted-holding = noted_cases key v t watch Now renews enters fills stays
+    pub noted_holding : Now (noted key v t watch)
+    noted_holding = noted_cases key v t watch Now renews enters fills stays
 
   -- an accepted taking off
   module _ (key : List ℕ) where
@@ -240,8 +240,8 @@ module _ (t : ℕ) (watch : Watch) (total : List ℕ → ℕ) (Right : List ℕ 
           good =
               record {
                 mark_le = h.good.mark_le;
-                places = omega (arith, without-length key es l, h.good.places);
-                used = without-each key Used es h.good.used;
+                places = omega (arith, without_length key es l, h.good.places);
+                used = without_each key Used es h.good.used;
                 clear = (refl, h.good.clear);
                 once = without_once key es h.good.once;
               };
@@ -266,8 +266,8 @@ module _ (t : ℕ) (watch : Watch) (total : List ℕ → ℕ) (Right : List ℕ 
           mark_is = h.mark_is;
         }
 
-    pub off-holding : Off (taken_off key watch)
+    pub off_holding : Off (taken_off key watch)
     unfolding taken_off
-    off-holding =
+    off_holding =
         by_test (listed key watch.entries)
         (λ b. Off (cond b (record { mark = watch.mark; entries = without key watch.entries; free = clear_place ∷ watch.free }) watch)) leaves (λ l. absent)

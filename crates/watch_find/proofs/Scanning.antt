@@ -13,17 +13,17 @@ use Rattle.watch_find.specs.Scan.{AllDiffer}
 
 -- entries gone through one by one
 module _ (key xs : List ℕ) (n k : ℕ) (h : k < n) where
-  index-next : index_of key (places_from xs (n - k) k) ≡ cond (same_key (place_at xs k).key key) 0 (suc (index_of key (places_from xs (n - (k + 1)) (k + 1))))
+  index_next : index_of key (places_from xs (n - k) k) ≡ cond (same_key (place_at xs k).key key) 0 (suc (index_of key (places_from xs (n - (k + 1)) (k + 1))))
   unfolding index_of places_from
-  index-next =
+  index_next =
       let e : n - k ≡ suc (n - (k + 1)) = omega arith in
       rw (e, add-one k)
 
-  pub index-here : same_key (place_at xs k).key key ≡ true → index_of key (places_from xs (n - k) k) ≡ 0
-  index-here e = index-next ∙ rw e
+  pub index_here : same_key (place_at xs k).key key ≡ true → index_of key (places_from xs (n - k) k) ≡ 0
+  index_here e = index_next ∙ rw e
 
-  pub index-past : same_key (place_at xs k).key key ≡ false → k + index_of key (places_from xs (n - k) k) ≡ k + 1 + index_of key (places_from xs (n - (k + 1)) (k + 1))
-  index-past e = rw (index-next, e) (omega arith)
+  pub index_past : same_key (place_at xs k).key key ≡ false → k + index_of key (places_from xs (n - k) k) ≡ k + 1 + index_of key (places_from xs (n - (k + 1)) (k + 1))
+  index_past e = rw (index_next, e) (omega arith)
 
 -- several places passed at once
 pub both_differ : (key xs : List ℕ) (k n m : ℕ) → AllDiffer xs k n key → AllDiffer xs (k + n) m key → AllDiffer xs k (n + m) key
@@ -39,7 +39,7 @@ pub skip : (key xs : List ℕ) (n k m : ℕ) → k + m ≤ n → AllDiffer xs k 
 skip key xs n k zero h f = let e : k + 0 ≡ k = omega arith in rw e
 skip key xs n k (suc m) h f =
     let e : k + suc m ≡ k + m + 1 = omega arith in
-    rw e (skip key xs n k m (omega arith) (λ j l. f j (omega arith)) ∙ index-past key xs n (k + m) (omega arith) (f m (omega arith)))
+    rw e (skip key xs n k m (omega arith) (λ j l. f j (omega arith)) ∙ index_past key xs n (k + m) (omega arith) (f m (omega arith)))
 
 pub none : (key xs : List ℕ) (k : ℕ) → index_of key (places_from xs 0 k) ≡ 0
 unfolding index_of places_from

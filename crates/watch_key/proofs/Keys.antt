@@ -28,11 +28,11 @@ module _ (xs ys : List ℕ) (long : length xs ≡ length ys) (at : ℕ) where
       ∙ ap (bytes 8) e
       ∙ rw q at (bytes_number (take 8 (drop at ys)) (bytes_take 8 (drop at ys) (bytes_drop at ys c)))
 
-  pub word-turn : at + 8 ≤ length xs → Bytes xs → Bytes ys → take at xs ≡ take at ys → number (take 8 (drop at xs)) ≡ number (take 8 (drop at ys)) → take (at + 8) xs ≡ take (at + 8) ys
-  word-turn h b c e w = rw (take-add at 8 xs, take-add at 8 ys, e, word_same h b c w)
+  pub word_turn : at + 8 ≤ length xs → Bytes xs → Bytes ys → take at xs ≡ take at ys → number (take 8 (drop at xs)) ≡ number (take 8 (drop at ys)) → take (at + 8) xs ≡ take (at + 8) ys
+  word_turn h b c e w = rw (take-add at 8 xs, take-add at 8 ys, e, word_same h b c w)
 
-  pub byte-turn : at < length xs → take at xs ≡ take at ys → get_or xs at 0 ≡ get_or ys at 0 → take (at + 1) xs ≡ take (at + 1) ys
-  byte-turn h e w = rw (add-one at, take-suc xs at 0 h, take-suc ys at 0 (omega arith), e, w)
+  pub byte_turn : at < length xs → take at xs ≡ take at ys → get_or xs at 0 ≡ get_or ys at 0 → take (at + 1) xs ≡ take (at + 1) ys
+  byte_turn h e w = rw (add-one at, take-suc xs at 0 h, take-suc ys at 0 (omega arith), e, w)
 
 -- the digest of bytes amid others is theirs alone
 digest_same : (xs : List ℕ) (a n : ℕ) → 1 ≤ n → digest_of xs a n ≡ digest_of (take n (drop a xs)) 0 n
@@ -61,9 +61,9 @@ digest_same xs a n h = elim (dec_le 8 n) [
 
 -- the key of a place
 module _ (xs : List ℕ) (long : length xs ≡ list_size) (k : ℕ) (h : k < 64) where
-  pub key-of-place : {n : ℕ} → get_or xs k 0 ≡ n → n ≤ 64 → (place_at xs k).key ≡ take n (drop (keys_at + k * 64) xs)
+  pub key_of_place : {n : ℕ} → get_or xs k 0 ≡ n → n ≤ 64 → (place_at xs k).key ≡ take n (drop (keys_at + k * 64) xs)
   unfolding place_at key_bytes
-  key-of-place {n} e l = rw e (take-take n 64 (drop (keys_at + k * 64) xs) l)
+  key_of_place {n} e l = rw e (take-take n 64 (drop (keys_at + k * 64) xs) l)
 
   key_length : get_or xs k 0 ≤ 64 → length (place_at xs k).key ≡ get_or xs k 0
   unfolding place_at key_bytes
@@ -74,9 +74,9 @@ module _ (xs : List ℕ) (long : length xs ≡ list_size) (k : ℕ) (h : k < 64)
   other_length key l d = key_differs (place_at xs k).key key (λ e. d (sym (key_length l) ∙ ap length e))
 
   -- whatever the length of its key
-  pub other-digest : (key : List ℕ) → get_or xs k 0 ≤ 64 → KeyLong key → (digest_of xs (keys_at + k * 64) (length key) ≡ digest_of key 0 (length key) → ⊥)
+  pub other_digest : (key : List ℕ) → get_or xs k 0 ≤ 64 → KeyLong key → (digest_of xs (keys_at + k * 64) (length key) ≡ digest_of key 0 (length key) → ⊥)
       → same_key (place_at xs k).key key ≡ false
-  other-digest key l s d = elim (ℕ_discrete (get_or xs k 0) (length key)) [
-    | yes e ↦ key_differs (place_at xs k).key key (λ q. d (digest_same xs (keys_at + k * 64) (length key) s.0 ∙ ap (λ (x : List ℕ). digest_of x 0 (length key)) (sym (key-of-place e s.1) ∙ q)))
+  other_digest key l s d = elim (ℕ_discrete (get_or xs k 0) (length key)) [
+    | yes e ↦ key_differs (place_at xs k).key key (λ q. d (digest_same xs (keys_at + k * 64) (length key) s.0 ∙ ap (λ (x : List ℕ). digest_of x 0 (length key)) (sym (key_of_place e s.1) ∙ q)))
     | no n ↦ other_length key l n
   ]

@@ -13,8 +13,8 @@ use Rattle.watch_list.specs.List.{Entry, Watch, listed, joining, joined, renewed
 use Rattle.watch_list.specs.Layout.{estimates_at, length_field, key_field, estimate_field, laid_out, encode, place_at, places_from, decode}
 use Rattle.watch_list.specs.Parts.{Holds, KeyLong, index_of, put, put_place, closed_place}
 use Rattle.watch_list.proofs.Lists.{each_append}
-use Rattle.watch_list.proofs.Columns.{Whole, AllWhole, laid_mark, laid-put, laid-renewed, laid-closed}
-use Rattle.watch_list.proofs.Places.{places_length, places_split, place-whole, places-whole, in-use-most, laid-places, encode_decode}
+use Rattle.watch_list.proofs.Columns.{Whole, AllWhole, laid_mark, laid_put, laid_renewed, laid_closed}
+use Rattle.watch_list.proofs.Places.{places_length, places_split, place_whole, places_whole, in_use_most, laid_places, encode_decode}
 
 -- a test by which a number was picked
 picked : (b : Bool) (n m : ℕ) → cond b 0 (suc n) ≡ suc m → (b ≡ false) × (n ≡ m)
@@ -30,42 +30,42 @@ pick_le true n m h = omega arith
 pick_le false n m h = omega arith
 
 module _ (key : List ℕ) where
-  pub index-le : (es : List Entry) → index_of key es ≤ length es
+  pub index_le : (es : List Entry) → index_of key es ≤ length es
   unfolding index_of
-  index-le [] = omega arith
-  index-le (e ∷ es) = pick_le (same_key e.key key) (index_of key es) (length es) (index-le es)
+  index_le [] = omega arith
+  index_le (e ∷ es) = pick_le (same_key e.key key) (index_of key es) (length es) (index_le es)
 
   -- a key that is not found
-  none-listed : (es : List Entry) → index_of key es ≡ length es → listed key es ≡ false
+  none_listed : (es : List Entry) → index_of key es ≡ length es → listed key es ≡ false
   unfolding index_of listed
-  none-listed [] e = refl
-  none-listed (e ∷ es) h =
+  none_listed [] e = refl
+  none_listed (e ∷ es) h =
       let p = picked (same_key e.key key) (index_of key es) (length es) h in
-      rw p.0 (none-listed es p.1)
+      rw p.0 (none_listed es p.1)
 
   -- a key found at an entry
   module _ (fs : List Entry) (here : Entry) where
-    found-listed : (es : List Entry) → index_of key (es ++ (here ∷ fs)) ≡ length es → listed key (es ++ (here ∷ fs)) ≡ true
+    found_listed : (es : List Entry) → index_of key (es ++ (here ∷ fs)) ≡ length es → listed key (es ++ (here ∷ fs)) ≡ true
     unfolding index_of listed
-    found-listed [] h = rw (found (same_key here.key key) (index_of key fs) h)
-    found-listed (e ∷ es) h =
+    found_listed [] h = rw (found (same_key here.key key) (index_of key fs) h)
+    found_listed (e ∷ es) h =
         let p = picked (same_key e.key key) (index_of key (es ++ (here ∷ fs))) (length es) h in
-        rw p.0 (found-listed es p.1)
+        rw p.0 (found_listed es p.1)
 
-    found-renewed : (estimate : ℕ) (es : List Entry) → index_of key (es ++ (here ∷ fs)) ≡ length es
+    found_renewed : (estimate : ℕ) (es : List Entry) → index_of key (es ++ (here ∷ fs)) ≡ length es
         → renewed key estimate (es ++ (here ∷ fs)) ≡ es ++ (record { key = here.key; unused = here.unused; estimate = estimate } ∷ fs)
     unfolding index_of renewed
-    found-renewed estimate [] h = rw (found (same_key here.key key) (index_of key fs) h)
-    found-renewed estimate (e ∷ es) h =
+    found_renewed estimate [] h = rw (found (same_key here.key key) (index_of key fs) h)
+    found_renewed estimate (e ∷ es) h =
         let p = picked (same_key e.key key) (index_of key (es ++ (here ∷ fs))) (length es) h in
-        rw p.0 (ap (λ (l : List Entry). e ∷ l) (found-renewed estimate es p.1))
+        rw p.0 (ap (λ (l : List Entry). e ∷ l) (found_renewed estimate es p.1))
 
-    found-without : (es : List Entry) → index_of key (es ++ (here ∷ fs)) ≡ length es → without key (es ++ (here ∷ fs)) ≡ es ++ fs
+    found_without : (es : List Entry) → index_of key (es ++ (here ∷ fs)) ≡ length es → without key (es ++ (here ∷ fs)) ≡ es ++ fs
     unfolding index_of without
-    found-without [] h = rw (found (same_key here.key key) (index_of key fs) h)
-    found-without (e ∷ es) h =
+    found_without [] h = rw (found (same_key here.key key) (index_of key fs) h)
+    found_without (e ∷ es) h =
         let p = picked (same_key e.key key) (index_of key (es ++ (here ∷ fs))) (length es) h in
-        rw p.0 (ap (λ (l : List Entry). e ∷ l) (found-without es p.1))
+        rw p.0 (ap (λ (l : List Entry). e ∷ l) (found_without es p.1))
 
 -- the places around place i, of n
 around : (xs : List ℕ) (n i : ℕ) → i < n → places_from xs n 0 ≡ places_from xs i 0 ++ (place_at xs i ∷ places_from xs (n - suc i) (suc i))
@@ -77,11 +77,11 @@ around xs n i h =
 
 module _ (xs : List ℕ) (n : ℕ) (holds : Holds xs n) (small : Bytes xs) (key : List ℕ) where
   most : n ≤ 64
-  most = omega (arith, holds.entries, in-use-most xs holds.long)
+  most = omega (arith, holds.entries, in_use_most xs holds.long)
 
-  is-list : decode xs ≡ record { mark = get_or xs 64 0; entries = places_from xs n 0; free = places_from xs (64 - n) n }
+  is_list : decode xs ≡ record { mark = get_or xs 64 0; entries = places_from xs n 0; free = places_from xs (64 - n) n }
   unfolding decode
-  is-list = rw (← holds.entries)
+  is_list = rw (← holds.entries)
 
   module _ (i : ℕ) (at : i ≡ index_of key (places_from xs n 0)) where
     abbrev mark : ℕ
@@ -104,8 +104,8 @@ module _ (xs : List ℕ) (n : ℕ) (holds : Holds xs n) (small : Bytes xs) (key 
       here : index_of key (es ++ (place_at xs i ∷ fs)) ≡ length es
       here = ap (index_of key) (sym (around xs n i h)) ∙ sym at ∙ sym (places_length xs i 0)
 
-      is-listed : listed key (places_from xs n 0) ≡ true
-      is-listed = ap (listed key) (around xs n i h) ∙ found-listed key fs (place_at xs i) es here
+      is_listed : listed key (places_from xs n 0) ≡ true
+      is_listed = ap (listed key) (around xs n i h) ∙ found_listed key fs (place_at xs i) es here
 
       after : fs ++ free ≡ places_from xs (64 - suc i) (suc i)
       after =
@@ -114,59 +114,59 @@ module _ (xs : List ℕ) (n : ℕ) (holds : Holds xs n) (small : Bytes xs) (key 
           sym (rw (e, f) at (places_split xs (n - suc i) (64 - n) (suc i)))
 
       -- the bytes are those of the places around it
-      whole-list : laid_out mark (es ++ (place_at xs i ∷ (fs ++ free))) ≡ xs
-      whole-list = rw (after, ← around xs 64 i (omega (arith, most))) (laid-places xs holds.long small holds.is_sound)
+      whole_list : laid_out mark (es ++ (place_at xs i ∷ (fs ++ free))) ≡ xs
+      whole_list = rw (after, ← around xs 64 i (omega (arith, most))) (laid_places xs holds.long small holds.is_sound)
 
-      es-whole : AllWhole es
-      es-whole = places-whole xs holds.long i 0 (omega (arith, most))
+      es_whole : AllWhole es
+      es_whole = places_whole xs holds.long i 0 (omega (arith, most))
 
-      fs-whole : AllWhole fs
-      fs-whole = places-whole xs holds.long (n - suc i) (suc i) (omega (arith, most))
+      fs_whole : AllWhole fs
+      fs_whole = places_whole xs holds.long (n - suc i) (suc i) (omega (arith, most))
 
-      free-whole : AllWhole free
-      free-whole = places-whole xs holds.long (64 - n) n (omega (arith, most))
+      free_whole : AllWhole free
+      free_whole = places_whole xs holds.long (64 - n) n (omega (arith, most))
 
-      here-whole : Whole (place_at xs i)
-      here-whole = place-whole xs holds.long i (omega (arith, most))
+      here_whole : Whole (place_at xs i)
+      here_whole = place_whole xs holds.long i (omega (arith, most))
 
-      pub renewed-is : (estimate threshold : ℕ) → encode (noted key estimate threshold (decode xs)) ≡ put xs (estimates_at + i * 8) (bytes 8 estimate)
+      pub renewed_is : (estimate threshold : ℕ) → encode (noted key estimate threshold (decode xs)) ≡ put xs (estimates_at + i * 8) (bytes 8 estimate)
       unfolding noted encode estimate_field length_field key_field
-      renewed-is estimate threshold =
+      renewed_is estimate threshold =
           let renews : renewed key estimate (places_from xs n 0) ≡ es ++ (new estimate ∷ fs) =
-          ap (renewed key estimate) (around xs n i h) ∙ found-renewed key fs (place_at xs i) estimate es here in
+          ap (renewed key estimate) (around xs n i h) ∙ found_renewed key fs (place_at xs i) estimate es here in
           let rest : i + suc (length (fs ++ free)) ≡ 64 = omega (arith, most, ap length after, places_length xs (64 - suc i) (suc i)) in
-          rw (is-list, is-listed, renews, append_assoc es (new estimate ∷ fs) free)
-          (laid-renewed mark es (fs ++ free) (place_at xs i) (new estimate) i es-whole (each_append Whole fs free fs-whole free-whole) here-whole here-whole (places_length xs i 0) rest refl refl
-          ∙ ap (λ (l : List ℕ). put l (estimates_at + i * 8) (bytes 8 estimate)) whole-list)
+          rw (is_list, is_listed, renews, append_assoc es (new estimate ∷ fs) free)
+          (laid_renewed mark es (fs ++ free) (place_at xs i) (new estimate) i es_whole (each_append Whole fs free fs_whole free_whole) here_whole here_whole (places_length xs i 0) rest refl refl
+          ∙ ap (λ (l : List ℕ). put l (estimates_at + i * 8) (bytes 8 estimate)) whole_list)
 
-      pub off-is : encode (taken_off key (decode xs)) ≡ closed_place xs i n
+      pub off_is : encode (taken_off key (decode xs)) ≡ closed_place xs i n
       unfolding taken_off encode
-      off-is =
-          let outs : without key (places_from xs n 0) ≡ es ++ fs = ap (without key) (around xs n i h) ∙ found-without key fs (place_at xs i) es here in
+      off_is =
+          let outs : without key (places_from xs n 0) ≡ es ++ fs = ap (without key) (around xs n i h) ∙ found_without key fs (place_at xs i) es here in
           let all : length es + suc (length fs) ≡ n = omega (arith, places_length xs i 0, places_length xs (n - suc i) (suc i)) in
-          rw (is-list, is-listed, outs)
-          (laid-closed mark es fs free (place_at xs i) i n es-whole fs-whole free-whole here-whole (places_length xs i 0) all (omega (arith, most, places_length xs (64 - n) n))
-          ∙ ap (λ (l : List ℕ). closed_place l i n) (ap (laid_out mark) (append_assoc es (place_at xs i ∷ fs) free) ∙ whole-list))
+          rw (is_list, is_listed, outs)
+          (laid_closed mark es fs free (place_at xs i) i n es_whole fs_whole free_whole here_whole (places_length xs i 0) all (omega (arith, most, places_length xs (64 - n) n))
+          ∙ ap (λ (l : List ℕ). closed_place l i n) (ap (laid_out mark) (append_assoc es (place_at xs i ∷ fs) free) ∙ whole_list))
 
     -- the key is found nowhere
     module _ (h : i ≡ n) where
       not_listed : listed key (decode xs).entries ≡ false
-      not_listed = ap (λ (w : Watch). listed key w.entries) is-list ∙ none-listed key (places_from xs n 0) (sym at ∙ h ∙ sym (places_length xs n 0))
+      not_listed = ap (λ (w : Watch). listed key w.entries) is_list ∙ none_listed key (places_from xs n 0) (sym at ∙ h ∙ sym (places_length xs n 0))
 
       pub below_is : (estimate threshold : ℕ) → estimate < threshold → encode (noted key estimate threshold (decode xs)) ≡ xs
       unfolding noted
       below_is estimate threshold l = rw (not_listed, lt-leb threshold estimate l) (encode_decode xs holds.long small holds.is_sound)
 
-      pub off-none-is : encode (taken_off key (decode xs)) ≡ xs
+      pub off_none_is : encode (taken_off key (decode xs)) ≡ xs
       unfolding taken_off
-      off-none-is = rw not_listed (encode_decode xs holds.long small holds.is_sound)
+      off_none_is = rw not_listed (encode_decode xs holds.long small holds.is_sound)
 
       pub full_is : (estimate threshold : ℕ) → threshold ≤ estimate → n ≡ 64 → encode (noted key estimate threshold (decode xs)) ≡ set xs 64 1
       unfolding noted encode joined places_from
       full_is estimate threshold l f =
-          rw (not_listed, le-leb threshold estimate l, is-list, f, append-nil (places_from xs 64 0))
-          (laid_mark mark 1 (places_from xs 64 0) (places-whole xs holds.long 64 0 (omega arith)) (places_length xs 64 0)
-          ∙ ap (λ (l : List ℕ). set l 64 1) (laid-places xs holds.long small holds.is_sound))
+          rw (not_listed, le-leb threshold estimate l, is_list, f, append-nil (places_from xs 64 0))
+          (laid_mark mark 1 (places_from xs 64 0) (places_whole xs holds.long 64 0 (omega arith)) (places_length xs 64 0)
+          ∙ ap (λ (l : List ℕ). set l 64 1) (laid_places xs holds.long small holds.is_sound))
 
       pub joined_is : (estimate threshold : ℕ) → threshold ≤ estimate → n < 64 → KeyLong key → encode (noted key estimate threshold (decode xs)) ≡ put_place xs n (joining key estimate)
       unfolding noted encode joined places_from
@@ -174,7 +174,7 @@ module _ (xs : List ℕ) (n : ℕ) (holds : Holds xs n) (small : Bytes xs) (key 
           let rest = places_from xs (64 - suc n) (suc n) in
           let e : 64 - n ≡ suc (64 - suc n) = omega arith in
           let new-whole : Whole (joining key estimate) = omega (arith, length-append key (replicate (64 - length key) 0), length-replicate {A = ℕ} (64 - length key) 0, k) in
-          rw (not_listed, le-leb threshold estimate l, is-list, e, append_assoc (places_from xs n 0) (joining key estimate ∷ []) rest)
-          (laid-put mark (places_from xs n 0) rest (place_at xs n) (joining key estimate) n (places-whole xs holds.long n 0 (omega arith)) (places-whole xs holds.long (64 - suc n) (suc n) (omega arith))
-          (place-whole xs holds.long n f) new-whole (places_length xs n 0) (omega (arith, places_length xs (64 - suc n) (suc n)))
-          ∙ ap (λ (l : List ℕ). put_place l n (joining key estimate)) (ap (laid_out mark) (sym (around xs 64 n f)) ∙ laid-places xs holds.long small holds.is_sound))
+          rw (not_listed, le-leb threshold estimate l, is_list, e, append_assoc (places_from xs n 0) (joining key estimate ∷ []) rest)
+          (laid_put mark (places_from xs n 0) rest (place_at xs n) (joining key estimate) n (places_whole xs holds.long n 0 (omega arith)) (places_whole xs holds.long (64 - suc n) (suc n) (omega arith))
+          (place_whole xs holds.long n f) new-whole (places_length xs n 0) (omega (arith, places_length xs (64 - suc n) (suc n)))
+          ∙ ap (λ (l : List ℕ). put_place l n (joining key estimate)) (ap (laid_out mark) (sym (around xs 64 n f)) ∙ laid_places xs holds.long small holds.is_sound))

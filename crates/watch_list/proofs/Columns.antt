@@ -11,7 +11,7 @@ use Rattle.little_endian.proofs.Bytes.{bytes_length}
 use Rattle.watch_list.specs.List.{Entry, clear_place}
 use Rattle.watch_list.specs.Layout.{keys_at, estimates_at, length_field, key_field, estimate_field, column, laid_out}
 use Rattle.watch_list.specs.Parts.{put, closed, put_place, closed_place}
-use Rattle.watch_list.proofs.Lists.{Each, each_append, each_is, Wide, column-length}
+use Rattle.watch_list.proofs.Lists.{Each, each_append, each_is, Wide, column_length}
 
 -- bytes put in place of those from `at` to `end`
 unfoldable instead : List ℕ → ℕ → ℕ → List ℕ → List ℕ
@@ -74,39 +74,39 @@ AllWhole es = Each Whole es
 
 -- a column of fields of `width` bytes
 module _ (field : Entry → List ℕ) (width : ℕ) (wide : (e : Entry) → Whole e → length (field e) ≡ width) where
-  pub column-append : (es fs : List Entry) → column field (es ++ fs) ≡ column field es ++ column field fs
+  pub column_append : (es fs : List Entry) → column field (es ++ fs) ≡ column field es ++ column field fs
   unfolding column
-  column-append [] fs = refl
-  column-append (e ∷ es) fs = rw (column-append es fs) (sym (append_assoc (field e) (column field es) (column field fs)))
+  column_append [] fs = refl
+  column_append (e ∷ es) fs = rw (column_append es fs) (sym (append_assoc (field e) (column field es) (column field fs)))
 
   whole_length : (es : List Entry) → AllWhole es → length (column field es) ≡ length es * width
-  whole_length es h = column-length field width es (each_is Whole (Wide field width) wide es h)
+  whole_length es h = column_length field width es (each_is Whole (Wide field width) wide es h)
 
   -- an entry with the same field
-  column-same : (es fs : List Entry) (old new : Entry) → field new ≡ field old → column field (es ++ (new ∷ fs)) ≡ column field (es ++ (old ∷ fs))
+  column_same : (es fs : List Entry) (old new : Entry) → field new ≡ field old → column field (es ++ (new ∷ fs)) ≡ column field (es ++ (old ∷ fs))
   unfolding column
-  column-same es fs old new e = rw (column-append es (new ∷ fs), column-append es (old ∷ fs), e)
+  column_same es fs old new e = rw (column_append es (new ∷ fs), column_append es (old ∷ fs), e)
 
   -- another entry at place i
-  column-put : (es fs : List Entry) (old new : Entry) (i : ℕ) → AllWhole es → Whole old → Whole new → length es ≡ i
+  column_put : (es fs : List Entry) (old new : Entry) (i : ℕ) → AllWhole es → Whole old → Whole new → length es ≡ i
       → column field (es ++ (new ∷ fs)) ≡ put (column field (es ++ (old ∷ fs))) (i * width) (field new)
   unfolding column put
-  column-put es fs old new i w o n e =
+  column_put es fs old new i w o n e =
       let front : length (column field es) ≡ i * width = whole_length es w ∙ ap (λ (k : ℕ). k * width) e in
       let past : i * width + length (field new) ≡ length (column field es ++ field old) = omega (arith, length-append (column field es) (field old), wide old o, wide new n, front) in
-      rw (column-append es (new ∷ fs), column-append es (old ∷ fs), past, take_at (column field es) (field old ++ column field fs) (i * width) front, ← append_assoc (column field es) (field old) (column field fs), drop_at (column field es ++ field old) (column field fs) (length (column field es ++ field old)) refl)
+      rw (column_append es (new ∷ fs), column_append es (old ∷ fs), past, take_at (column field es) (field old ++ column field fs) (i * width) front, ← append_assoc (column field es) (field old) (column field fs), drop_at (column field es ++ field old) (column field fs) (length (column field es ++ field old)) refl)
       (sym (append_assoc (column field es) (field new) (column field fs)))
 
   -- place i of n taken out, with zeros in the last
-  pub column-closed : (es fs gs : List Entry) (old zeros : Entry) (i n : ℕ) → AllWhole es → AllWhole fs → Whole old → length es ≡ i → length es + suc (length fs) ≡ n
+  pub column_closed : (es fs gs : List Entry) (old zeros : Entry) (i n : ℕ) → AllWhole es → AllWhole fs → Whole old → length es ≡ i → length es + suc (length fs) ≡ n
       → field zeros ≡ replicate width 0
       → column field (es ++ fs ++ (zeros ∷ gs)) ≡ closed (column field (es ++ (old ∷ fs) ++ gs)) (i * width) (n * width) width
   unfolding column closed
-  column-closed es fs gs old zeros i n w v o e k z =
+  column_closed es fs gs old zeros i n w v o e k z =
       let front : length (column field es) ≡ i * width = whole_length es w ∙ ap (λ (k : ℕ). k * width) e in
       let all : length (column field es) + (length (field old) + length (column field fs)) ≡ n * width =
       omega (arith, wide old o, whole_length es w, whole_length fs v, add-mul (length es) (suc (length fs)) width, suc-mul (length fs) width, ap (λ (k : ℕ). k * width) k) in
-      rw (column-append (es ++ fs) (zeros ∷ gs), column-append es fs, column-append (es ++ (old ∷ fs)) gs, column-append es (old ∷ fs), z)
+      rw (column_append (es ++ fs) (zeros ∷ gs), column_append es fs, column_append (es ++ (old ∷ fs)) gs, column_append es (old ∷ fs), z)
       (sym (append_assoc (column field es ++ column field fs) (replicate width 0) (column field gs))
       ∙ sym (closed_part (column field es) (field old) (column field fs) (column field gs) (i * width) (n * width) width front (wide old o) all))
 
@@ -127,42 +127,42 @@ abbrev columns : List ℕ → ℕ → List ℕ → List ℕ → List ℕ
 columns lengths mark keys estimates = lengths ++ (mark ∷ []) ++ keys ++ estimates
 
 module _ (lengths : List ℕ) (mark : ℕ) (keys estimates : List ℕ) (a : length lengths ≡ 64) (b : length keys ≡ 4096) where
-  head-long : length (lengths ++ (mark ∷ [])) ≡ 65
-  head-long = omega (arith, length-append lengths (mark ∷ []))
+  head_long : length (lengths ++ (mark ∷ [])) ≡ 65
+  head_long = omega (arith, length-append lengths (mark ∷ []))
 
   front_long : length (lengths ++ (mark ∷ []) ++ keys) ≡ 4161
-  front_long = omega (arith, head-long, length-append (lengths ++ (mark ∷ [])) keys)
+  front_long = omega (arith, head_long, length-append (lengths ++ (mark ∷ [])) keys)
 
   -- a change in one of them
   module _ (change : ℕ → ℕ → List ℕ → List ℕ) (left : Left change) (right : Right change) where
-    in-lengths : (at end : ℕ) → at ≤ end → end ≤ 64 → change at end (columns lengths mark keys estimates) ≡ columns (change at end lengths) mark keys estimates
-    in-lengths at end h k =
+    in_lengths : (at end : ℕ) → at ≤ end → end ≤ 64 → change at end (columns lengths mark keys estimates) ≡ columns (change at end lengths) mark keys estimates
+    in_lengths at end h k =
         left (lengths ++ (mark ∷ []) ++ keys) estimates at end h (omega (arith, front_long))
-        ∙ ap (λ (l : List ℕ). l ++ estimates) (left (lengths ++ (mark ∷ [])) keys at end h (omega (arith, head-long)) ∙ ap (λ (l : List ℕ). l ++ keys) (left lengths (mark ∷ []) at end h (omega arith)))
+        ∙ ap (λ (l : List ℕ). l ++ estimates) (left (lengths ++ (mark ∷ [])) keys at end h (omega (arith, head_long)) ∙ ap (λ (l : List ℕ). l ++ keys) (left lengths (mark ∷ []) at end h (omega arith)))
 
-    in-keys : (at end : ℕ) → at ≤ end → end ≤ 4096 → change (keys_at + at) (keys_at + end) (columns lengths mark keys estimates) ≡ columns lengths mark (change at end keys) estimates
-    in-keys at end h k =
+    in_keys : (at end : ℕ) → at ≤ end → end ≤ 4096 → change (keys_at + at) (keys_at + end) (columns lengths mark keys estimates) ≡ columns lengths mark (change at end keys) estimates
+    in_keys at end h k =
         left (lengths ++ (mark ∷ []) ++ keys) estimates (keys_at + at) (keys_at + end) (omega arith) (omega (arith, front_long))
-        ∙ ap (λ (l : List ℕ). l ++ estimates) (right (lengths ++ (mark ∷ [])) keys 65 at end head-long)
+        ∙ ap (λ (l : List ℕ). l ++ estimates) (right (lengths ++ (mark ∷ [])) keys 65 at end head_long)
 
-    in-estimates : (at end : ℕ) → change (estimates_at + at) (estimates_at + end) (columns lengths mark keys estimates) ≡ columns lengths mark keys (change at end estimates)
-    in-estimates at end = right (lengths ++ (mark ∷ []) ++ keys) estimates 4161 at end front_long
+    in_estimates : (at end : ℕ) → change (estimates_at + at) (estimates_at + end) (columns lengths mark keys estimates) ≡ columns lengths mark keys (change at end estimates)
+    in_estimates at end = right (lengths ++ (mark ∷ []) ++ keys) estimates 4161 at end front_long
 
-  put-lengths : (at : ℕ) (zs : List ℕ) → at + length zs ≤ 64 → put (columns lengths mark keys estimates) at zs ≡ columns (put lengths at zs) mark keys estimates
+  put_lengths : (at : ℕ) (zs : List ℕ) → at + length zs ≤ 64 → put (columns lengths mark keys estimates) at zs ≡ columns (put lengths at zs) mark keys estimates
   unfolding put instead
-  put-lengths at zs h = in-lengths (instead zs) (instead_left zs) (instead_right zs) at (at + length zs) (omega arith) h
+  put_lengths at zs h = in_lengths (instead zs) (instead_left zs) (instead_right zs) at (at + length zs) (omega arith) h
 
-  put-keys : (at : ℕ) (zs : List ℕ) → at + length zs ≤ 4096 → put (columns lengths mark keys estimates) (keys_at + at) zs ≡ columns lengths mark (put keys at zs) estimates
+  put_keys : (at : ℕ) (zs : List ℕ) → at + length zs ≤ 4096 → put (columns lengths mark keys estimates) (keys_at + at) zs ≡ columns lengths mark (put keys at zs) estimates
   unfolding put instead
-  put-keys at zs h =
+  put_keys at zs h =
       let e : keys_at + at + length zs ≡ keys_at + (at + length zs) = omega arith in
-      rw e (in-keys (instead zs) (instead_left zs) (instead_right zs) at (at + length zs) (omega arith) h)
+      rw e (in_keys (instead zs) (instead_left zs) (instead_right zs) at (at + length zs) (omega arith) h)
 
-  put-estimates : (at : ℕ) (zs : List ℕ) → put (columns lengths mark keys estimates) (estimates_at + at) zs ≡ columns lengths mark keys (put estimates at zs)
+  put_estimates : (at : ℕ) (zs : List ℕ) → put (columns lengths mark keys estimates) (estimates_at + at) zs ≡ columns lengths mark keys (put estimates at zs)
   unfolding put instead
-  put-estimates at zs =
+  put_estimates at zs =
       let e : estimates_at + at + length zs ≡ estimates_at + (at + length zs) = omega arith in
-      rw e (in-estimates (instead zs) (instead_left zs) (instead_right zs) at (at + length zs))
+      rw e (in_estimates (instead zs) (instead_left zs) (instead_right zs) at (at + length zs))
 
 -- the columns of a list of 64 places
 abbrev lengths_of : List Entry → List ℕ
@@ -195,52 +195,52 @@ module _ (mark : ℕ) (es fs : List Entry) (old new : Entry) (i : ℕ) (w : AllW
   after : List Entry
   after = es ++ (new ∷ fs)
 
-  before-whole : AllWhole before
+  before_whole : AllWhole before
   unfolding before Each
-  before-whole = each_append Whole es (old ∷ fs) w (o, v)
+  before_whole = each_append Whole es (old ∷ fs) w (o, v)
 
-  after-whole : AllWhole after
+  after_whole : AllWhole after
   unfolding after Each
-  after-whole = each_append Whole es (new ∷ fs) w (n, v)
+  after_whole = each_append Whole es (new ∷ fs) w (n, v)
 
-  before-long : length before ≡ 64
+  before_long : length before ≡ 64
   unfolding before
-  before-long = omega (arith, length-append es (old ∷ fs))
+  before_long = omega (arith, length-append es (old ∷ fs))
 
-  after-long : length after ≡ 64
+  after_long : length after ≡ 64
   unfolding after
-  after-long = omega (arith, length-append es (new ∷ fs))
+  after_long = omega (arith, length-append es (new ∷ fs))
 
-  at-estimate : put (columns (lengths_of after) mark (keys_of after) (estimates_of before)) (estimates_at + i * 8) (estimate_field new) ≡ laid_out mark after
+  at_estimate : put (columns (lengths_of after) mark (keys_of after) (estimates_of before)) (estimates_at + i * 8) (estimate_field new) ≡ laid_out mark after
   unfolding before after laid_out
-  at-estimate =
-      put-estimates (lengths_of after) mark (keys_of after) (estimates_of before) (lengths_long after after-whole after-long) (keys_long after after-whole after-long) (i * 8) (estimate_field new)
-      ∙ ap (columns (lengths_of after) mark (keys_of after)) (sym (column-put estimate_field 8 estimate_wide es fs old new i w o n e))
+  at_estimate =
+      put_estimates (lengths_of after) mark (keys_of after) (estimates_of before) (lengths_long after after_whole after_long) (keys_long after after_whole after_long) (i * 8) (estimate_field new)
+      ∙ ap (columns (lengths_of after) mark (keys_of after)) (sym (column_put estimate_field 8 estimate_wide es fs old new i w o n e))
 
   at_key : put (columns (lengths_of after) mark (keys_of before) (estimates_of before)) (keys_at + i * 64) (key_field new) ≡ columns (lengths_of after) mark (keys_of after) (estimates_of before)
   unfolding before after
   at_key =
-      put-keys (lengths_of after) mark (keys_of before) (estimates_of before) (lengths_long after after-whole after-long) (keys_long before before-whole before-long) (i * 64) (key_field new) (omega (arith, key_wide new n))
-      ∙ ap (λ (l : List ℕ). columns (lengths_of after) mark l (estimates_of before)) (sym (column-put key_field 64 key_wide es fs old new i w o n e))
+      put_keys (lengths_of after) mark (keys_of before) (estimates_of before) (lengths_long after after_whole after_long) (keys_long before before_whole before_long) (i * 64) (key_field new) (omega (arith, key_wide new n))
+      ∙ ap (λ (l : List ℕ). columns (lengths_of after) mark l (estimates_of before)) (sym (column_put key_field 64 key_wide es fs old new i w o n e))
 
   at_length : put (laid_out mark before) i (length_field new) ≡ columns (lengths_of after) mark (keys_of before) (estimates_of before)
   unfolding before after laid_out
   at_length =
       let one : i * 1 ≡ i = omega arith in
-      put-lengths (lengths_of before) mark (keys_of before) (estimates_of before) (lengths_long before before-whole before-long) (keys_long before before-whole before-long) i (length_field new) (omega (arith, length_wide new n))
-      ∙ ap (λ (l : List ℕ). columns l mark (keys_of before) (estimates_of before)) (sym (rw one at (column-put length_field 1 length_wide es fs old new i w o n e)))
+      put_lengths (lengths_of before) mark (keys_of before) (estimates_of before) (lengths_long before before_whole before_long) (keys_long before before_whole before_long) i (length_field new) (omega (arith, length_wide new n))
+      ∙ ap (λ (l : List ℕ). columns l mark (keys_of before) (estimates_of before)) (sym (rw one at (column_put length_field 1 length_wide es fs old new i w o n e)))
 
-  pub laid-put : laid_out mark (es ++ (new ∷ fs)) ≡ put_place (laid_out mark (es ++ (old ∷ fs))) i new
+  pub laid_put : laid_out mark (es ++ (new ∷ fs)) ≡ put_place (laid_out mark (es ++ (old ∷ fs))) i new
   unfolding put_place before after
-  laid-put = sym (rw (at_length, at_key) at-estimate)
+  laid_put = sym (rw (at_length, at_key) at_estimate)
 
   -- where only the estimate is another
-  pub laid-renewed : length_field new ≡ length_field old → key_field new ≡ key_field old
+  pub laid_renewed : length_field new ≡ length_field old → key_field new ≡ key_field old
       → laid_out mark (es ++ (new ∷ fs)) ≡ put (laid_out mark (es ++ (old ∷ fs))) (estimates_at + i * 8) (estimate_field new)
   unfolding before after laid_out
-  laid-renewed p q =
+  laid_renewed p q =
       sym (ap₂ (λ (l k : List ℕ). put (columns l mark k (estimates_of before)) (estimates_at + i * 8) (estimate_field new))
-      (sym (column-same length_field 1 length_wide es fs old new p)) (sym (column-same key_field 64 key_wide es fs old new q)) ∙ at-estimate)
+      (sym (column_same length_field 1 length_wide es fs old new p)) (sym (column_same key_field 64 key_wide es fs old new q)) ∙ at_estimate)
 
 -- laid out, place i of n taken out and a free one, all 0, after those in use
 module _ (mark : ℕ) (es fs gs : List Entry) (old : Entry) (i n : ℕ) (w : AllWhole es) (v : AllWhole fs) (u : AllWhole gs) (o : Whole old) (e : length es ≡ i) (k : length es + suc (length fs) ≡ n) (all : n + length gs ≡ 64) where
@@ -250,54 +250,54 @@ module _ (mark : ℕ) (es fs gs : List Entry) (old : Entry) (i n : ℕ) (w : All
   out : List Entry
   out = es ++ fs ++ (clear_place ∷ gs)
 
-  full-whole : AllWhole full
+  full_whole : AllWhole full
   unfolding full Each
-  full-whole = each_append Whole (es ++ (old ∷ fs)) gs (each_append Whole es (old ∷ fs) w (o, v)) u
+  full_whole = each_append Whole (es ++ (old ∷ fs)) gs (each_append Whole es (old ∷ fs) w (o, v)) u
 
-  out-whole : AllWhole out
+  out_whole : AllWhole out
   unfolding out Each
-  out-whole = each_append Whole (es ++ fs) (clear_place ∷ gs) (each_append Whole es fs w v) (refl, u)
+  out_whole = each_append Whole (es ++ fs) (clear_place ∷ gs) (each_append Whole es fs w v) (refl, u)
 
-  full-long : length full ≡ 64
+  full_long : length full ≡ 64
   unfolding full
-  full-long = omega (arith, length-append (es ++ (old ∷ fs)) gs, length-append es (old ∷ fs))
+  full_long = omega (arith, length-append (es ++ (old ∷ fs)) gs, length-append es (old ∷ fs))
 
-  out-long : length out ≡ 64
+  out_long : length out ≡ 64
   unfolding out
-  out-long = omega (arith, length-append (es ++ fs) (clear_place ∷ gs), length-append es fs)
+  out_long = omega (arith, length-append (es ++ fs) (clear_place ∷ gs), length-append es fs)
 
-  clear-length : length_field clear_place ≡ replicate 1 0
+  clear_length : length_field clear_place ≡ replicate 1 0
   unfolding length_field
-  clear-length = refl
+  clear_length = refl
 
-  clear-key : key_field clear_place ≡ replicate 64 0
+  clear_key : key_field clear_place ≡ replicate 64 0
   unfolding key_field
-  clear-key = refl
+  clear_key = refl
 
-  clear-estimate : estimate_field clear_place ≡ replicate 8 0
+  clear_estimate : estimate_field clear_place ≡ replicate 8 0
   unfolding estimate_field bytes
-  clear-estimate = refl
+  clear_estimate = refl
 
-  no-estimate : closed (columns (lengths_of out) mark (keys_of out) (estimates_of full)) (estimates_at + i * 8) (estimates_at + n * 8) 8 ≡ laid_out mark out
+  no_estimate : closed (columns (lengths_of out) mark (keys_of out) (estimates_of full)) (estimates_at + i * 8) (estimates_at + n * 8) 8 ≡ laid_out mark out
   unfolding full out laid_out
-  no-estimate =
-      in-estimates (lengths_of out) mark (keys_of out) (estimates_of full) (lengths_long out out-whole out-long) (keys_long out out-whole out-long) (closing 8) (closed_left 8) (closed_right 8) (i * 8) (n * 8)
-      ∙ ap (columns (lengths_of out) mark (keys_of out)) (sym (column-closed estimate_field 8 estimate_wide es fs gs old clear_place i n w v o e k clear-estimate))
+  no_estimate =
+      in_estimates (lengths_of out) mark (keys_of out) (estimates_of full) (lengths_long out out_whole out_long) (keys_long out out_whole out_long) (closing 8) (closed_left 8) (closed_right 8) (i * 8) (n * 8)
+      ∙ ap (columns (lengths_of out) mark (keys_of out)) (sym (column_closed estimate_field 8 estimate_wide es fs gs old clear_place i n w v o e k clear_estimate))
 
   no_key : closed (columns (lengths_of out) mark (keys_of full) (estimates_of full)) (keys_at + i * 64) (keys_at + n * 64) 64 ≡ columns (lengths_of out) mark (keys_of out) (estimates_of full)
   unfolding full out
   no_key =
-      in-keys (lengths_of out) mark (keys_of full) (estimates_of full) (lengths_long out out-whole out-long) (keys_long full full-whole full-long) (closing 64) (closed_left 64) (closed_right 64) (i * 64) (n * 64) (omega arith) (omega arith)
-      ∙ ap (λ (l : List ℕ). columns (lengths_of out) mark l (estimates_of full)) (sym (column-closed key_field 64 key_wide es fs gs old clear_place i n w v o e k clear-key))
+      in_keys (lengths_of out) mark (keys_of full) (estimates_of full) (lengths_long out out_whole out_long) (keys_long full full_whole full_long) (closing 64) (closed_left 64) (closed_right 64) (i * 64) (n * 64) (omega arith) (omega arith)
+      ∙ ap (λ (l : List ℕ). columns (lengths_of out) mark l (estimates_of full)) (sym (column_closed key_field 64 key_wide es fs gs old clear_place i n w v o e k clear_key))
 
   no_length : closed (laid_out mark full) i n 1 ≡ columns (lengths_of out) mark (keys_of full) (estimates_of full)
   unfolding full out laid_out
   no_length =
       let one : i * 1 ≡ i = omega arith in
       let most : n * 1 ≡ n = omega arith in
-      in-lengths (lengths_of full) mark (keys_of full) (estimates_of full) (lengths_long full full-whole full-long) (keys_long full full-whole full-long) (closing 1) (closed_left 1) (closed_right 1) i n (omega arith) (omega arith)
-      ∙ ap (λ (l : List ℕ). columns l mark (keys_of full) (estimates_of full)) (sym (rw (one, most) at (column-closed length_field 1 length_wide es fs gs old clear_place i n w v o e k clear-length)))
+      in_lengths (lengths_of full) mark (keys_of full) (estimates_of full) (lengths_long full full_whole full_long) (keys_long full full_whole full_long) (closing 1) (closed_left 1) (closed_right 1) i n (omega arith) (omega arith)
+      ∙ ap (λ (l : List ℕ). columns l mark (keys_of full) (estimates_of full)) (sym (rw (one, most) at (column_closed length_field 1 length_wide es fs gs old clear_place i n w v o e k clear_length)))
 
-  pub laid-closed : laid_out mark (es ++ fs ++ (clear_place ∷ gs)) ≡ closed_place (laid_out mark (es ++ (old ∷ fs) ++ gs)) i n
+  pub laid_closed : laid_out mark (es ++ fs ++ (clear_place ∷ gs)) ≡ closed_place (laid_out mark (es ++ (old ∷ fs) ++ gs)) i n
   unfolding closed_place full out
-  laid-closed = sym (rw (no_length, no_key) no-estimate)
+  laid_closed = sym (rw (no_length, no_key) no_estimate)

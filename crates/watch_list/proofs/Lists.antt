@@ -58,24 +58,24 @@ by_test false P f g = g refl
 
 -- Renewing changes the first entry that has the key, and leaves the keys.
 module _ (key : List ℕ) (estimate : ℕ) where
-  pub renewed-cases : (e : Entry) (es : List Entry) (P : List Entry → Type 0)
+  pub renewed_cases : (e : Entry) (es : List Entry) (P : List Entry → Type 0)
       → (same_key e.key key ≡ true → P (record { key = e.key; unused = e.unused; estimate = estimate } ∷ es))
       → (same_key e.key key ≡ false → P (e ∷ renewed key estimate es))
       → P (renewed key estimate (e ∷ es))
   unfolding renewed
-  renewed-cases e es P =
+  renewed_cases e es P =
       by_test (same_key e.key key) (λ b. P (cond b (record { key = e.key; unused = e.unused; estimate = estimate } ∷ es) (e ∷ renewed key estimate es)))
 
-  pub renewed-keys : (es : List Entry) → keys_of (renewed key estimate es) ≡ keys_of es
+  pub renewed_keys : (es : List Entry) → keys_of (renewed key estimate es) ≡ keys_of es
   unfolding renewed
-  renewed-keys [] = refl
-  renewed-keys (e ∷ es) = renewed-cases e es (λ now. keys_of now ≡ e.key ∷ keys_of es) (λ p. refl) (λ p. ap (λ (ks : List (List ℕ)). e.key ∷ ks) (renewed-keys es))
+  renewed_keys [] = refl
+  renewed_keys (e ∷ es) = renewed_cases e es (λ now. keys_of now ≡ e.key ∷ keys_of es) (λ p. refl) (λ p. ap (λ (ks : List (List ℕ)). e.key ∷ ks) (renewed_keys es))
 
-  pub renewed-each : (P : Entry → Type 0) → ((e : Entry) → P e → P (record { key = e.key; unused = e.unused; estimate = estimate }))
+  pub renewed_each : (P : Entry → Type 0) → ((e : Entry) → P e → P (record { key = e.key; unused = e.unused; estimate = estimate }))
       → (es : List Entry) → Each P es → Each P (renewed key estimate es)
   unfolding renewed Each
-  renewed-each P f [] h = tt
-  renewed-each P f (e ∷ es) h = renewed-cases e es (Each P) (λ p. (f e h.0, h.1)) (λ p. (h.0, renewed-each P f es h.1))
+  renewed_each P f [] h = tt
+  renewed_each P f (e ∷ es) h = renewed_cases e es (Each P) (λ p. (f e h.0, h.1)) (λ p. (h.0, renewed_each P f es h.1))
 
 -- what is listed, by the keys alone
 pub listed_keys : (key : List ℕ) (es fs : List Entry) → keys_of es ≡ keys_of fs → listed key es ≡ listed key fs
@@ -90,42 +90,42 @@ listed_keys key (e ∷ es) (f ∷ fs) p =
 
 -- Taking off drops the first entry that has the key, and leaves the others.
 module _ (key : List ℕ) where
-  pub without-cases : (e : Entry) (es : List Entry) (P : List Entry → Type 0)
+  pub without_cases : (e : Entry) (es : List Entry) (P : List Entry → Type 0)
       → (same_key e.key key ≡ true → P es) → (same_key e.key key ≡ false → P (e ∷ without key es)) → P (without key (e ∷ es))
   unfolding without
-  without-cases e es P = by_test (same_key e.key key) (λ b. P (cond b es (e ∷ without key es)))
+  without_cases e es P = by_test (same_key e.key key) (λ b. P (cond b es (e ∷ without key es)))
 
-  pub without-each : (P : Entry → Type 0) (es : List Entry) → Each P es → Each P (without key es)
+  pub without_each : (P : Entry → Type 0) (es : List Entry) → Each P es → Each P (without key es)
   unfolding without Each
-  without-each P [] h = tt
-  without-each P (e ∷ es) h = without-cases e es (Each P) (λ p. h.1) (λ p. (h.0, without-each P es h.1))
+  without_each P [] h = tt
+  without_each P (e ∷ es) h = without_cases e es (Each P) (λ p. h.1) (λ p. (h.0, without_each P es h.1))
 
-  pub without-length : (es : List Entry) → listed key es ≡ true → suc (length (without key es)) ≡ length es
+  pub without_length : (es : List Entry) → listed key es ≡ true → suc (length (without key es)) ≡ length es
   unfolding without listed
-  without-length [] l = absurd (true≢false (sym l))
-  without-length (e ∷ es) l =
-      without-cases e es (λ now. suc (length now) ≡ suc (length es)) (λ p. refl) (λ p. ap suc (without-length es (rw p at l)))
+  without_length [] l = absurd (true≢false (sym l))
+  without_length (e ∷ es) l =
+      without_cases e es (λ now. suc (length now) ≡ suc (length es)) (λ p. refl) (λ p. ap suc (without_length es (rw p at l)))
 
   -- another key is listed as before
   pub without_other : (other : List ℕ) → same_key key other ≡ false → (es : List Entry) → listed other (without key es) ≡ listed other es
   unfolding without listed
   without_other other n [] = refl
   without_other other n (e ∷ es) =
-      without-cases e es (λ now. listed other now ≡ (same_key e.key other || listed other es)) (λ p. rw (same_key_lem e.key key p, n)) (λ p. rw (without_other other n es))
+      without_cases e es (λ now. listed other now ≡ (same_key e.key other || listed other es)) (λ p. rw (same_key_lem e.key key p, n)) (λ p. rw (without_other other n es))
 
 -- a column from its i-th field on, and its i-th field, whatever comes before and after the column
 module _ (f : Entry → List ℕ) (m : ℕ) where
   abbrev pub Wide : Entry → Type 0
   Wide e = length (f e) ≡ m
 
-  column-drop : (ps : List Entry) (rest : List ℕ) (i : ℕ) → Each Wide ps → i ≤ length ps → drop (i * m) (column f ps ++ rest) ≡ column f (drop i ps) ++ rest
+  column_drop : (ps : List Entry) (rest : List ℕ) (i : ℕ) → Each Wide ps → i ≤ length ps → drop (i * m) (column f ps ++ rest) ≡ column f (drop i ps) ++ rest
   unfolding column Each
-  column-drop ps rest zero h l = let z : zero * m ≡ 0 = omega arith in rw z
-  column-drop [] rest (suc i) h l = absurd (omega arith)
-  column-drop (e ∷ ps) rest (suc i) h l =
+  column_drop ps rest zero h l = let z : zero * m ≡ 0 = omega arith in rw z
+  column_drop [] rest (suc i) h l = absurd (omega arith)
+  column_drop (e ∷ ps) rest (suc i) h l =
       let s : suc i * m ≡ m + i * m = omega (arith, suc-mul i m) in
       rw (s, append_assoc (f e) (column f ps) rest, ← drop-drop (i * m) m (f e ++ (column f ps ++ rest)), drop_at (f e) (column f ps ++ rest) m h.0)
-      (column-drop ps rest i h.1 (omega arith))
+      (column_drop ps rest i h.1 (omega arith))
 
   field_at : (ps : List Entry) (before rest : List ℕ) (start i : ℕ) (z : Entry) → Each Wide ps → length before ≡ start → i < length ps
       → take m (drop (start + i * m) (before ++ (column f ps ++ rest))) ≡ f (get_or ps i z)
@@ -135,16 +135,16 @@ module _ (f : Entry → List ℕ) (m : ℕ) where
       rw (
         ← drop-drop (i * m) start (before ++ (column f ps ++ rest)),
         drop_at before (column f ps ++ rest) start e,
-        column-drop ps rest i h (omega arith),
+        column_drop ps rest i h (omega arith),
         drop-cons ps i z l,
         append_assoc (f (get_or ps i z)) (column f (drop (suc i) ps)) rest,
       )
       (take_at (f (get_or ps i z)) (column f (drop (suc i) ps) ++ rest) m w)
 
-  pub column-length : (ps : List Entry) → Each Wide ps → length (column f ps) ≡ length ps * m
+  pub column_length : (ps : List Entry) → Each Wide ps → length (column f ps) ≡ length ps * m
   unfolding column Each
-  column-length [] h = omega arith
-  column-length (e ∷ ps) h = length-append (f e) (column f ps) ∙ omega (arith, h.0, column-length ps h.1, suc-mul (length ps) m)
+  column_length [] h = omega arith
+  column_length (e ∷ ps) h = length-append (f e) (column f ps) ∙ omega (arith, h.0, column_length ps h.1, suc-mul (length ps) m)
 
 -- a place that fits its bytes
 pub record Fits (e : Entry) : Type 0 where
@@ -160,17 +160,17 @@ pub record WellFormed (watch : Watch) : Type 0 where
 
 -- the widths of the three columns
 module _ (ps : List Entry) (fit : Each Fits ps) where
-  lengths-wide : Each (Wide length_field 1) ps
+  lengths_wide : Each (Wide length_field 1) ps
   unfolding length_field
-  lengths-wide = each_is Fits (Wide length_field 1) (λ e h. refl) ps fit
+  lengths_wide = each_is Fits (Wide length_field 1) (λ e h. refl) ps fit
 
-  keys-wide : Each (Wide key_field 64) ps
+  keys_wide : Each (Wide key_field 64) ps
   unfolding key_field
-  keys-wide = each_is Fits (Wide key_field 64) (λ e h. length-append e.key e.unused ∙ h.wide) ps fit
+  keys_wide = each_is Fits (Wide key_field 64) (λ e h. length-append e.key e.unused ∙ h.wide) ps fit
 
-  estimates-wide : Each (Wide estimate_field 8) ps
+  estimates_wide : Each (Wide estimate_field 8) ps
   unfolding estimate_field
-  estimates-wide = each_is Fits (Wide estimate_field 8) (λ e h. bytes_length 8 e.estimate) ps fit
+  estimates_wide = each_is Fits (Wide estimate_field 8) (λ e h. bytes_length 8 e.estimate) ps fit
 
 -- Places of a list that is laid out.
 module _ (mark : ℕ) (ps : List Entry) (fit : Each Fits ps) (full : length ps ≡ 64) where
@@ -185,25 +185,25 @@ module _ (mark : ℕ) (ps : List Entry) (fit : Each Fits ps) (full : length ps �
 
   lengths_long : length lengths ≡ 64
   unfolding lengths
-  lengths_long = omega (arith, column-length length_field 1 ps (lengths-wide ps fit))
+  lengths_long = omega (arith, column_length length_field 1 ps (lengths_wide ps fit))
 
-  before-keys : length (lengths ++ (mark ∷ [])) ≡ keys_at
-  before-keys = length-append lengths (mark ∷ []) ∙ omega (arith, lengths_long)
+  before_keys : length (lengths ++ (mark ∷ [])) ≡ keys_at
+  before_keys = length-append lengths (mark ∷ []) ∙ omega (arith, lengths_long)
 
-  before-estimates : length (lengths ++ (mark ∷ []) ++ keys) ≡ estimates_at
+  before_estimates : length (lengths ++ (mark ∷ []) ++ keys) ≡ estimates_at
   unfolding keys
-  before-estimates = length-append (lengths ++ (mark ∷ [])) keys ∙ omega (arith, before-keys, column-length key_field 64 ps (keys-wide ps fit))
+  before_estimates = length-append (lengths ++ (mark ∷ [])) keys ∙ omega (arith, before_keys, column_length key_field 64 ps (keys_wide ps fit))
 
-  mark-first : laid_out mark ps ≡ lengths ++ (mark ∷ (keys ++ estimates))
+  mark_first : laid_out mark ps ≡ lengths ++ (mark ∷ (keys ++ estimates))
   unfolding laid_out lengths keys estimates
-  mark-first = append_assoc (lengths ++ (mark ∷ [])) keys estimates ∙ append_assoc lengths (mark ∷ []) (keys ++ estimates)
+  mark_first = append_assoc (lengths ++ (mark ∷ [])) keys estimates ∙ append_assoc lengths (mark ∷ []) (keys ++ estimates)
 
-  pub mark-at : get_or (laid_out mark ps) 64 0 ≡ mark
-  mark-at = rw mark-first (get_or_at lengths mark (keys ++ estimates) 0 64 lengths_long)
+  pub mark_at : get_or (laid_out mark ps) 64 0 ≡ mark
+  mark_at = rw mark_first (get_or_at lengths mark (keys ++ estimates) 0 64 lengths_long)
 
-  pub lengths-are : take 64 (laid_out mark ps) ≡ column length_field ps
+  pub lengths_are : take 64 (laid_out mark ps) ≡ column length_field ps
   unfolding lengths
-  lengths-are = rw mark-first (take_at lengths (mark ∷ (keys ++ estimates)) 64 lengths_long)
+  lengths_are = rw mark_first (take_at lengths (mark ∷ (keys ++ estimates)) 64 lengths_long)
 
   module _ (i : ℕ) (z : Entry) (l : i < length ps) where
     there : Entry
@@ -213,23 +213,23 @@ module _ (mark : ℕ) (ps : List Entry) (fit : Each Fits ps) (full : length ps �
     unfolding there lengths length_field
     length_at =
         let xs = lengths ++ (mark ∷ (keys ++ estimates)) in
-        let f = field_at length_field 1 ps [] (mark ∷ (keys ++ estimates)) 0 i z (lengths-wide ps fit) refl l in
+        let f = field_at length_field 1 ps [] (mark ∷ (keys ++ estimates)) 0 i z (lengths_wide ps fit) refl l in
         let j : i ≡ 0 + i * 1 + 0 = omega arith in
-        rw mark-first
+        rw mark_first
         (ap (λ (k : ℕ). get_or xs k 0) j
         ∙ sym (get_or-drop (0 + i * 1) xs 0 0)
         ∙ sym (get_or-take 1 (drop (0 + i * 1) xs) 0 0 (omega arith))
         ∙ ap (λ (ys : List ℕ). get_or ys 0 0) f)
 
-    key-at : key_bytes (laid_out mark ps) i ≡ there.key ++ there.unused
+    key_at : key_bytes (laid_out mark ps) i ≡ there.key ++ there.unused
     unfolding laid_out there lengths keys estimates key_bytes key_field
-    key-at = rw (append_assoc (lengths ++ (mark ∷ [])) keys estimates) (field_at key_field 64 ps (lengths ++ (mark ∷ [])) estimates keys_at i z (keys-wide ps fit) before-keys l)
+    key_at = rw (append_assoc (lengths ++ (mark ∷ [])) keys estimates) (field_at key_field 64 ps (lengths ++ (mark ∷ [])) estimates keys_at i z (keys_wide ps fit) before_keys l)
 
-    estimate-at : take 8 (drop (estimates_at + i * 8) (laid_out mark ps)) ≡ bytes 8 there.estimate
+    estimate_at : take 8 (drop (estimates_at + i * 8) (laid_out mark ps)) ≡ bytes 8 there.estimate
     unfolding laid_out there lengths keys estimates estimate_field
-    estimate-at =
+    estimate_at =
         rw (← append-nil (column estimate_field ps))
-        (field_at estimate_field 8 ps (lengths ++ (mark ∷ []) ++ keys) [] estimates_at i z (estimates-wide ps fit) before-estimates l)
+        (field_at estimate_field 8 ps (lengths ++ (mark ∷ []) ++ keys) [] estimates_at i z (estimates_wide ps fit) before_estimates l)
 
     place_at_lem : place_at (laid_out mark ps) i ≡ get_or ps i z
     unfolding place_at there
@@ -237,20 +237,20 @@ module _ (mark : ℕ) (ps : List Entry) (fit : Each Fits ps) (full : length ps �
         let e = get_or ps i z in
         let s = (each_at Fits ps i z fit l).small in
         rw (
-          key-at,
+          key_at,
           length_at,
-          estimate-at,
+          estimate_at,
           take_at e.key e.unused (length e.key) refl,
           drop_at e.key e.unused (length e.key) refl,
           number_bytes 8 e.estimate s,
         )
 
-  pub places-are : (n i : ℕ) → i + n ≤ length ps → places_from (laid_out mark ps) n i ≡ take n (drop i ps)
+  pub places_are : (n i : ℕ) → i + n ≤ length ps → places_from (laid_out mark ps) n i ≡ take n (drop i ps)
   unfolding places_from
-  places-are zero i l = refl
-  places-are (suc n) i l =
+  places_are zero i l = refl
+  places_are (suc n) i l =
       let k : i < length ps = omega arith in
-      rw (place_at_lem i clear_place k, places-are n (suc i) (omega arith), drop-cons ps i clear_place k)
+      rw (place_at_lem i clear_place k, places_are n (suc i) (omega arith), drop-cons ps i clear_place k)
 
 -- the places in use of a column of lengths
 used_are : (es fs : List Entry) → Each (λ e. 1 ≤ length e.key) es → Each (λ e. length e.key ≡ 0) fs
@@ -273,55 +273,55 @@ decode_encode watch good =
     let ps = es ++ fs in
     let full : length ps ≡ 64 = length-append es fs ∙ good.places in
     let used : in_use (take 64 (laid_out watch.mark ps)) ≡ length es
-    = ap in_use (lengths-are watch.mark ps good.fit full) ∙ used_are es fs good.used good.unused in
+    = ap in_use (lengths_are watch.mark ps good.fit full) ∙ used_are es fs good.used good.unused in
     let front : places_from (laid_out watch.mark ps) (length es) 0 ≡ es
-    = places-are watch.mark ps good.fit full (length es) 0 (omega (arith, good.places)) ∙ take_at es fs (length es) refl in
+    = places_are watch.mark ps good.fit full (length es) 0 (omega (arith, good.places)) ∙ take_at es fs (length es) refl in
     let back : places_from (laid_out watch.mark ps) (64 - length es) (length es) ≡ fs
-    = places-are watch.mark ps good.fit full (64 - length es) (length es) (omega (arith, good.places)) ∙ rw (drop_at es fs (length es) refl) (take_all (64 - length es) fs (omega (arith, good.places))) in
-    rw (used, front, back, mark-at watch.mark ps good.fit full)
+    = places_are watch.mark ps good.fit full (64 - length es) (length es) (omega (arith, good.places)) ∙ rw (drop_at es fs (length es) refl) (take_all (64 - length es) fs (omega (arith, good.places))) in
+    rw (used, front, back, mark_at watch.mark ps good.fit full)
 
 -- Its bytes are as many as a list has, and no call finds them broken.
 module _ (watch : Watch) (good : WellFormed watch) where
   abbrev places : List Entry
   places = watch.entries ++ watch.free
 
-  places-full : length places ≡ 64
-  places-full = length-append watch.entries watch.free ∙ good.places
+  places_full : length places ≡ 64
+  places_full = length-append watch.entries watch.free ∙ good.places
 
-  pub encode-long : length (encode watch) ≡ list_size
+  pub encode_long : length (encode watch) ≡ list_size
   unfolding encode laid_out
-  encode-long =
+  encode_long =
       let a = column length_field places in
       let b = column key_field places in
       let c = column estimate_field places in
-      let p = column-length length_field 1 places (lengths-wide places good.fit) in
-      let q = column-length key_field 64 places (keys-wide places good.fit) in
-      let r = column-length estimate_field 8 places (estimates-wide places good.fit) in
-      rw (length-append (a ++ (watch.mark ∷ []) ++ b) c, length-append (a ++ (watch.mark ∷ [])) b, length-append a (watch.mark ∷ []), p, q, r, places-full)
+      let p = column_length length_field 1 places (lengths_wide places good.fit) in
+      let q = column_length key_field 64 places (keys_wide places good.fit) in
+      let r = column_length estimate_field 8 places (estimates_wide places good.fit) in
+      rw (length-append (a ++ (watch.mark ∷ []) ++ b) c, length-append (a ++ (watch.mark ∷ [])) b, length-append a (watch.mark ∷ []), p, q, r, places_full)
 
-  unused-sound : (fs : List Entry) → Each (λ e. length e.key ≡ 0) fs → all_zero (column length_field fs) ≡ true
+  unused_sound : (fs : List Entry) → Each (λ e. length e.key ≡ 0) fs → all_zero (column length_field fs) ≡ true
   unfolding column length_field Each all_zero
-  unused-sound [] h = refl
-  unused-sound (f ∷ fs) h = rw h.0 (unused-sound fs h.1)
+  unused_sound [] h = refl
+  unused_sound (f ∷ fs) h = rw h.0 (unused_sound fs h.1)
 
-  lengths-sound : (es fs : List Entry) → Each (λ e. 1 ≤ length e.key) es → Each Fits (es ++ fs) → Each (λ e. length e.key ≡ 0) fs
+  lengths_sound : (es fs : List Entry) → Each (λ e. 1 ≤ length e.key) es → Each Fits (es ++ fs) → Each (λ e. length e.key ≡ 0) fs
       → sound_lengths (column length_field (es ++ fs)) ≡ true
   unfolding column length_field Each sound_lengths
-  lengths-sound [] [] h k l = refl
-  lengths-sound [] (f ∷ fs) h k l = rw l.0 (unused-sound fs l.1)
-  lengths-sound (e ∷ es) fs h k l = go (length e.key) h.0 (omega (arith, k.0.wide)) (lengths-sound es fs h.1 k.1 l)
+  lengths_sound [] [] h k l = refl
+  lengths_sound [] (f ∷ fs) h k l = rw l.0 (unused_sound fs l.1)
+  lengths_sound (e ∷ es) fs h k l = go (length e.key) h.0 (omega (arith, k.0.wide)) (lengths_sound es fs h.1 k.1 l)
     where
       go : (n : ℕ) → 1 ≤ n → n ≤ 64 → sound_lengths (column length_field (es ++ fs)) ≡ true → sound_lengths (n ∷ column length_field (es ++ fs)) ≡ true
       go zero p q i = absurd (omega arith)
       go (suc n) p q i = rw (le-leb (suc n) 64 q) i
 
-  pub encode-sound : watch.mark ≤ 1 → sound (encode watch) ≡ true
+  pub encode_sound : watch.mark ≤ 1 → sound (encode watch) ≡ true
   unfolding encode sound
-  encode-sound m =
+  encode_sound m =
       rw (
-        lengths-are watch.mark places good.fit places-full,
-        mark-at watch.mark places good.fit places-full,
-        lengths-sound watch.entries watch.free good.used good.fit good.unused,
+        lengths_are watch.mark places good.fit places_full,
+        mark_at watch.mark places good.fit places_full,
+        lengths_sound watch.entries watch.free good.used good.fit good.unused,
       )
       (le-leb watch.mark 1 m)
 

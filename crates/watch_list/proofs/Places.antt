@@ -61,42 +61,42 @@ four_parts xs a b c e =
     rw (← take-suc xs a 0 (omega arith), ← take-add (suc a) b xs, ← take-add (suc a + b) c xs) (take_all (suc a + b + c) xs (omega arith))
 
 module _ (xs : List ℕ) (long : length xs ≡ list_size) where
-  key-bytes-long : (k : ℕ) → k < 64 → length (key_bytes xs k) ≡ 64
+  key_bytes_long : (k : ℕ) → k < 64 → length (key_bytes xs k) ≡ 64
   unfolding key_bytes
-  key-bytes-long k h = omega (arith, length-take 64 (drop (keys_at + k * 64) xs), length-drop (keys_at + k * 64) xs)
+  key_bytes_long k h = omega (arith, length-take 64 (drop (keys_at + k * 64) xs), length-drop (keys_at + k * 64) xs)
 
-  place-key : (k : ℕ) → key_field (place_at xs k) ≡ key_bytes xs k
+  place_key : (k : ℕ) → key_field (place_at xs k) ≡ key_bytes xs k
   unfolding key_field place_at
-  place-key k = take-append-drop (get_or xs k 0) (key_bytes xs k)
+  place_key k = take-append-drop (get_or xs k 0) (key_bytes xs k)
 
-  pub place-whole : (k : ℕ) → k < 64 → Whole (place_at xs k)
+  pub place_whole : (k : ℕ) → k < 64 → Whole (place_at xs k)
   unfolding key_field
-  place-whole k h = ap length (place-key k) ∙ key-bytes-long k h
+  place_whole k h = ap length (place_key k) ∙ key_bytes_long k h
 
-  pub places-whole : (n k : ℕ) → n + k ≤ 64 → AllWhole (places_from xs n k)
+  pub places_whole : (n k : ℕ) → n + k ≤ 64 → AllWhole (places_from xs n k)
   unfolding places_from Each
-  places-whole zero k h = tt
-  places-whole (suc n) k h = (place-whole k (omega arith), places-whole n (suc k) (omega arith))
+  places_whole zero k h = tt
+  places_whole (suc n) k h = (place_whole k (omega arith), places_whole n (suc k) (omega arith))
 
   -- a column of the places is the bytes that they have there
   module _ (field : Entry → List ℕ) (width base : ℕ) (at : (k : ℕ) → k < 64 → field (place_at xs k) ≡ take width (drop (base + k * width) xs)) where
-    column-places : (n k : ℕ) → n + k ≤ 64 → column field (places_from xs n k) ≡ take (n * width) (drop (base + k * width) xs)
+    column_places : (n k : ℕ) → n + k ≤ 64 → column field (places_from xs n k) ≡ take (n * width) (drop (base + k * width) xs)
     unfolding column places_from
-    column-places zero k h =
+    column_places zero k h =
         let e : 0 * width ≡ 0 = omega arith in
         rw e
-    column-places (suc n) k h =
+    column_places (suc n) k h =
         let next : base + suc k * width ≡ base + k * width + width = omega (arith, suc-mul k width) in
         let more : suc n * width ≡ width + n * width = omega (arith, suc-mul n width) in
-        rw (at k (omega arith), column-places n (suc k) (omega arith), next, ← drop-drop width (base + k * width) xs, more)
+        rw (at k (omega arith), column_places n (suc k) (omega arith), next, ← drop-drop width (base + k * width) xs, more)
         (sym (take-add width (n * width) (drop (base + k * width) xs)))
 
-  pub in-use-most : in_use (take 64 xs) ≤ 64
-  in-use-most = omega (arith, in_use_le (take 64 xs), length-take 64 xs)
+  pub in_use_most : in_use (take 64 xs) ≤ 64
+  in_use_most = omega (arith, in_use_le (take 64 xs), length-take 64 xs)
 
-  pub length-short : sound xs ≡ true → (k : ℕ) → k < 64 → get_or xs k 0 ≤ 64
+  pub length_short : sound xs ≡ true → (k : ℕ) → k < 64 → get_or xs k 0 ≤ 64
   unfolding sound
-  length-short good k h =
+  length_short good k h =
       rw get_or-take at (sound_short (take 64 xs) ((and-eq-true_iff (sound_lengths (take 64 xs)) (leb (get_or xs 64 0) 1)).0 good).0 k)
 
   module _ (small : Bytes xs) (good : sound xs ≡ true) where
@@ -104,31 +104,31 @@ module _ (xs : List ℕ) (long : length xs ≡ list_size) where
     unfolding length_field place_at
     length_at k h =
         let e : 0 + k * 1 ≡ k = omega arith in
-        rw (e, drop-cons xs k 0 (omega arith)) (ap (λ (n : ℕ). n ∷ []) (omega (arith, length-take (get_or xs k 0) (key_bytes xs k), key-bytes-long k h, length-short good k h)))
+        rw (e, drop-cons xs k 0 (omega arith)) (ap (λ (n : ℕ). n ∷ []) (omega (arith, length-take (get_or xs k 0) (key_bytes xs k), key_bytes_long k h, length_short good k h)))
 
-    key-at : (k : ℕ) → k < 64 → key_field (place_at xs k) ≡ take 64 (drop (keys_at + k * 64) xs)
+    key_at : (k : ℕ) → k < 64 → key_field (place_at xs k) ≡ take 64 (drop (keys_at + k * 64) xs)
     unfolding key_bytes
-    key-at k h = place-key k
+    key_at k h = place_key k
 
-    estimate-at : (k : ℕ) → k < 64 → estimate_field (place_at xs k) ≡ take 8 (drop (estimates_at + k * 8) xs)
+    estimate_at : (k : ℕ) → k < 64 → estimate_field (place_at xs k) ≡ take 8 (drop (estimates_at + k * 8) xs)
     unfolding estimate_field place_at
-    estimate-at k h =
+    estimate_at k h =
         let part = take 8 (drop (estimates_at + k * 8) xs) in
         let e : length part ≡ 8 = omega (arith, length-take 8 (drop (estimates_at + k * 8) xs), length-drop (estimates_at + k * 8) xs) in
         rw e at (bytes_number part (bytes_take 8 (drop (estimates_at + k * 8) xs) (bytes_drop (estimates_at + k * 8) xs small)))
 
-    pub laid-places : laid_out (get_or xs 64 0) (places_from xs 64 0) ≡ xs
+    pub laid_places : laid_out (get_or xs 64 0) (places_from xs 64 0) ≡ xs
     unfolding laid_out
-    laid-places =
-        let lengths : column length_field (places_from xs 64 0) ≡ take 64 xs = column-places length_field 1 0 length_at 64 0 (omega arith) in
-        let keys : column key_field (places_from xs 64 0) ≡ take 4096 (drop 65 xs) = column-places key_field 64 keys_at key-at 64 0 (omega arith) in
-        let estimates : column estimate_field (places_from xs 64 0) ≡ take 512 (drop 4161 xs) = column-places estimate_field 8 estimates_at estimate-at 64 0 (omega arith) in
+    laid_places =
+        let lengths : column length_field (places_from xs 64 0) ≡ take 64 xs = column_places length_field 1 0 length_at 64 0 (omega arith) in
+        let keys : column key_field (places_from xs 64 0) ≡ take 4096 (drop 65 xs) = column_places key_field 64 keys_at key_at 64 0 (omega arith) in
+        let estimates : column estimate_field (places_from xs 64 0) ≡ take 512 (drop 4161 xs) = column_places estimate_field 8 estimates_at estimate_at 64 0 (omega arith) in
         rw (lengths, keys, estimates) (four_parts xs 64 4096 512 long)
 
     pub encode_decode : encode (decode xs) ≡ xs
     unfolding encode decode
     encode_decode =
         let u = in_use (take 64 xs) in
-        let e : u + (64 - u) ≡ 64 = omega (arith, in-use-most) in
+        let e : u + (64 - u) ≡ 64 = omega (arith, in_use_most) in
         let f : 0 + u ≡ u = omega arith in
-        rw (← rw (e, f) at (places_split xs u (64 - u) 0)) laid-places
+        rw (← rw (e, f) at (places_split xs u (64 - u) 0)) laid_places

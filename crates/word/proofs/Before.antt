@@ -57,36 +57,36 @@ module _ (words : List ℕ) (n : ℕ) where
   unfolding payload
   payload_same p h = ap (λ (x : ℕ). x % 2 ^ 28) (get_or-take n words p 0 h)
 
-  pub due-same : (p kind : ℕ) → p < n → is_due front p kind ≡ is_due words p kind
+  pub due_same : (p kind : ℕ) → p < n → is_due front p kind ≡ is_due words p kind
   unfolding is_due
-  due-same p kind h =
+  due_same p kind h =
       elim (dec_lt p (length words)) [
         | yes l ↦ rw (lt-ltb p (length front) (omega (arith, length-take n words)), lt-ltb p (length words) l, get_or-take n words p 0 h)
         | no l ↦ rw (le-ltb p (length front) (omega (arith, length-take n words)), le-ltb p (length words) (omega arith))
       ]
 
-  pub none-due : (p kind : ℕ) → n ≤ p → is_due front p kind ≡ false
+  pub none_due : (p kind : ℕ) → n ≤ p → is_due front p kind ≡ false
   unfolding is_due
-  none-due p kind h = rw (le-ltb p (length front) (omega (arith, length-take n words)))
+  none_due p kind h = rw (le-ltb p (length front) (omega (arith, length-take n words)))
 
-  pub tested-same : (p kind line : ℕ) (h i : Bool) → p < n → i ≡ h → tested front p kind i line ≡ tested words p kind h line
+  pub tested_same : (p kind line : ℕ) (h i : Bool) → p < n → i ≡ h → tested front p kind i line ≡ tested words p kind h line
   unfolding tested
-  tested-same p kind line h i l e = rw (due-same p kind l, e)
+  tested_same p kind line h i l e = rw (due_same p kind l, e)
 
-  pub below-same : (p kind limit : ℕ) → p < n → below front p kind limit ≡ below words p kind limit
+  pub below_same : (p kind limit : ℕ) → p < n → below front p kind limit ≡ below words p kind limit
   unfolding below
-  below-same p kind limit l = tested-same p kind bad_payload (ltb (payload words p) limit) (ltb (payload front p) limit) l (ap (λ (x : ℕ). ltb x limit) (payload_same p l))
+  below_same p kind limit l = tested_same p kind bad_payload (ltb (payload words p) limit) (ltb (payload front p) limit) l (ap (λ (x : ℕ). ltb x limit) (payload_same p l))
 
-  pub tested-cut : (p kind line : ℕ) (h i : Bool) → 0 < line → (p < n → i ≡ h) → Cut (length words) n p (tested words p kind h line) (tested front p kind i line)
+  pub tested_cut : (p kind line : ℕ) (h i : Bool) → 0 < line → (p < n → i ≡ h) → Cut (length words) n p (tested words p kind h line) (tested front p kind i line)
   unfolding tested
-  tested-cut p kind line h i l f =
+  tested_cut p kind line h i l f =
       cases (is_due words p kind)
       (λ t. cases h
       (λ u.
       let d = due_in words p kind t in
       rw (t, u) (record {
         ahead = record { forward = omega arith; inside = λ k. omega arith };
-        same = λ e k. let x : i ≡ true = f (omega arith) ∙ u in rw (due-same p kind (omega arith), t, x);
+        same = λ e k. let x : i ≡ true = f (omega arith) ∙ u in rw (due_same p kind (omega arith), t, x);
         ends = λ m k. absurd (m refl);
       }))
       (λ u. rw (t, u) (missing p line l (tested front p kind i line) (none p kind i line))))
@@ -94,7 +94,7 @@ module _ (words : List ℕ) (n : ℕ) where
     where
       -- the words before a position have no word at it
       none : (p kind : ℕ) (i : Bool) (line : ℕ) → p ≡ n → tested front p kind i line ≡ stop bad_word p
-      none p kind i line e = rw (none-due p kind (omega arith))
+      none p kind i line e = rw (none_due p kind (omega arith))
 
       missing : (p line : ℕ) → 0 < line → (t : Step) → (p ≡ n → t ≡ stop bad_word p) → Cut (length words) n p (stop line p) t
       missing p line l t g = record {
@@ -103,7 +103,7 @@ module _ (words : List ℕ) (n : ℕ) where
         ends = λ m k. g k ∙ ap (stop bad_word) k;
       }
 
-  pub below-cut : (p kind limit : ℕ) → Cut (length words) n p (below words p kind limit) (below front p kind limit)
+  pub below_cut : (p kind limit : ℕ) → Cut (length words) n p (below words p kind limit) (below front p kind limit)
   unfolding below
-  below-cut p kind limit =
-      tested-cut p kind bad_payload (ltb (payload words p) limit) (ltb (payload front p) limit) (omega arith) (λ h. ap (λ (x : ℕ). ltb x limit) (payload_same p h))
+  below_cut p kind limit =
+      tested_cut p kind bad_payload (ltb (payload words p) limit) (ltb (payload front p) limit) (omega arith) (λ h. ap (λ (x : ℕ). ltb x limit) (payload_same p h))

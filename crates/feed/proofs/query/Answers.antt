@@ -28,17 +28,17 @@ meant k =
     queried a.d a.w a.memory.now a.n a.words.now (query_body a.n a.words.now)
 
 -- the key that is lent is the record's
-key-is : (m : In-Sound) →
+key_is : (m : In-Sound) →
     let a = m.args in
     take (a.n - 0) m.query_body-b.new.key ≡ key_of a.n a.words.now
-key-is m =
+key_is m =
     let a = m.args in
     lent a.n _ (key_of a.n a.words.now) (m.query_body-b.ensures.key_after (ap (λ (x : Answer). x.status) (sound_answer m.query_body-b.result (rw m.in-Sound.is))))
 
 called_is : (k : After-estimate_checked-a) → k.estimate_checked-a.result ≡ called k
 called_is k =
     let a = k.args in
-    k.estimate_checked-a.ensures ∙ ap (estimated a.d a.w a.memory.now) (key-is (goal.at.After-estimate_checked-a k).In-Sound)
+    k.estimate_checked-a.ensures ∙ ap (estimated a.d a.w a.memory.now) (key_is (goal.at.After-estimate_checked-a k).In-Sound)
 
 meant_is : (k : After-estimate_checked-a) → meant k ≡ outcome_of (called k) (case.Estimate (called k).value)
 meant_is k =
@@ -59,7 +59,7 @@ slice_bounds-estimate_checked-end c = search (rules, key_short c.args.n c.requir
 
 pub estimate_checked-a-requires : goal.estimate_checked-a-requires
 estimate_checked-a-requires c = let a = c.args in
-    call_passes a.d a.w a.memory.now a.n a.words.now _ c.requires.fact_1 c.requires.fact_2 (key-is (goal.at.estimate_checked-a-requires c).In-Sound)
+    call_passes a.d a.w a.memory.now a.n a.words.now _ c.requires.fact_1 c.requires.fact_2 (key_is (goal.at.estimate_checked-a-requires c).In-Sound)
 
 pub returns-then-a-ne0 : goal.returns-then-a-ne0
 returns-then-a-ne0 c = let z = called_is (goal.at.returns-then-a-ne0 c).After-estimate_checked-a in

@@ -31,10 +31,10 @@ meant k =
     carried_update a.d a.w a.memory.now a.n a.words.now (update_body a.n a.words.now)
 
 -- the key that is lent is the record's
-key-is : (b : In-Sound) →
+key_is : (b : In-Sound) →
     let a = b.args in
     take (a.n - 0) b.update_body-b.new.key ≡ key_of a.n a.words.now
-key-is b =
+key_is b =
     let a = b.args in
     lent a.n _ (key_of a.n a.words.now) (b.update_body-b.ensures.key_after (ap (λ (x : Body). (body_answer x).status) b.in-Sound.is))
 
@@ -42,7 +42,7 @@ called_is : (k : After-update_checked-a) → (k.update_checked-a.result ≡ (cal
 called_is k =
     let a = k.args in
     let v = k.in-Sound.amount in
-    let q = key-is (goal.at.After-update_checked-a k).In-Sound in (
+    let q = key_is (goal.at.After-update_checked-a k).In-Sound in (
       k.update_checked-a.ensures.value ∙ ap (λ (x : List ℕ). (updated a.d a.w a.memory.now x v).answer) q,
       k.update_checked-a.ensures.memory_after ∙ ap (λ (x : List ℕ). (updated a.d a.w a.memory.now x v).memory) q,
     )
@@ -53,11 +53,11 @@ meant_is k =
     rw (sym k.update_body-b.ensures.value ∙ k.in-Sound.is)
 
 -- the contract, by the outcome and memory of that update
-told-as : (k : After-update_checked-a) (r : Recorded) (m : List ℕ) → r ≡ outcome_of (called k).answer case.Updated → m ≡ (called k).memory →
+told_as : (k : After-update_checked-a) (r : Recorded) (m : List ℕ) → r ≡ outcome_of (called k).answer case.Updated → m ≡ (called k).memory →
     let a = k.args in
     (r ≡ update_outcome a.d a.w a.memory.now a.n a.words.now (update_body a.n a.words.now))
     × (m ≡ (finish_record r (update_memory a.d a.w a.memory.now a.n a.words.now) a.memory.now).memory)
-told-as k r m e f =
+told_as k r m e f =
     let a = k.args in
     let z = sym (meant_is k) in
     tell a.d a.w a.memory.now a.n a.words.now r m (e ∙ ap (λ (c : Carried). c.outcome) z) (f ∙ ap (λ (c : Carried). c.memory) z)
@@ -78,16 +78,16 @@ slice_bounds-update_checked-end c = search (rules, key_short c.args.n c.requires
 
 pub update_checked-a-requires : goal.update_checked-a-requires
 update_checked-a-requires c = let a = c.args in
-    call_passes a.d a.w a.memory.now a.n a.words.now _ c.requires.fact_1 c.requires.fact_2 (key-is (goal.at.update_checked-a-requires c).In-Sound)
+    call_passes a.d a.w a.memory.now a.n a.words.now _ c.requires.fact_1 c.requires.fact_2 (key_is (goal.at.update_checked-a-requires c).In-Sound)
 
 pub returns-then-a-ne0 : goal.returns-then-a-ne0
 returns-then-a-ne0 c = let z = called_is (goal.at.returns-then-a-ne0 c).After-update_checked-a in
     let t = outcome_refused (called (goal.at.returns-then-a-ne0 c).After-update_checked-a).answer case.Updated (λ h. c.if-a-ne0.true (ap (λ (x : Answer). x.status) z.0 ∙ h)) in
-    let r = told-as (goal.at.returns-then-a-ne0 c).After-update_checked-a _ _ (c.refusal.ensures ∙ ap refusal z.0 ∙ sym t) z.1 in
+    let r = told_as (goal.at.returns-then-a-ne0 c).After-update_checked-a _ _ (c.refusal.ensures ∙ ap refusal z.0 ∙ sym t) z.1 in
     record { value = r.0; memory_after = r.1 }
 
 pub returns : goal.returns
 returns c = let z = called_is (goal.at.returns c).After-update_checked-a in
     let t = outcome_accepted (called (goal.at.returns c).After-update_checked-a).answer case.Updated (ap (λ (x : Answer). x.status) (sym z.0) ∙ c.if-a-ne0.false) in
-    let r = told-as (goal.at.returns c).After-update_checked-a _ _ (sym t) z.1 in
+    let r = told_as (goal.at.returns c).After-update_checked-a _ _ (sym t) z.1 in
     record { value = r.0; memory_after = r.1 }

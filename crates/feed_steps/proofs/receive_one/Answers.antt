@@ -3,7 +3,7 @@ use mathlib.Core.Bool.{true≢false}
 use native.Mathlib.Omega.{arith}
 use lib.ListN.{length}
 use Rattle.feed_state.proofs.Receiving.{received_kept}
-use Rattle.feed_steps.proofs.Runs.{called_for, stepped-first, stepped-next, stepped-all}
+use Rattle.feed_steps.proofs.Runs.{called_for, stepped_first, stepped_next, stepped_all}
 use borrow.Author.Rules.{rules}
 use Rattle.feed_steps.proofs.receive_one.Goals as goal
 
@@ -11,7 +11,7 @@ pub returns-then-a : goal.returns-then-a
 returns-then-a c = let a = c.args in
     let p = c.receive-a in
     let k = received_kept 4 a.s a.input.now a.output.now p.result p.new.input p.ensures in
-    let g = stepped-first a.d a.w a.memory.now a.s a.input.now a.output.now p.result p.new.input p.ensures in record { within_2_1 = p.ensures.filled.within; within_2_2 = omega (arith, p.ensures.cleared.space); words_bound_2 = (omega (arith, k.0), omega (arith, k.1), λ e. absurd (true≢false (sym e ∙ (g.ran.failed c.if-a.true).2))); stepped = g }
+    let g = stepped_first a.d a.w a.memory.now a.s a.input.now a.output.now p.result p.new.input p.ensures in record { within_2_1 = p.ensures.filled.within; within_2_2 = omega (arith, p.ensures.cleared.space); words_bound_2 = (omega (arith, k.0), omega (arith, k.1), λ e. absurd (true≢false (sym e ∙ (g.ran.failed c.if-a.true).2))); stepped = g }
 
 pub receive-b-requires : goal.receive-b-requires
 receive-b-requires c = let a = c.args in
@@ -25,7 +25,7 @@ returns-then-b c = let a = c.args in
     let n = c.needed-n in
     let k = received_kept 4 a.s a.input.now a.output.now p.result p.new.input p.ensures in
     let l = received_kept n.result p.result p.new.input a.output.now r.result r.new.input r.ensures in
-    let g = stepped-next a.d a.w a.memory.now a.s a.input.now a.output.now p.result p.new.input p.ensures
+    let g = stepped_next a.d a.w a.memory.now a.s a.input.now a.output.now p.result p.new.input p.ensures
     n.result r.result r.new.input r.ensures n.ensures.value c.if-a.false in record { within_2_1 = r.ensures.filled.within; within_2_2 = omega (arith, r.ensures.cleared.space); words_bound_2 = (omega (arith, k.0, l.0), omega (arith, k.1, l.1), λ e. absurd (true≢false (sym e ∙ (g.ran.failed c.if-b.true).2))); stepped = g }
 
 pub carry_out-requires : goal.carry_out-requires
@@ -58,6 +58,6 @@ returns c = let a = c.args in
       within_2_1 = o.ensures.within_2_1;
       within_2_2 = o.ensures.within_2_2;
       words_bound_2 = (omega (arith, k.0, l.0, counts.0), omega (arith, k.1, l.1, counts.1), λ e. omega (arith, k.0, l.0, counts.2 e));
-      stepped = stepped-all a.d a.w a.memory.now a.s a.input.now a.output.now p.result p.new.input p.ensures
+      stepped = stepped_all a.d a.w a.memory.now a.s a.input.now a.output.now p.result p.new.input p.ensures
           n.result r.result r.new.input r.ensures n.ensures.value c.if-a.false c.if-b.false o.new.memory o.result o.new.output o.ensures.stepped;
     }

@@ -8,38 +8,38 @@ use Rattle.geometry.proofs.Widths.{size_in}
 use Rattle.geometry.proofs.bad_shape.Goals as goal
 use Rattle.geometry.proofs.bad_shape.Goals.{Else-not-valid_depth, Else-not-valid_width, Then-not-valid_depth, Then-not-valid_width}
 
-depth-bad : (c : Then-not-valid_depth) → valid_depth c.args.d ≡ false
-depth-bad c = sym c.valid_depth.ensures ∙ c.if-not-valid_depth.true
+depth_bad : (c : Then-not-valid_depth) → valid_depth c.args.d ≡ false
+depth_bad c = sym c.valid_depth.ensures ∙ c.if-not-valid_depth.true
 
-depth-good : (c : Else-not-valid_depth) → valid_depth c.args.d ≡ true
-depth-good c = sym c.valid_depth.ensures ∙ c.if-not-valid_depth.false
+depth_good : (c : Else-not-valid_depth) → valid_depth c.args.d ≡ true
+depth_good c = sym c.valid_depth.ensures ∙ c.if-not-valid_depth.false
 
-width-bad : (c : Then-not-valid_width) → valid_width c.args.w ≡ false
-width-bad c = sym c.valid_width.ensures ∙ c.if-not-valid_width.true
+width_bad : (c : Then-not-valid_width) → valid_width c.args.w ≡ false
+width_bad c = sym c.valid_width.ensures ∙ c.if-not-valid_width.true
 
-width-good : (c : Else-not-valid_width) → valid_width c.args.w ≡ true
-width-good c = sym c.valid_width.ensures ∙ c.if-not-valid_width.false
+width_good : (c : Else-not-valid_width) → valid_width c.args.w ≡ true
+width_good c = sym c.valid_width.ensures ∙ c.if-not-valid_width.false
 
 pub returns-then-not-valid_depth : goal.returns-then-not-valid_depth
 unfolding first_of
-returns-then-not-valid_depth c = rw (depth-bad c)
+returns-then-not-valid_depth c = rw (depth_bad c)
 
 pub returns-then-not-valid_width : goal.returns-then-not-valid_width
 unfolding first_of
-returns-then-not-valid_width c = rw (depth-good (goal.at.returns-then-not-valid_width c).Else-not-valid_depth, width-bad c)
+returns-then-not-valid_width c = rw (depth_good (goal.at.returns-then-not-valid_width c).Else-not-valid_depth, width_bad c)
 
 pub stride-requires : goal.stride-requires
-stride-requires c = width-good c
+stride-requires c = width_good c
 
 pub overflow_mul-d : goal.overflow_mul-d
-overflow_mul-d c = rw c.stride.ensures (omega (arith, size_in c.args.d c.args.w (depth-good (goal.at.overflow_mul-d c).Else-not-valid_depth) (width-good (goal.at.overflow_mul-d c).Else-not-valid_width)))
+overflow_mul-d c = rw c.stride.ensures (omega (arith, size_in c.args.d c.args.w (depth_good (goal.at.overflow_mul-d c).Else-not-valid_depth) (width_good (goal.at.overflow_mul-d c).Else-not-valid_width)))
 
 pub returns-then-bytes-d : goal.returns-then-bytes-d
 unfolding first_of size
 returns-then-bytes-d c = let a = c.args in
-    rw (depth-good (goal.at.returns-then-bytes-d c).Else-not-valid_depth, width-good (goal.at.returns-then-bytes-d c).Else-not-valid_width, ne_eqb a.bytes (size a.d a.w) (λ e. c.if-bytes-d.true (rw c.stride.ensures e)))
+    rw (depth_good (goal.at.returns-then-bytes-d c).Else-not-valid_depth, width_good (goal.at.returns-then-bytes-d c).Else-not-valid_width, ne_eqb a.bytes (size a.d a.w) (λ e. c.if-bytes-d.true (rw c.stride.ensures e)))
 
 pub returns : goal.returns
 unfolding first_of size
 returns c = let a = c.args in
-    rw (depth-good (goal.at.returns c).Else-not-valid_depth, width-good (goal.at.returns c).Else-not-valid_width, eq-eqb a.bytes (size a.d a.w) (rw c.stride.ensures at c.if-bytes-d.false))
+    rw (depth_good (goal.at.returns c).Else-not-valid_depth, width_good (goal.at.returns c).Else-not-valid_width, eq-eqb a.bytes (size a.d a.w) (rw c.stride.ensures at c.if-bytes-d.false))

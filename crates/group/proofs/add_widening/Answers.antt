@@ -8,12 +8,12 @@ use Rattle.group_block.specs.Block.{cap, total, counter_at}
 use Rattle.group_slots.proofs.Slots.{level_block, whole_total}
 use Rattle.group_sums.specs.Sums.{holds_at}
 use Rattle.group.specs.Group.{decode}
-use Rattle.group.proofs.Laws.{cap_three, holds_valid, not-held, added-invalid, added_full, added-summed}
+use Rattle.group.proofs.Laws.{cap_three, holds_valid, not_held, added_invalid, added_full, added_summed}
 use Rattle.group.proofs.add_widening.Goals as goal
 use Rattle.group.proofs.add_widening.Goals.{After-level_at-level, Else-not-is_valid}
 
-is-sane : (c : Else-not-is_valid) → valid 3 c.args.g.merge ≡ true
-is-sane c = sym c.is_valid.ensures ∙ c.if-not-is_valid.false
+is_sane : (c : Else-not-is_valid) → valid 3 c.args.g.merge ≡ true
+is_sane c = sym c.is_valid.ensures ∙ c.if-not-is_valid.false
 
 module _ (l : After-level_at-level) where
   number_in : number l.args.g.counts < cap 3
@@ -21,39 +21,39 @@ module _ (l : After-level_at-level) where
   number_in = rw (← l.number_of-word.ensures) (omega arith)
 
   -- the counter does not hold the sum
-  not-holds : holds_at l.number_of-word.result l.args.g.merge (l.args.slot % 8) l.args.amount ≡ false
+  not_holds : holds_at l.number_of-word.result l.args.g.merge (l.args.slot % 8) l.args.amount ≡ false
   unfolding decode
-  not-holds =
+  not_holds =
       ap (λ (x : ℕ). holds_at x l.args.g.merge (l.args.slot % 8) l.args.amount) l.number_of-word.ensures
-      ∙ sym (holds_valid l.args.g l.args.slot l.args.amount (is-sane (goal.at.After-level_at-level l).Else-not-is_valid))
+      ∙ sym (holds_valid l.args.g l.args.slot l.args.amount (is_sane (goal.at.After-level_at-level l).Else-not-is_valid))
       ∙ l.requires
 
   -- where it is the whole group, it is full
-  whole-full : l.level_at-level.result ≡ 3 → 2 ^ 64 ≤ total (decode l.args.g) + l.args.amount
+  whole_full : l.level_at-level.result ≡ 3 → 2 ^ 64 ≤ total (decode l.args.g) + l.args.amount
   unfolding decode
-  whole-full e =
+  whole_full e =
       let b = decode l.args.g in
       let k = l.args.slot % 8 in
       let level : (counter_at b k).level ≡ 3 = level_block 3 (number l.args.g.counts) l.args.g.merge k ∙ sym l.level_at-level.ensures.value ∙ e in
-      omega (arith, not-held l.args.g l.args.slot l.args.amount (is-sane (goal.at.After-level_at-level l).Else-not-is_valid) l.requires, ap cap level, cap_three, whole_total b k level)
+      omega (arith, not_held l.args.g l.args.slot l.args.amount (is_sane (goal.at.After-level_at-level l).Else-not-is_valid) l.requires, ap cap level, cap_three, whole_total b k level)
 
 pub returns-then-not-is_valid : goal.returns-then-not-is_valid
 returns-then-not-is_valid c = let a = c.args in
-    c.unchanged.ensures ∙ sym (added-invalid a.g a.slot a.amount (sym c.is_valid.ensures ∙ c.if-not-is_valid.true))
+    c.unchanged.ensures ∙ sym (added_invalid a.g a.slot a.amount (sym c.is_valid.ensures ∙ c.if-not-is_valid.true))
 
 pub level_at-level-requires : goal.level_at-level-requires
-level_at-level-requires c = record { fact_1 = is-sane (goal.at.level_at-level-requires c).Else-not-is_valid; fact_2 = omega arith }
+level_at-level-requires c = record { fact_1 = is_sane (goal.at.level_at-level-requires c).Else-not-is_valid; fact_2 = omega arith }
 
 pub returns-then-level-eq3 : goal.returns-then-level-eq3
 returns-then-level-eq3 c = let a = c.args in
-    c.unchanged-then-level-eq3.ensures ∙ sym (added_full a.g a.slot a.amount (number_in (goal.at.returns-then-level-eq3 c).After-level_at-level) (is-sane (goal.at.returns-then-level-eq3 c).Else-not-is_valid) (whole-full (goal.at.returns-then-level-eq3 c).After-level_at-level c.if-level-eq3.true))
+    c.unchanged-then-level-eq3.ensures ∙ sym (added_full a.g a.slot a.amount (number_in (goal.at.returns-then-level-eq3 c).After-level_at-level) (is_sane (goal.at.returns-then-level-eq3 c).Else-not-is_valid) (whole_full (goal.at.returns-then-level-eq3 c).After-level_at-level c.if-level-eq3.true))
 
 pub add_widening-requires : goal.add_widening-requires
-add_widening-requires c = record { fact_1 = is-sane (goal.at.add_widening-requires c).Else-not-is_valid; fact_2 = omega arith; fact_3 = c.level_at-level.ensures.value; fact_4 = omega (arith, c.level_at-level.ensures.upper_bound, c.if-level-eq3.false); fact_5 = not-holds (goal.at.add_widening-requires c).After-level_at-level }
+add_widening-requires c = record { fact_1 = is_sane (goal.at.add_widening-requires c).Else-not-is_valid; fact_2 = omega arith; fact_3 = c.level_at-level.ensures.value; fact_4 = omega (arith, c.level_at-level.ensures.upper_bound, c.if-level-eq3.false); fact_5 = not_holds (goal.at.add_widening-requires c).After-level_at-level }
 
 pub returns : goal.returns
 unfolding decode
 returns c = let a = c.args in
     c.settled.ensures
-    ∙ added-summed a.g a.slot a.amount c.add_widening.result (is-sane (goal.at.returns c).Else-not-is_valid) c.add_widening.ensures.over_value
+    ∙ added_summed a.g a.slot a.amount c.add_widening.result (is_sane (goal.at.returns c).Else-not-is_valid) c.add_widening.ensures.over_value
     (rw (← c.number_of-word.ensures) c.add_widening.ensures.value)

@@ -9,8 +9,8 @@ use Rattle.group.specs.Group.{decode, changed}
 use Rattle.group.proofs.change.Goals as goal
 use Rattle.group.proofs.change.Goals.{Else-not-is_valid}
 
-is-sane : (c : Else-not-is_valid) → valid 3 c.args.g.merge ≡ true
-is-sane c = sym c.is_valid.ensures ∙ c.if-not-is_valid.false
+is_sane : (c : Else-not-is_valid) → valid 3 c.args.g.merge ≡ true
+is_sane c = sym c.is_valid.ensures ∙ c.if-not-is_valid.false
 
 pub returns-then-not-is_valid : goal.returns-then-not-is_valid
 unfolding changed
@@ -19,10 +19,10 @@ returns-then-not-is_valid c = let g = c.args.g in
     c.unchanged.ensures ∙ rw v
 
 pub with_value-word-requires : goal.with_value-word-requires
-with_value-word-requires c = record { fact_1 = is-sane (goal.at.with_value-word-requires c).Else-not-is_valid; fact_2 = omega arith }
+with_value-word-requires c = record { fact_1 = is_sane (goal.at.with_value-word-requires c).Else-not-is_valid; fact_2 = omega arith }
 
 pub returns : goal.returns
 unfolding changed decode
 returns c = let a = c.args in
-    rw (is-sane (goal.at.returns c).Else-not-is_valid, ← c.number_of.ensures)
+    rw (is_sane (goal.at.returns c).Else-not-is_valid, ← c.number_of.ensures)
     (ap (λ (l : List ℕ). record { status = 0; group = record { counts = l; merge = a.g.merge } }) (c.bytes_of.ensures ∙ ap (bytes 8) c.with_value-word.ensures))

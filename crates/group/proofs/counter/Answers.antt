@@ -7,8 +7,8 @@ use Rattle.group.specs.Group.{read, reading, decode}
 use Rattle.group.proofs.counter.Goals as goal
 use Rattle.group.proofs.counter.Goals.{Else-not-is_valid}
 
-is-sane : (c : Else-not-is_valid) → valid 3 c.args.g.merge ≡ true
-is-sane c = sym c.is_valid.ensures ∙ c.if-not-is_valid.false
+is_sane : (c : Else-not-is_valid) → valid 3 c.args.g.merge ≡ true
+is_sane c = sym c.is_valid.ensures ∙ c.if-not-is_valid.false
 
 pub returns-then-not-is_valid : goal.returns-then-not-is_valid
 unfolding read
@@ -17,9 +17,9 @@ returns-then-not-is_valid c = let g = c.args.g in
     rw v
 
 pub counter_at-c-requires : goal.counter_at-c-requires
-counter_at-c-requires c = record { fact_1 = is-sane (goal.at.counter_at-c-requires c).Else-not-is_valid; fact_2 = omega arith }
+counter_at-c-requires c = record { fact_1 = is_sane (goal.at.counter_at-c-requires c).Else-not-is_valid; fact_2 = omega arith }
 
 pub returns : goal.returns
 unfolding read reading decode
 returns c = let a = c.args in
-    rw (is-sane (goal.at.returns c).Else-not-is_valid, ← c.number_of.ensures) (ap (λ (x : Counter). record { status = 0; value = x.value; level = x.level }) c.counter_at-c.ensures)
+    rw (is_sane (goal.at.returns c).Else-not-is_valid, ← c.number_of.ensures) (ap (λ (x : Counter). record { status = 0; value = x.value; level = x.level }) c.counter_at-c.ensures)

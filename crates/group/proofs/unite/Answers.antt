@@ -6,7 +6,7 @@ use Rattle.little_endian.specs.Bytes.{number}
 use Rattle.group_layout.specs.Layout.{valid}
 use Rattle.group_block.specs.Block.{cap, total}
 use Rattle.group.specs.Group.{decode, unchanged}
-use Rattle.group.proofs.Laws.{united-refused, united-taken, united-stored}
+use Rattle.group.proofs.Laws.{united_refused, united_taken, united_stored}
 use Rattle.group.proofs.unite.Goals as goal
 use Rattle.group.proofs.unite.Goals.{After-number_of-source_word}
 
@@ -21,14 +21,14 @@ module _ (c : After-number_of-source_word) where
   source_in = rw (← c.number_of-source_word.ensures) (omega arith)
 
   taken : (valid 3 c.args.target.merge ≡ true) × (valid 3 c.args.source.merge ≡ true) × (total (decode c.args.target) + total (decode c.args.source) < 2 ^ 64)
-  taken = united-taken c.args.target c.args.source word_in source_in (sym c.unite_status-status.ensures ∙ c.if-status-ne0.false)
+  taken = united_taken c.args.target c.args.source word_in source_in (sym c.unite_status-status.ensures ∙ c.if-status-ne0.false)
 
 pub returns-then-status-ne0 : goal.returns-then-status-ne0
 returns-then-status-ne0 c = let u = c.unite_status-status in
     let a = c.args in
     c.unchanged.ensures
     ∙ ap (λ (n : ℕ). unchanged n a.target) u.ensures
-    ∙ sym (united-refused a.target a.source (λ z. c.if-status-ne0.true (u.ensures ∙ z)))
+    ∙ sym (united_refused a.target a.source (λ z. c.if-status-ne0.true (u.ensures ∙ z)))
 
 pub unite-requires : goal.unite-requires
 unfolding decode cap
@@ -41,4 +41,4 @@ returns c = let a = c.args in
     let t = taken (goal.at.returns c).After-number_of-source_word in
     c.settled.ensures
     ∙ rw (c.unite.ensures, c.number_of-word.ensures, c.number_of-source_word.ensures)
-    (sym (united-stored a.target a.source (word_in (goal.at.returns c).After-number_of-source_word) (source_in (goal.at.returns c).After-number_of-source_word) t.0 t.1 t.2))
+    (sym (united_stored a.target a.source (word_in (goal.at.returns c).After-number_of-source_word) (source_in (goal.at.returns c).After-number_of-source_word) t.0 t.1 t.2))

@@ -12,11 +12,11 @@ use Rattle.group_layout.proofs.+code.Goals as goal
 use Rattle.group_layout.proofs.+code.Goals.{After-layouts-2, Else-is_merged}
 
 -- the block is two halves
-is-apart : {t : ℕ} (c : Else-is_merged t) → is_merged (layout c.args.level c.args.merge) ≡ false
-is-apart c = sym c.is_merged.ensures ∙ c.if-is_merged.false
+is_apart : {t : ℕ} (c : Else-is_merged t) → is_merged (layout c.args.level c.args.merge) ≡ false
+is_apart c = sym c.is_merged.ensures ∙ c.if-is_merged.false
 
 above : {t : ℕ} (c : Else-is_merged t) → 0 < c.args.level
-above c = above_slot c.args.level c.args.merge (is-apart c)
+above c = above_slot c.args.level c.args.merge (is_apart c)
 
 product : {t : ℕ} (c : After-layouts-2 t) → c.code-left.result * c.layouts-2.result ≤ 25 * 26
 product c = mul-le-mul {n₁ = c.code-left.result} {m₁ = c.layouts-2.result} {n₂ = 25} {m₂ = 26} c.code-left.ensures.upper_bound c.layouts-2.ensures.lower_bound.1
@@ -61,5 +61,5 @@ returns t c = let a = c.args in
       c.code.ensures.value,
       c.high.ensures,
     )
-    (sym (layout_apart (λ n L. code_of L) a.level a.merge (is-apart (goal.at.returns t c).Else-is_merged)))) in
+    (sym (layout_apart (λ n L. code_of L) a.level a.merge (is_apart (goal.at.returns t c).Else-is_merged)))) in
     record { value = r.0; upper_bound = r.1 }

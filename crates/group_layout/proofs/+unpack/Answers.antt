@@ -14,16 +14,16 @@ above : {t : ℕ} (c : Else-code-eq0 t) → 0 < c.args.level
 above c = code_above_slot c.args.level c.args.code c.requires.1 c.if-code-eq0.false
 
 -- the code of a block that is not merged, and its parts
-not-merged : {t : ℕ} (c : Else-code-n t)
+not_merged : {t : ℕ} (c : Else-code-n t)
     → c.args.code ≡ layouts (c.args.level - 1) * layouts (c.args.level - 1) → ⊥
-not-merged c e = c.if-code-n.false (e ∙ ap (λ (n : ℕ). n * n) (sym c.layouts-n.ensures.value))
+not_merged c e = c.if-code-n.false (e ∙ ap (λ (n : ℕ). n * n) (sym c.layouts-n.ensures.value))
 
 parts : {t : ℕ} (c : Else-code-n t)
     → (c.args.code / c.layouts-n.result < layouts (c.args.level - 1))
     × (c.args.code % c.layouts-n.result < layouts (c.args.level - 1))
 parts {t = t} c =
     let a = c.args in
-    rw c.layouts-n.ensures.value (halves_lt a.level a.code (above (goal.at.Else-code-n t c).Else-code-eq0) c.requires.1 (not-merged c))
+    rw c.layouts-n.ensures.value (halves_lt a.level a.code (above (goal.at.Else-code-n t c).Else-code-eq0) c.requires.1 (not_merged c))
 
 pub returns-then-code-eq0 : goal.returns-then-code-eq0
 returns-then-code-eq0 t c = let a = c.args in sym (ap (λ (x : ℕ). marks (uncode a.level x)) c.if-code-eq0.true ∙ uncode_zero a.level)
@@ -54,4 +54,4 @@ pub returns : goal.returns
 returns t c = let a = c.args in
     c.beside.ensures
     ∙ rw (c.unpack.ensures, c.unpack-left.ensures, c.layouts-n.ensures.value)
-    (sym (uncode_apart a.level a.code (above (goal.at.returns t c).Else-code-eq0) (not-merged (goal.at.returns t c).Else-code-n)))
+    (sym (uncode_apart a.level a.code (above (goal.at.returns t c).Else-code-eq0) (not_merged (goal.at.returns t c).Else-code-n)))

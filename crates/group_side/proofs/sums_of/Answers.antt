@@ -2,7 +2,7 @@ use Rattle.std.proofs.Common.{◌-◌, replicate, sym, refl, ◌∙◌, arith, t
 use lib.ListN.{length-replicate}
 use Rattle.laws.proofs.Lists.{copy_more, copy_all}
 use Rattle.group_side.specs.Side.{wrapped_sums}
-use Rattle.group_side.proofs.Bytes.{fit-turn, fit_end, length_wrapped, wrapped_at}
+use Rattle.group_side.proofs.Bytes.{fit_turn, fit_end, length_wrapped, wrapped_at}
 use Rattle.group_side.proofs.sums_of.Goals as goal
 
 pub loop-i-init : goal.loop-i-init
@@ -16,7 +16,7 @@ loop-i-preserved c = let l = c.loop-i in
     let sum = c.wrapping_add_u8.ensures.value ∙ sym (wrapped_at xs ys l.i (omega arith) (omega arith)) in (
       omega arith,
       rw (sum, l.invariant.1) (copy_more (wrapped_sums xs ys) (replicate 64 0) l.i (omega (arith, length_wrapped xs ys)) (rw (length-replicate 64) (omega arith))),
-      rw c.carry-carries.ensures (fit-turn xs ys l.i (omega arith) (omega arith) l.carries ∙ l.invariant.2),
+      rw c.carry-carries.ensures (fit_turn xs ys l.i (omega arith) (omega arith) l.carries ∙ l.invariant.2),
     )
 
 pub returns : goal.returns

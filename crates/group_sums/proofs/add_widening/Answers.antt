@@ -38,9 +38,9 @@ module _ (s : Start) where
   halves_lt =
       omega (arith, halves_total (block 3 w m) s.args.slot (block_fits 3 w m word_in) (λ f. omega (arith, sym level_is ∙ f, s.requires.fact_4)))
 
-  fits-is : (summed (add (block 3 w m) s.args.slot s.args.amount)).over ≡ false
+  fits_is : (summed (add (block 3 w m) s.args.slot s.args.amount)).over ≡ false
   unfolding summed_as cap
-  fits-is =
+  fits_is =
       let x = add (block 3 w m) s.args.slot s.args.amount in
       let sound = add_sound (block 3 w m) s.args.slot s.args.amount (block_fits 3 w m word_in) in
       ap (λ (y : Sum 3). (summed y).over) (no_over x sound (omega (arith, halves_lt, add_total (block 3 w m) s.args.slot s.args.amount))).1
@@ -56,4 +56,4 @@ unfolding cap
 add-requires c = (omega arith, ((omega (arith, word_in (goal.at.add-requires c).Start), c.requires.fact_1), halves_lt (goal.at.add-requires c).Start))
 
 pub returns : goal.returns
-returns c = record { value = c.add.ensures; over_value = ap (λ (x : Summed). x.over) c.add.ensures ∙ fits-is (goal.at.returns c).Start }
+returns c = record { value = c.add.ensures; over_value = ap (λ (x : Summed). x.over) c.add.ensures ∙ fits_is (goal.at.returns c).Start }

@@ -9,8 +9,8 @@ use Rattle.group_sums.proofs.twin_sum.Goals as goal
 use Rattle.group_sums.proofs.twin_sum.Goals.{After-high_word}
 
 module _ (c : After-high_word) where
-  both-lt : c.value_at-both.result < cap (c.args.level + 1)
-  both-lt = omega (arith, c.value_at-both.ensures, mod-lt (c.args.word / 2 ^ c.args.place) (cap_pos (c.args.level + 1)))
+  both_lt : c.value_at-both.result < cap (c.args.level + 1)
+  both_lt = omega (arith, c.value_at-both.ensures, mod-lt (c.args.word / 2 ^ c.args.place) (cap_pos (c.args.level + 1)))
 
   sum_lt : c.low_word.result + c.high_word.result < 2 ^ 33
   sum_lt =
@@ -19,7 +19,7 @@ module _ (c : After-high_word) where
         c.low_word.ensures,
         c.high_word.ensures,
         mod-lt c.value_at-both.result (cap_pos c.args.level),
-        high_lt c.args.level c.value_at-both.result (rw (add-one c.args.level) at both-lt),
+        high_lt c.args.level c.value_at-both.result (rw (add-one c.args.level) at both_lt),
         cap_below c.args.level c.requires.fact_1,
       )
 

@@ -23,17 +23,17 @@ module _ (c : After-place-at) where
   abbrev p : ℕ
   p = c.place-at.result / 8
 
-  p-is : p ≡ c.args.slot / 2 ^ suc c.args.level * 2 ^ suc c.args.level
-  p-is = rw (← add-one c.args.level) (omega (arith, c.place-at.ensures.value))
+  p_is : p ≡ c.args.slot / 2 ^ suc c.args.level * 2 ^ suc c.args.level
+  p_is = rw (← add-one c.args.level) (omega (arith, c.place-at.ensures.value))
 
-  p-eight : 8 * p ≡ c.place-at.result
-  p-eight = omega (arith, c.place-at.ensures.value)
+  p_eight : 8 * p ≡ c.place-at.result
+  p_eight = omega (arith, c.place-at.ensures.value)
 
-  p-multiple : p % 2 ^ (c.args.level + 1) ≡ 0
-  p-multiple = rw (add-one c.args.level, p-is) (mul-mod_left (c.args.slot / 2 ^ suc c.args.level) (2 ^ suc c.args.level))
+  p_multiple : p % 2 ^ (c.args.level + 1) ≡ 0
+  p_multiple = rw (add-one c.args.level, p_is) (mul-mod_left (c.args.slot / 2 ^ suc c.args.level) (2 ^ suc c.args.level))
 
-  p-in : p + 2 ^ c.args.level < 8
-  p-in = second_in c.args.slot c.args.level p c.requires.fact_3 c.requires.fact_2 p-is
+  p_in : p + 2 ^ c.args.level < 8
+  p_in = second_in c.args.slot c.args.level p c.requires.fact_3 c.requires.fact_2 p_is
 
 -- where both counters have this level and the next level holds the sum
 module _ (c : Else-most-sum) where
@@ -69,7 +69,7 @@ module _ (c : Else-most-sum) where
       c.requires.fact_1 clean c.requires.fact_3 c.requires.fact_2 c.place-at.ensures.value both.0 both.1 past sum sum_is small
 
 pub twins-requires : goal.twins-requires
-twins-requires c = record { fact_1 = c.requires.fact_1; fact_2 = c.requires.fact_2; fact_3 = p-in c }
+twins-requires c = record { fact_1 = c.requires.fact_1; fact_2 = c.requires.fact_2; fact_3 = p_in c }
 
 pub returns-then-not-twins : goal.returns-then-not-twins
 returns-then-not-twins c = λ e. absurd (true≢false e)
@@ -81,7 +81,7 @@ pub put-requires : goal.put-requires
 put-requires c = record { fact_1 = omega arith; fact_2 = c.place-at.ensures.upper_bound; fact_3 = number_in c }
 
 pub formed-requires : goal.formed-requires
-formed-requires c = record { fact_1 = c.requires.fact_1; fact_2 = c.requires.fact_2; fact_3 = p-in (goal.at.formed-requires c).After-place-at; fact_4 = (p-multiple (goal.at.formed-requires c).After-place-at, (both (goal.at.formed-requires c).Else-most-sum).0) }
+formed-requires c = record { fact_1 = c.requires.fact_1; fact_2 = c.requires.fact_2; fact_3 = p_in (goal.at.formed-requires c).After-place-at; fact_4 = (p_multiple (goal.at.formed-requires c).After-place-at, (both (goal.at.formed-requires c).Else-most-sum).0) }
 
 pub returns : goal.returns
 returns c = λ z. let a = c.args in

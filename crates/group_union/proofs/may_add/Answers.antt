@@ -3,7 +3,7 @@ use Prim.Native.Nat.{ℕ, ◌*◌, ◌<◌}
 use native.Mathlib.Omega.{arith}
 use borrow.Author.Tests.{eq-eqb, ne_eqb}
 use lib.Bits.{bit_xor, and_le_r, xor_lt}
-use Rattle.group_union.proofs.Starts.{starts-keep, past-not-kept}
+use Rattle.group_union.proofs.Starts.{starts_keep, past_not_kept}
 use Rattle.group_union.proofs.may_add.Goals as goal
 
 turned_lt : (m : ℕ) → m < 256 → bit_xor 127 m < 256
@@ -16,7 +16,7 @@ pub returns-then-word-other_word : goal.returns-then-word-other_word
 returns-then-word-other_word c = λ n h s k.
     let a = c.args in
     rw (← c.if-merge-other_merge.false, eq-eqb a.merge a.merge refl)
-    (sym (past-not-kept n a.word a.other_word a.merge h s.1 s.0 k (omega arith)))
+    (sym (past_not_kept n a.word a.other_word a.merge h s.1 s.0 k (omega arith)))
 
 pub overflow_cast-starts : goal.overflow_cast-starts
 overflow_cast-starts c = omega (arith, turned_lt c.args.merge (omega arith))
@@ -31,4 +31,4 @@ pub returns : goal.returns
 returns c = λ n h s k.
     let a = c.args in
     rw (← c.if-merge-other_merge.false, eq-eqb a.merge a.merge refl)
-    (starts-keep n a.word a.other_word a.merge h s.1 s.0 k (omega arith))
+    (starts_keep n a.word a.other_word a.merge h s.1 s.0 k (omega arith))

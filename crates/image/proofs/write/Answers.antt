@@ -3,7 +3,7 @@ use Prim.Native.Nat.{◌+◌, ◌≤◌}
 use native.Mathlib.Omega.{arith}
 use lib.ListN.{length}
 use Rattle.image_size.proofs.Laws.{image_length}
-use Rattle.image.proofs.Calls.{write-call, write-invalid, write-short, write_done}
+use Rattle.image.proofs.Calls.{write_call, write_invalid, write_short, write_done}
 use Rattle.answer.specs.Answers.{accepted}
 use Rattle.image_format.specs.Image.{image}
 use Rattle.image_format.specs.Write.{group_size, Written}
@@ -18,7 +18,7 @@ use Rattle.image.proofs.write.Goals.{Else-status-ne0}
 pub returns-then-status-ne0 : goal.returns-then-status-ne0
 returns-then-status-ne0 c = let a = c.args in
     let s = c.bad_shape-status in
-    let e = write-call a.d a.w a.memory.now a.words.now s.result s.ensures c.if-status-ne0.true in record { value = c.refused.ensures ∙ ap (λ (x : Written). x.answer) (sym e); words_after = ap (λ (x : Written). x.words) (sym e) }
+    let e = write_call a.d a.w a.memory.now a.words.now s.result s.ensures c.if-status-ne0.true in record { value = c.refused.ensures ∙ ap (λ (x : Written). x.answer) (sym e); words_after = ap (λ (x : Written). x.words) (sym e) }
 
 -- a call whose depth, width and memory have passed
 shape : (c : Else-status-ne0) → let a = c.args in (1 ≤ a.d) × RowsIn a.d a.w (length a.memory.now)
@@ -32,7 +32,7 @@ returns-then-not-rows_valid c = let a = c.args in
     let s = c.bad_shape-status in
     let z = c.if-status-ne0.false in
     let v = sym c.rows_valid.ensures ∙ c.if-not-rows_valid.true in
-    let e = write-invalid a.d a.w a.memory.now a.words.now s.result s.ensures z v in record { value = c.refused-then-not-rows_valid.ensures ∙ ap (λ (x : Written). x.answer) (sym e); words_after = ap (λ (x : Written). x.words) (sym e) }
+    let e = write_invalid a.d a.w a.memory.now a.words.now s.result s.ensures z v in record { value = c.refused-then-not-rows_valid.ensures ∙ ap (λ (x : Written). x.answer) (sym e); words_after = ap (λ (x : Written). x.words) (sym e) }
 
 pub table_size-n-requires : goal.table_size-n-requires
 table_size-n-requires c = let a = c.args in
@@ -47,7 +47,7 @@ returns-then-words-count c = let a = c.args in
     let s = c.bad_shape-status in
     let z = c.if-status-ne0.false in
     let v = sym c.rows_valid.ensures ∙ c.if-not-rows_valid.false in
-    let e = write-short a.d a.w a.memory.now a.words.now s.result s.ensures z v (omega (arith, image_length a.d a.w a.memory.now, c.rows_size-count.ensures.value)) in record { value = c.refused-then-words-count.ensures ∙ ap (λ (x : Written). x.answer) (sym e); words_after = ap (λ (x : Written). x.words) (sym e) }
+    let e = write_short a.d a.w a.memory.now a.words.now s.result s.ensures z v (omega (arith, image_length a.d a.w a.memory.now, c.rows_size-count.ensures.value)) in record { value = c.refused-then-words-count.ensures ∙ ap (λ (x : Written). x.answer) (sym e); words_after = ap (λ (x : Written). x.words) (sym e) }
 
 pub put_image-requires : goal.put_image-requires
 put_image-requires c = let a = c.args in

@@ -12,7 +12,7 @@ use Rattle.image_format.specs.Write.{group_size}
 use Rattle.image_format.specs.Read.{read_group}
 use Rattle.image_format.specs.Fields.{group_fields, field_at, Described}
 use Rattle.image_format.proofs.Fields.{size_most}
-use Rattle.image_reader.proofs.Fields.{fields_sum, read-fields, sum_step, sum_none, described_in}
+use Rattle.image_reader.proofs.Fields.{fields_sum, read_fields_lem, sum_step, sum_none, described_in}
 use Rattle.image_reader.proofs.read_fields.Goals as goal
 use Rattle.image_reader.proofs.read_fields.Goals.{After-payload, Start}
 
@@ -29,7 +29,7 @@ module _ (s : Start) where
 
   whole : let x = fields_sum (group_fields merge) s.args.words.now s.args.p in
       (read_group merge s.args.words.now s.args.p ≡ group_of merge (record { word = x })) × (x < 2 ^ 64)
-  whole = read-fields merge (code_merge_lem s.args.c s.requires.fact_1).0 s.args.words.now s.args.p
+  whole = read_fields_lem merge (code_merge_lem s.args.c s.requires.fact_1).0 s.args.words.now s.args.p
 
 pub overflow_cast-n : goal.overflow_cast-n
 overflow_cast-n c = omega (arith, size (goal.at.overflow_cast-n c).Start)
@@ -39,10 +39,10 @@ loop-i-init c = let e : c.none-x.result.word ≡ 0 = ap (λ (f : fields.Fields).
     (omega arith, size (goal.at.loop-i-init c).Start, (told (goal.at.loop-i-init c).Start).0, rw e (zero-add _ ∙ ap (fields_sum (group_fields (merge (goal.at.loop-i-init c).Start)) c.args.words.now) (add-zero c.args.p)))
 
 -- a word more of the sum
-turn-sum : (c : After-payload) → let l = c.loop-i in let t = c.args.fields.now in
+turn_sum : (c : After-payload) → let l = c.loop-i in let t = c.args.fields.now in
     l.x.word + c.payload.result % 2 ^ get_or t (17 * c.args.c + 9 + l.i) 0 * 2 ^ get_or t (17 * c.args.c + 1 + l.i) 0
     + fields_sum (drop (l.i + 1) (group_fields (merge (goal.at.After-payload c).Start))) c.args.words.now (c.args.p + (l.i + 1)) ≡ fields_sum (group_fields (merge (goal.at.After-payload c).Start)) c.args.words.now c.args.p
-turn-sum c = let l = c.loop-i in
+turn_sum c = let l = c.loop-i in
     let t = c.args.fields.now in
     let h : l.i < group_size (merge (goal.at.After-payload c).Start) = omega arith in
     let d = (told (goal.at.After-payload c).Start).1 l.i h in
@@ -53,11 +53,11 @@ turn-sum c = let l = c.loop-i in
 
 pub put-x-requires : goal.put-x-requires
 put-x-requires c = let l = c.loop-i in
-    let d = described_in (merge (goal.at.put-x-requires c).Start) c.args.fields.now (17 * c.args.c) l.i (told (goal.at.put-x-requires c).Start) (omega arith) in record { fact_1 = d.2; fact_2 = d.0; fact_3 = d.1; fact_4 = omega (arith, turn-sum c, (whole (goal.at.put-x-requires c).Start).1) }
+    let d = described_in (merge (goal.at.put-x-requires c).Start) c.args.fields.now (17 * c.args.c) l.i (told (goal.at.put-x-requires c).Start) (omega arith) in record { fact_1 = d.2; fact_2 = d.0; fact_3 = d.1; fact_4 = omega (arith, turn_sum c, (whole (goal.at.put-x-requires c).Start).1) }
 
 pub loop-i-preserved : goal.loop-i-preserved
 loop-i-preserved c = let l = c.loop-i in
-    (omega arith, l.invariant.1, l.invariant.2, rw c.put-x.ensures (turn-sum (goal.at.loop-i-preserved c).After-payload))
+    (omega arith, l.invariant.1, l.invariant.2, rw c.put-x.ensures (turn_sum (goal.at.loop-i-preserved c).After-payload))
 
 pub returns : goal.returns
 returns c = let l = c.loop-i in

@@ -7,7 +7,7 @@ use Rattle.geometry.specs.Geometry.{stride}
 use native.Mathlib.Nat.{sub-zero, zero-mul}
 use Rattle.image_format.specs.Read.{read_rows}
 use Rattle.geometry.proofs.Widths.{row_in}
-use Rattle.image_reader.proofs.Laws.{rows_from, read-rows-turn, read_rows_end}
+use Rattle.image_reader.proofs.Laws.{rows_from, read_rows_turn, read_rows_end}
 use Rattle.image_reader.proofs.read_rows.Goals as goal
 use Rattle.image_reader.proofs.read_rows.Goals.{In-loop-r}
 
@@ -50,7 +50,7 @@ loop-r-preserved c = let l = c.loop-r in
       omega arith,
       omega arith,
       ap (rows_from a.d (l.r + 1) a.w _ a.words.now) s.ensures.value
-          ∙ read-rows-turn a.d l.r a.w l.memory s.new.row a.words.now l.at _ l.invariant.1 (omega arith) (omega (arith, fit)) (omega (arith, fit)) s.ensures.row_after ∙ l.invariant.4,
+          ∙ read_rows_turn a.d l.r a.w l.memory s.new.row a.words.now l.at _ l.invariant.1 (omega arith) (omega (arith, fit)) (omega (arith, fit)) s.ensures.row_after ∙ l.invariant.4,
     )
 
 pub returns : goal.returns

@@ -5,8 +5,8 @@ use Rattle.group.specs.declared.Reading.{Reading}
 use Rattle.answer.specs.Answers.{answer_of}
 use lib.ListN.{get_or}
 use Rattle.meter_keys.specs.Keys.{key_slot}
-use Rattle.meter.proofs.Calls.{call_rows, estimated-good}
-use Rattle.meter.proofs.Slots.{read-status-by-key, read-value-by-key, one_long, one-read-status, one-read-value}
+use Rattle.meter.proofs.Calls.{call_rows, estimated_good}
+use Rattle.meter.proofs.Slots.{read_status_by_key, read_value_by_key, one_long, one_read_status, one_read_value}
 use Rattle.meter.proofs.estimate_checked.Goals as goal
 
 pub row_slot-requires : goal.row_slot-requires
@@ -21,9 +21,9 @@ returns-then-d-eq1 c = let found = c.read_row-c.ensures in
     let long = one_long a.d a.w _ c.if-d-eq1.true (call_rows _ _ _ _ c.requires).1.2 in
     let at = c.row_slot.ensures.value ∙ ap (λ (b : List ℕ). key_slot c.start.result.state a.w b 0) c.whole-bytes.ensures in
     let start = c.start.ensures in
-    let status = ap (λ (x : Reading). x.status) found ∙ one-read-status a.d a.w a.memory.now a.key.now c.if-d-eq1.true long start at in
-    let value = ap (λ (x : Reading). x.value) found ∙ one-read-value a.d a.w a.memory.now a.key.now c.if-d-eq1.true long start at in
-    c.answer_of.ensures ∙ ap₂ answer_of status value ∙ estimated-good a.d a.w a.memory.now a.key.now c.requires
+    let status = ap (λ (x : Reading). x.status) found ∙ one_read_status a.d a.w a.memory.now a.key.now c.if-d-eq1.true long start at in
+    let value = ap (λ (x : Reading). x.value) found ∙ one_read_value a.d a.w a.memory.now a.key.now c.if-d-eq1.true long start at in
+    c.answer_of.ensures ∙ ap₂ answer_of status value ∙ estimated_good a.d a.w a.memory.now a.key.now c.requires
 
 pub key_slots-slots-requires : goal.key_slots-slots-requires
 key_slots-slots-requires c = let p = (call_rows _ _ _ _ c.requires).1 in record { fact_1 = p.0; fact_2 = p.1 }
@@ -38,6 +38,6 @@ returns c = let found = c.read_rows-found.ensures in
     let start = c.start-2.ensures in
     let at : (r : ℕ) → r < a.d → get_or slots.result r 0 ≡ key_slot c.start-2.result.state a.w a.key.now r =
     λ r h. slots.ensures.by_index r h ∙ ap (λ (b : List ℕ). key_slot c.start-2.result.state a.w b r) c.whole-bytes.ensures in
-    let status = found.status_value ∙ read-status-by-key a.d a.w a.memory.now a.key.now slots.result start at in
-    let value = found.value_value ∙ read-value-by-key a.d a.w a.memory.now a.key.now slots.result start at in
-    c.answer_of-2.ensures ∙ ap₂ answer_of status value ∙ estimated-good a.d a.w a.memory.now a.key.now c.requires
+    let status = found.status_value ∙ read_status_by_key a.d a.w a.memory.now a.key.now slots.result start at in
+    let value = found.value_value ∙ read_value_by_key a.d a.w a.memory.now a.key.now slots.result start at in
+    c.answer_of-2.ensures ∙ ap₂ answer_of status value ∙ estimated_good a.d a.w a.memory.now a.key.now c.requires

@@ -14,9 +14,9 @@ use Rattle.meter_memory.specs.Rows.{map_rows, of_rows, least}
 use Rattle.meter_keys.specs.Keys.{key_slot}
 use Rattle.meter_row.specs.Row.{update_status, update_row}
 use Rattle.meter.specs.Meter.{bad_call, updated, estimated}
-use Rattle.meter.proofs.Calls.{call_rows, updated-rows}
-use Rattle.meter.proofs.Slots.{left_value, status-by-key, added-by-key, left-by-key, one_long, one-status, one-added, one_left}
-use Rattle.meter.proofs.Reading.{rows_status, value_is, value-left}
+use Rattle.meter.proofs.Calls.{call_rows, updated_rows}
+use Rattle.meter.proofs.Slots.{left_value, status_by_key, added_by_key, left_by_key, one_long, one_status, one_added, one_left}
+use Rattle.meter.proofs.Reading.{rows_status, value_is, value_left}
 use Rattle.meter.proofs.update_reading.Goals as goal
 use Rattle.meter.proofs.update_reading.Goals.{After-key_slots-slots}
 
@@ -40,13 +40,13 @@ module _ (d w : ℕ) (memory key : List ℕ) (amount : ℕ) (good : bad_call d w
   by_rows u a m is status value after =
       let s : a.status ≡ u.status = ap (λ (x : Answer). x.status) is ∙ status_is u.status u.value in
       let t = rows_status d w memory key amount u.status good status in
-      let n = (updated-rows d w memory key amount good u.status m status after).1 in (
+      let n = (updated_rows d w memory key amount good u.status m status after).1 in (
         s ∙ t,
         (
           n,
           λ e.
               ap (λ (x : Answer). x.value) (is ∙ ap (λ (x : ℕ). answer_of x u.value) (sym s ∙ e)) ∙ value_is u.value
-              ∙ value-left d w memory key amount (sym t ∙ sym s ∙ e) m u.value good n value,
+              ∙ value_left d w memory key amount (sym t ∙ sym s ∙ e) m u.value good n value,
         ),
       )
 
@@ -57,10 +57,10 @@ returns-then-d-eq1 c = let u = c.update_one-one in
     let at = c.row_slot-slot.ensures.value ∙ ap (λ (b : List ℕ). key_slot c.start.result.state a.w b 0) c.whole-bytes.ensures in
     let start = c.start.ensures in
     let r = by_rows a.d a.w a.memory.now a.key.now a.amount c.requires u.result c.answer_of.result u.new.row c.answer_of.ensures
-    (u.ensures.status_value ∙ one-status a.d a.w a.memory.now a.key.now c.if-d-eq1.true long start at a.amount)
+    (u.ensures.status_value ∙ one_status a.d a.w a.memory.now a.key.now c.if-d-eq1.true long start at a.amount)
     (u.ensures.value_value ∙ one_left a.d a.w a.memory.now a.key.now c.if-d-eq1.true long start at a.amount)
     (u.ensures.row_after
-    ∙ ap (λ (m : List ℕ). cond (eqb u.result.status 0) m a.memory.now) (one-added a.d a.w a.memory.now a.key.now c.if-d-eq1.true long start at a.amount)) in
+    ∙ ap (λ (m : List ℕ). cond (eqb u.result.status 0) m a.memory.now) (one_added a.d a.w a.memory.now a.key.now c.if-d-eq1.true long start at a.amount)) in
     record { status_value = r.0; memory_after = r.1.0; value_value = r.1.1 }
 
 pub key_slots-slots-requires : goal.key_slots-slots-requires
@@ -70,10 +70,10 @@ pub update_rows-all-requires : goal.update_rows-all-requires
 update_rows-all-requires c = let p = call_rows _ _ _ _ c.requires in record { fact_1 = p.0; fact_2 = p.1; fact_3 = c.key_slots-slots.ensures.by_index_2 }
 
 -- the slots are the key's
-key-slots-at : (c : After-key_slots-slots)
+key_slots_at : (c : After-key_slots-slots)
     → let a = c.args in
     (r : ℕ) → r < a.d → get_or c.key_slots-slots.result r 0 ≡ key_slot c.start-2.result.state a.w a.key.now r
-key-slots-at c r h = c.key_slots-slots.ensures.by_index r h ∙ ap (λ (b : List ℕ). key_slot c.start-2.result.state c.args.w b r) c.whole-bytes.ensures
+key_slots_at c r h = c.key_slots-slots.ensures.by_index r h ∙ ap (λ (b : List ℕ). key_slot c.start-2.result.state c.args.w b r) c.whole-bytes.ensures
 
 pub returns : goal.returns
 returns c = let u = c.update_rows-all in
@@ -81,8 +81,8 @@ returns c = let u = c.update_rows-all in
     let start = c.start-2.ensures in
     let slots = c.key_slots-slots.result in
     let r = by_rows a.d a.w a.memory.now a.key.now a.amount c.requires u.result c.answer_of-2.result u.new.memory c.answer_of-2.ensures
-    (u.ensures.status_value ∙ status-by-key a.d a.w a.memory.now a.key.now slots start (key-slots-at (goal.at.returns c).After-key_slots-slots) a.amount)
-    (u.ensures.value_value ∙ left-by-key a.d a.w a.memory.now a.key.now slots start (key-slots-at (goal.at.returns c).After-key_slots-slots) a.amount)
+    (u.ensures.status_value ∙ status_by_key a.d a.w a.memory.now a.key.now slots start (key_slots_at (goal.at.returns c).After-key_slots-slots) a.amount)
+    (u.ensures.value_value ∙ left_by_key a.d a.w a.memory.now a.key.now slots start (key_slots_at (goal.at.returns c).After-key_slots-slots) a.amount)
     (u.ensures.memory_after
-    ∙ ap (λ (m : List ℕ). cond (eqb u.result.status 0) m a.memory.now) (added-by-key a.d a.w a.memory.now a.key.now slots start (key-slots-at (goal.at.returns c).After-key_slots-slots) a.amount)) in
+    ∙ ap (λ (m : List ℕ). cond (eqb u.result.status 0) m a.memory.now) (added_by_key a.d a.w a.memory.now a.key.now slots start (key_slots_at (goal.at.returns c).After-key_slots-slots) a.amount)) in
     record { status_value = r.0; memory_after = r.1.0; value_value = r.1.1 }

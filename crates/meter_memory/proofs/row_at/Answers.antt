@@ -7,17 +7,17 @@ use Rattle.meter_memory.proofs.Lists.{lent, row_length}
 use Rattle.meter_memory.proofs.row_at.Goals as goal
 use Rattle.meter_memory.proofs.row_at.Goals.{After-stride-stride}
 
-row-end : (c : After-stride-stride) → c.args.r * c.stride-stride.result + c.stride-stride.result ≤ length c.args.memory.now
-row-end c = rw c.stride-stride.ensures c.requires.2
+row_end : (c : After-stride-stride) → c.args.r * c.stride-stride.result + c.stride-stride.result ≤ length c.args.memory.now
+row_end c = rw c.stride-stride.ensures c.requires.2
 
 pub overflow_mul-start : goal.overflow_mul-start
-overflow_mul-start c = omega (arith, row-end c)
+overflow_mul-start c = omega (arith, row_end c)
 
 pub overflow_add-end : goal.overflow_add-end
-overflow_add-end c = omega (arith, row-end c)
+overflow_add-end c = omega (arith, row_end c)
 
 pub slice_bounds-result-end : goal.slice_bounds-result-end
-slice_bounds-result-end c = omega (arith, row-end c)
+slice_bounds-result-end c = omega (arith, row_end c)
 
 pub returns : goal.returns
 returns c = let a = c.args in

@@ -1,5 +1,5 @@
 use Rattle.meter_row.specs.Row.{level_status, group_level, widest_status, widest_row}
-use Rattle.meter_memory.proofs.Lists.{status_start, level_start, status-turn, status-end, level-turn, level-end}
+use Rattle.meter_memory.proofs.Lists.{status_start, level_start, status_turn, status_end, level_turn, level_end}
 use mathlib.Core.Path.{refl, sym, ap, ◌∙◌}
 use Prim.Native.Nat.{◌-◌, ◌/◌}
 use native.Mathlib.Omega.{arith}
@@ -29,11 +29,11 @@ loop-g-preserved c = let a = c.args in
       omega arith,
       l.invariant.1,
       rw c.earlier-status.ensures
-          (status-turn (level_status a.w a.row.now) (a.w / 8) l.g l.status c.widest-a.result.status (omega arith) (ap (λ (x : Answer). x.status) w) ∙ l.invariant.2),
+          (status_turn (level_status a.w a.row.now) (a.w / 8) l.g l.status c.widest-a.result.status (omega arith) (ap (λ (x : Answer). x.status) w) ∙ l.invariant.2),
       rw c.larger-value.ensures
-          (level-turn (group_level a.w a.row.now) (a.w / 8) l.g l.value c.widest-a.result.value (omega arith) (ap (λ (x : Answer). x.value) w) ∙ l.invariant.3),
+          (level_turn (group_level a.w a.row.now) (a.w / 8) l.g l.value c.widest-a.result.value (omega arith) (ap (λ (x : Answer). x.value) w) ∙ l.invariant.3),
     )
 
 pub returns : goal.returns
 returns c = let a = c.args in
-    let l = c.loop-g in record { status_value = sym (status-end (level_status a.w a.row.now) (a.w / 8) l.g l.status (omega arith)) ∙ l.invariant.2; value_value = sym (level-end (group_level a.w a.row.now) (a.w / 8) l.g l.value (omega arith)) ∙ l.invariant.3 }
+    let l = c.loop-g in record { status_value = sym (status_end (level_status a.w a.row.now) (a.w / 8) l.g l.status (omega arith)) ∙ l.invariant.2; value_value = sym (level_end (group_level a.w a.row.now) (a.w / 8) l.g l.value (omega arith)) ∙ l.invariant.3 }

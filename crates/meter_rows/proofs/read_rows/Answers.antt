@@ -10,7 +10,7 @@ use Rattle.answer.specs.Order.{earlier, earliest}
 use Rattle.meter_memory.specs.Rows.{of_rows, group_at, least_or}
 use Rattle.meter_memory.specs.Rows.{row_of}
 use Rattle.geometry.proofs.Widths.{one_row}
-use Rattle.meter_memory.proofs.Gather.{status-turn, status-end, least_start, least-turn, least-end, statuses-start}
+use Rattle.meter_memory.proofs.Gather.{status_turn, status_end, least_start, least_turn, least_end, statuses_start}
 use Rattle.meter_row.specs.Slots.{slot_status, slot_value}
 use Rattle.meter_rows.proofs.read_rows.Goals as goal
 
@@ -31,7 +31,7 @@ loop-r-init c = let a = c.args in
       omega arith,
       omega arith,
       ap (λ (x : Reading). earlier x.status (earliest (of_rows (slot_status a.w a.slots.now) (stride a.w) (a.d - 1) 1 (drop (1 * stride a.w) a.memory.now)))) e
-          ∙ statuses-start (slot_status a.w a.slots.now) a.w a.d a.memory.now c.requires.fact_1,
+          ∙ statuses_start (slot_status a.w a.slots.now) a.w a.d a.memory.now c.requires.fact_1,
       ap (λ (x : Reading). least_or x.value (of_rows (slot_value a.w a.slots.now) (stride a.w) (a.d - 1) 1 (drop (1 * stride a.w) a.memory.now))) e
           ∙ least_start (slot_value a.w a.slots.now) a.w a.d a.memory.now c.requires.fact_1,
     )
@@ -54,11 +54,11 @@ loop-r-preserved c = let a = c.args in
       omega arith,
       omega arith,
       rw c.earlier-status.ensures
-          (status-turn (slot_status a.w a.slots.now) a.w a.d l.r a.memory.now l.status x.result.status (omega arith) (ap (λ (y : Reading). y.status) e) ∙ l.invariant.2),
+          (status_turn (slot_status a.w a.slots.now) a.w a.d l.r a.memory.now l.status x.result.status (omega arith) (ap (λ (y : Reading). y.status) e) ∙ l.invariant.2),
       rw c.smaller-value.ensures
-          (least-turn (slot_value a.w a.slots.now) a.w a.d a.memory.now l.r l.value x.result.value (omega arith) (ap (λ (y : Reading). y.value) e) ∙ l.invariant.3),
+          (least_turn (slot_value a.w a.slots.now) a.w a.d a.memory.now l.r l.value x.result.value (omega arith) (ap (λ (y : Reading). y.value) e) ∙ l.invariant.3),
     )
 
 pub returns : goal.returns
 returns c = let a = c.args in
-    let l = c.loop-r in record { status_value = sym (status-end (slot_status a.w a.slots.now) a.w a.d l.r a.memory.now l.status (omega arith)) ∙ l.invariant.2; value_value = sym (least-end (slot_value a.w a.slots.now) a.w a.d a.memory.now l.r l.value (omega arith)) ∙ l.invariant.3 }
+    let l = c.loop-r in record { status_value = sym (status_end (slot_status a.w a.slots.now) a.w a.d l.r a.memory.now l.status (omega arith)) ∙ l.invariant.2; value_value = sym (least_end (slot_value a.w a.slots.now) a.w a.d a.memory.now l.r l.value (omega arith)) ∙ l.invariant.3 }

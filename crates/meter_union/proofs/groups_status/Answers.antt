@@ -4,7 +4,7 @@ use Rattle.meter_memory.specs.Pairs.{paired_at, pair_status}
 use Rattle.meter_union.specs.Union.{united_status}
 use Rattle.meter_runs.specs.Runs.{run_status}
 use Rattle.meter_union.specs.Runs.{groups_status}
-use Rattle.meter_memory.proofs.Lists.{status-turn, status-end}
+use Rattle.meter_memory.proofs.Lists.{status_turn, status_end}
 use mathlib.Core.Path.{refl, sym, ap, ap₂, ◌∙◌}
 use Prim.Native.Nat.{ℕ, ◌+◌, ◌-◌}
 use native.Mathlib.Omega.{arith}
@@ -24,7 +24,7 @@ loop-g-preserved c = let a = c.args in
       omega arith,
       refl,
       rw c.earlier-status.ensures
-          (status-turn (united_status a.w a.source.now a.row.now) (a.first + a.n) l.g l.status c.unite_status-s.result (omega arith)
+          (status_turn (united_status a.w a.source.now a.row.now) (a.first + a.n) l.g l.status c.unite_status-s.result (omega arith)
           (c.unite_status-s.ensures ∙ ap₂ (λ (x y : Group). (united_groups x y).status) c.load.ensures c.load-in-loop-g.ensures)
           ∙ l.invariant.3),
     )
@@ -33,4 +33,4 @@ pub returns : goal.returns
 unfolding run_status
 returns c = let a = c.args in
     let l = c.loop-g in
-    sym (status-end (united_status a.w a.source.now a.row.now) (a.first + a.n) l.g l.status (omega arith)) ∙ l.invariant.3
+    sym (status_end (united_status a.w a.source.now a.row.now) (a.first + a.n) l.g l.status (omega arith)) ∙ l.invariant.3

@@ -4,7 +4,7 @@ use native.Mathlib.Omega.{arith}
 use Rattle.meter_memory.specs.Pairs.{pair_row}
 use Rattle.meter_union.specs.Union.{unite_groups}
 use Rattle.group.specs.Group.{united_groups}
-use Rattle.meter_memory.proofs.Pairs.{pair-run}
+use Rattle.meter_memory.proofs.Pairs.{pair_run}
 use Rattle.geometry.proofs.Widths.{stride_is}
 use Rattle.meter_union.proofs.unite_row.Goals as goal
 
@@ -23,7 +23,7 @@ loop-e-preserved c = let a = c.args in
     let e : 8 * (l.e + 1) ≡ 8 * l.e + 8 = omega arith in (
       omega arith,
       refl,
-      rw (c.unite_eight.ensures, e) (pair-run united_groups a.w a.source.now 8 l.row (a.w / 8) (8 * l.e) (omega arith) ∙ l.invariant.2),
+      rw (c.unite_eight.ensures, e) (pair_run united_groups a.w a.source.now 8 l.row (a.w / 8) (8 * l.e) (omega arith) ∙ l.invariant.2),
       omega arith,
     )
 

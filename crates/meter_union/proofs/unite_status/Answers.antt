@@ -9,7 +9,7 @@ use Rattle.geometry.proofs.Widths.{stride_is}
 use Rattle.meter_memory.specs.Pairs.{pairs_status}
 use Rattle.meter_union.specs.Runs.{next_merged, groups_status}
 use Rattle.meter_runs.specs.Runs.{run_status}
-use Rattle.meter_runs.proofs.Runs.{status-next}
+use Rattle.meter_runs.proofs.Runs.{status_next}
 use Rattle.meter_union.proofs.Runs.{united_status_lem, next_in, next_status}
 use Rattle.meter_union.proofs.unite_status.Goals as goal
 use Rattle.meter_union.proofs.unite_status.Goals.{After-shared_slice_known-2-1}
@@ -53,7 +53,7 @@ loop-e-preserved c = let a = c.args in
     let at : 8 * (l.e + 1) ≡ 8 * l.e + 8 = omega arith in (
       p.1,
       rw (p.2, c.earlier-status.ensures, at)
-          (status-next united_groups a.w a.source.now (a.w / 8) (8 * l.e) 8 a.row.now l.status g.result (omega arith) g.ensures ∙ l.invariant.1),
+          (status_next united_groups a.w a.source.now (a.w / 8) (8 * l.e) 8 a.row.now l.status g.result (omega arith) g.ensures ∙ l.invariant.1),
     )
 
 pub none_merged-requires : goal.none_merged-requires

@@ -13,8 +13,8 @@ use Rattle.meter_update.proofs.update_rows.Goals as goal
 use Rattle.meter_update.proofs.update_rows.Goals.{In-loop-r}
 
 -- row r ends in the memory
-row-end : (c : In-loop-r) → c.loop-r.r * c.stride-stride.result + c.stride-stride.result ≤ length c.loop-r.memory
-row-end c =
+row_end : (c : In-loop-r) → c.loop-r.r * c.stride-stride.result + c.stride-stride.result ≤ length c.loop-r.memory
+row_end c =
     let i = one_row c.args.d c.args.w c.loop-r.r c.requires.fact_2 c.loop-r-test.true in
     rw c.stride-stride.ensures (omega (arith, i.2))
 
@@ -32,13 +32,13 @@ loop-r-init c = let a = c.args in
     (omega arith, rows_start (stored a.w a.slots.now c.try_rows-t.result.groups) c.stride-stride.result a.d a.memory.now, refl)
 
 pub overflow_mul-a : goal.overflow_mul-a
-overflow_mul-a c = omega (arith, row-end c)
+overflow_mul-a c = omega (arith, row_end c)
 
 pub overflow_add-e : goal.overflow_add-e
-overflow_add-e c = omega (arith, row-end c)
+overflow_add-e c = omega (arith, row_end c)
 
 pub slice_bounds-update_row-end : goal.slice_bounds-update_row-end
-slice_bounds-update_row-end c = omega (arith, row-end c)
+slice_bounds-update_row-end c = omega (arith, row_end c)
 
 pub bounds-slots-r : goal.bounds-slots-r
 bounds-slots-r c = omega (arith, c.requires.fact_2.1)
@@ -47,7 +47,7 @@ pub bounds-t-r : goal.bounds-t-r
 bounds-t-r c = omega (arith, c.requires.fact_2.1)
 
 pub update_row-requires : goal.update_row-requires
-update_row-requires c = record { fact_1 = c.requires.fact_2.0; fact_2 = omega (arith, row-end (goal.at.update_row-requires c).In-loop-r, c.stride-stride.ensures); fact_3 = c.requires.fact_3 c.loop-r.r c.loop-r-test.true }
+update_row-requires c = record { fact_1 = c.requires.fact_2.0; fact_2 = omega (arith, row_end (goal.at.update_row-requires c).In-loop-r, c.stride-stride.ensures); fact_3 = c.requires.fact_3 c.loop-r.r c.loop-r-test.true }
 
 pub loop-r-preserved : goal.loop-r-preserved
 loop-r-preserved c = let l = c.loop-r in
@@ -55,7 +55,7 @@ loop-r-preserved c = let l = c.loop-r in
     let groups = c.try_rows-t.result.groups in
     let a = c.args in
     let back = c.update_row in
-    let fit = row-end (goal.at.loop-r-preserved c).In-loop-r in
+    let fit = row_end (goal.at.loop-r-preserved c).In-loop-r in
     let e = back.ensures ∙ ap (λ (row : List ℕ). stored a.w a.slots.now groups l.r row) (lent (l.r * stride) stride l.memory) in
     (omega arith, rows_turn (stored a.w a.slots.now groups) stride a.d l.r l.memory back.new.row (omega arith) fit (omega (arith, fit)) e ∙ l.invariant.1, omega arith)
 

@@ -3,7 +3,7 @@ use native.Mathlib.Omega.{arith}
 use borrow.Author.Tests.{not-true, not-false}
 use lib.ListN.{length}
 use Rattle.geometry.specs.Checks.{bad_shape}
-use Rattle.run_feed.proofs.Runs.{ran-from, meter-stopped, meter-ended}
+use Rattle.run_feed.proofs.Runs.{ran_from, meter_stopped, meter_ended}
 use borrow.Author.Rules.{rules}
 use Rattle.run_feed.proofs.run_meter.Goals as goal
 
@@ -29,10 +29,10 @@ run_records-last-requires c = let m : length c.start.new.memory ≡ length c.arg
 pub returns-then-not-last : goal.returns-then-not-last
 returns-then-not-last c = let a = c.args in
     let r = c.run_records-last in
-    let g = ran-from a.d a.w a.i a.input.now a.out a.output.now c.requires.within_1 c.requires.memory_value_2 r.result r.new.memory r.new.input r.new.output _ _
+    let g = ran_from a.d a.w a.i a.input.now a.out a.output.now c.requires.within_1 c.requires.memory_value_2 r.result r.new.memory r.new.input r.new.output _ _
     c.start.ensures c.after.ensures r.ensures.ran in record {
       at_in_bounds = r.ensures.within_2_2;
-      printed = meter-stopped a.d a.w a.i a.input.now a.out a.output.now c.requires.within_1 c.requires.memory_value_2 r.result r.new.memory r.new.input r.new.output
+      printed = meter_stopped a.d a.w a.i a.input.now a.out a.output.now c.requires.within_1 c.requires.memory_value_2 r.result r.new.memory r.new.input r.new.output
           g r.ensures.bound (not-true _ c.if-not-last.true);
     }
 
@@ -46,9 +46,9 @@ pub returns : goal.returns
 returns c = let a = c.args in
     let r = c.run_records-last in
     let e = c.after_end in
-    let g = ran-from a.d a.w a.i a.input.now a.out a.output.now c.requires.within_1 c.requires.memory_value_2 r.result r.new.memory r.new.input r.new.output _ _
+    let g = ran_from a.d a.w a.i a.input.now a.out a.output.now c.requires.within_1 c.requires.memory_value_2 r.result r.new.memory r.new.input r.new.output _ _
     c.start.ensures c.after.ensures r.ensures.ran in record {
       at_in_bounds = e.ensures.at_in_bounds_2;
-      printed = meter-ended a.d a.w a.i a.input.now a.out a.output.now c.requires.within_1 c.requires.memory_value_2 r.result r.new.memory r.new.input r.new.output
+      printed = meter_ended a.d a.w a.i a.input.now a.out a.output.now c.requires.within_1 c.requires.memory_value_2 r.result r.new.memory r.new.input r.new.output
           g r.ensures.bound (not-false _ c.if-not-last.false) e.result e.new.output e.ensures.printed;
     }

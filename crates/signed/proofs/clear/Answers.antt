@@ -1,10 +1,10 @@
 use mathlib.Core.Path.{sym, ◌∙◌}
-use Rattle.signed.proofs.Calls.{cleared-bad, cleared_good}
+use Rattle.signed.proofs.Calls.{cleared_bad, cleared_good}
 use Rattle.signed.proofs.clear.Goals as goal
 
 pub returns-then-bad-ne0 : goal.returns-then-bad-ne0
 returns-then-bad-ne0 c = let a = c.args in
-    let p = cleared-bad a.d a.w a.memory.now c.bad_shape-bad.result c.bad_shape-bad.ensures c.if-bad-ne0.true in record { value = c.answer_of.ensures ∙ p.0; memory_after = p.1 }
+    let p = cleared_bad a.d a.w a.memory.now c.bad_shape-bad.result c.bad_shape-bad.ensures c.if-bad-ne0.true in record { value = c.answer_of.ensures ∙ p.0; memory_after = p.1 }
 
 pub returns : goal.returns
 returns c = let a = c.args in

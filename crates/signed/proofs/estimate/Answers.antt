@@ -8,13 +8,13 @@ use Rattle.meter_keys.proofs.Landing.{hash_lt}
 use Rattle.signed_median.specs.Median.{median}
 use Rattle.signed.specs.Signed.{signed_answer}
 use Rattle.signed.proofs.Tests.{call_rows}
-use Rattle.signed.proofs.Calls.{read-status-by-key, figures-by-key, estimated-bad, estimated-good}
+use Rattle.signed.proofs.Calls.{read_status_by_key, figures_by_key, estimated_bad, estimated_good}
 use borrow.Author.Rules.{rules}
 use Rattle.signed.proofs.estimate.Goals as goal
 
 pub returns-then-bad-ne0 : goal.returns-then-bad-ne0
 returns-then-bad-ne0 c = let a = c.args in
-    c.signed_answer.ensures ∙ estimated-bad a.d a.w a.memory.now a.key.now c.bad_call-bad.result c.bad_call-bad.ensures c.if-bad-ne0.true
+    c.signed_answer.ensures ∙ estimated_bad a.d a.w a.memory.now a.key.now c.bad_call-bad.result c.bad_call-bad.ensures c.if-bad-ne0.true
 
 pub key_hashes-hashes-requires : goal.key_hashes-hashes-requires
 key_hashes-hashes-requires c = (call_rows _ _ _ _ (sym c.bad_call-bad.ensures ∙ c.if-bad-ne0.false)).1.1
@@ -29,7 +29,7 @@ returns c = let f = c.read_rows-f in
     let start = c.start.ensures in
     let at : (r : ℕ) → r < a.d → get_or c.key_hashes-hashes.result r 0 ≡ row_hash c.start.result.state r a.key.now =
     λ r h. c.key_hashes-hashes.ensures r h ∙ ap (row_hash c.start.result.state r) c.whole.ensures in
-    let status = f.ensures.status_value ∙ read-status-by-key a.d a.w a.memory.now a.key.now c.key_hashes-hashes.result start at in
-    let value = f.ensures.value_value ∙ ap median (figures-by-key a.d a.w a.memory.now a.key.now c.key_hashes-hashes.result start at) in
+    let status = f.ensures.status_value ∙ read_status_by_key a.d a.w a.memory.now a.key.now c.key_hashes-hashes.result start at in
+    let value = f.ensures.value_value ∙ ap median (figures_by_key a.d a.w a.memory.now a.key.now c.key_hashes-hashes.result start at) in
     let same = to_z-of_z {w = w64} {z = f.result.value} (search rules) in
-    c.signed_answer-2.ensures ∙ rw same (ap₂ signed_answer status value) ∙ estimated-good a.d a.w a.memory.now a.key.now good
+    c.signed_answer-2.ensures ∙ rw same (ap₂ signed_answer status value) ∙ estimated_good a.d a.w a.memory.now a.key.now good

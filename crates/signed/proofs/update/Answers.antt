@@ -13,12 +13,12 @@ use Rattle.signed_number.specs.Number.{integer_of}
 use Rattle.signed_number.proofs.Integers.{integer_of_lem}
 use Rattle.signed_row.specs.Hashes.{tried_status, added_rows}
 use Rattle.signed.proofs.Tests.{call_rows}
-use Rattle.signed.proofs.Calls.{status-by-key, added-by-key, updated-bad, updated-rows}
+use Rattle.signed.proofs.Calls.{status_by_key, added_by_key, updated_bad, updated_rows}
 use Rattle.signed.proofs.update.Goals as goal
 
 pub returns-then-bad-ne0 : goal.returns-then-bad-ne0
 returns-then-bad-ne0 c = let a = c.args in
-    let p = updated-bad a.d a.w a.memory.now a.key.now a.amount c.bad_call-bad.result c.bad_call-bad.ensures c.if-bad-ne0.true in record { value = c.answer_of.ensures ∙ p.0; memory_after = p.1 }
+    let p = updated_bad a.d a.w a.memory.now a.key.now a.amount c.bad_call-bad.result c.bad_call-bad.ensures c.if-bad-ne0.true in record { value = c.answer_of.ensures ∙ p.0; memory_after = p.1 }
 
 pub key_hashes-hashes-requires : goal.key_hashes-hashes-requires
 key_hashes-hashes-requires c = (call_rows _ _ _ _ (sym c.bad_call-bad.ensures ∙ c.if-bad-ne0.false)).1.1
@@ -34,9 +34,9 @@ returns c = let a = c.args in
     let at : (r : ℕ) → r < a.d → get_or hashes r 0 ≡ row_hash c.start.result.state r a.key.now =
     λ r h. c.key_hashes-hashes.ensures r h ∙ ap (row_hash c.start.result.state r) c.whole.ensures in
     let amount : integer_of c.of_int-a.result ≡ a.amount = ap integer_of c.of_int-a.ensures.value ∙ integer_of_lem _ ∙ to_z-of_z {w = w32} {z = a.amount} c.ranges.amount in
-    let status = c.update_rows-status.ensures.value ∙ ap (λ (v : ℤ). tried_status a.d a.w hashes v a.memory.now) amount ∙ status-by-key a.d a.w a.memory.now a.key.now hashes start at a.amount in
+    let status = c.update_rows-status.ensures.value ∙ ap (λ (v : ℤ). tried_status a.d a.w hashes v a.memory.now) amount ∙ status_by_key a.d a.w a.memory.now a.key.now hashes start at a.amount in
     let after =
     c.update_rows-status.ensures.memory_after
     ∙ ap (λ (m : List ℕ). cond (eqb c.update_rows-status.result 0) m a.memory.now)
-    (ap (λ (v : ℤ). added_rows a.d a.w hashes v a.memory.now) amount ∙ added-by-key a.d a.w a.memory.now a.key.now hashes start at a.amount) in
-    let p = updated-rows a.d a.w a.memory.now a.key.now a.amount good c.update_rows-status.result _ status after in record { value = c.answer_of-2.ensures ∙ p.0; memory_after = p.1 }
+    (ap (λ (v : ℤ). added_rows a.d a.w hashes v a.memory.now) amount ∙ added_by_key a.d a.w a.memory.now a.key.now hashes start at a.amount) in
+    let p = updated_rows a.d a.w a.memory.now a.key.now a.amount good c.update_rows-status.result _ status after in record { value = c.answer_of-2.ensures ∙ p.0; memory_after = p.1 }

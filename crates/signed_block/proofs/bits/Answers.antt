@@ -18,12 +18,12 @@ parts n s c = go s.minus refl
     go true e = sym (bits_minus n s c e)
     go false e = zero-add s.magnitude ∙ sym (bits_plus n s e)
 
-sign-most : (b : Bool) (n : ℕ) → n ≤ 3 → cond b (top n) 0 ≤ top n
-sign-most true n h = omega arith
-sign-most false n h = omega arith
+sign_most : (b : Bool) (n : ℕ) → n ≤ 3 → cond b (top n) 0 ≤ top n
+sign_most true n h = omega arith
+sign_most false n h = omega arith
 
 pub overflow_add-result : goal.overflow_add-result
-overflow_add-result c = omega (arith, c.sign_bit.ensures, sign-most c.args.value.minus c.args.level c.requires.fact_1, top_most c.args.level c.requires.fact_1)
+overflow_add-result c = omega (arith, c.sign_bit.ensures, sign_most c.args.value.minus c.args.level c.requires.fact_1, top_most c.args.level c.requires.fact_1)
 
 pub returns : goal.returns
 returns c = ap (λ (x : ℕ). x + c.args.value.magnitude) c.sign_bit.ensures ∙ parts c.args.level c.args.value c.requires.fact_3

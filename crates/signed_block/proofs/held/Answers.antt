@@ -21,9 +21,9 @@ module _ (n : ℕ) (s : Signed) where
   unfolding held summed_as number_of shape marks
   holds h = rw (abs_integer s.minus s.magnitude, lt-ltb s.magnitude (top n) h)
 
-  not-holds : top n ≤ s.magnitude → (m : ℕ) → sign_bit (integer_of s) ≡ m → record { over = true; word = s.magnitude; merge = m } ≡ signed_summed (held {K = signed} n (integer_of s))
+  not_holds : top n ≤ s.magnitude → (m : ℕ) → sign_bit (integer_of s) ≡ m → record { over = true; word = s.magnitude; merge = m } ≡ signed_summed (held {K = signed} n (integer_of s))
   unfolding held summed_as
-  not-holds h m e = rw (abs_integer s.minus s.magnitude, le-ltb s.magnitude (top n) h, abs_integer s.minus s.magnitude, e)
+  not_holds h m e = rw (abs_integer s.minus s.magnitude, le-ltb s.magnitude (top n) h, abs_integer s.minus s.magnitude, e)
 
 pub returns-then-sum-top : goal.returns-then-sum-top
 returns-then-sum-top c = let a = c.args in
@@ -31,7 +31,7 @@ returns-then-sum-top c = let a = c.args in
     ∙ sym (holds a.level a.sum (omega arith))
 
 pub returns-then-sum : goal.returns-then-sum
-returns-then-sum c = not-holds c.args.level c.args.sum (omega arith) 1 (sign_minus c.args.sum c.requires.fact_2 c.if-sum.true)
+returns-then-sum c = not_holds c.args.level c.args.sum (omega arith) 1 (sign_minus c.args.sum c.requires.fact_2 c.if-sum.true)
 
 pub returns-else-sum : goal.returns-else-sum
-returns-else-sum c = not-holds c.args.level c.args.sum (omega arith) 0 (sign_plus c.args.sum c.if-sum.false)
+returns-else-sum c = not_holds c.args.level c.args.sum (omega arith) 0 (sign_plus c.args.sum c.if-sum.false)

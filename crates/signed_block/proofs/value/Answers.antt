@@ -36,21 +36,21 @@ above : (n w : ℕ) → not_minus_zero n w ≡ true → top n ≤ w → top n < 
 unfolding not_minus_zero
 above n w c h = elim (dec_lt (top n) w) [ yes l ↦ l | no l ↦ absurd (true≢false (sym c ∙ ap not (eq-eqb w (top n) (omega arith)))) ]
 
-minus-some : (m : ℕ) → 0 < m → record { minus = true; magnitude = m } ≡ signed_of (integer true m)
+minus_some : (m : ℕ) → 0 < m → record { minus = true; magnitude = m } ≡ signed_of (integer true m)
 unfolding times_sign signed_of
-minus-some zero h = absurd (omega arith)
-minus-some (suc m) h = refl
+minus_some zero h = absurd (omega arith)
+minus_some (suc m) h = refl
 
-plus-any : (m : ℕ) → record { minus = false; magnitude = m } ≡ signed_of (integer false m)
+plus_any : (m : ℕ) → record { minus = false; magnitude = m } ≡ signed_of (integer false m)
 unfolding times_sign signed_of
-plus-any m = refl
+plus_any m = refl
 
 canonical : (n w : ℕ) → w < cap n → not_minus_zero n w ≡ true → Canonical (record { minus = leb (top n) w; magnitude = w % top n })
 canonical n w h c = elim (dec_lt w (top n)) [
-  | yes l ↦ rw (lt-leb (top n) w l) (plus-any (w % top n))
+  | yes l ↦ rw (lt-leb (top n) w l) (plus_any (w % top n))
   | no l ↦
       let g = above n w c (omega arith) in
-      rw (le-leb (top n) w (omega arith)) (minus-some (w % top n) (rw (rest n w (omega arith) h) (omega arith)))
+      rw (le-leb (top n) w (omega arith)) (minus_some (w % top n) (rw (rest n w (omega arith) h) (omega arith)))
 ]
 
 pub overflow_sub-result : goal.overflow_sub-result

@@ -10,7 +10,7 @@ use Rattle.group.specs.Group.{unchanged}
 use Rattle.signed_number.specs.Number.{integer}
 use Rattle.signed_block.specs.Signed.{signed}
 use Rattle.signed_group.specs.Group.{bad_group, decode}
-use Rattle.signed_group.proofs.Laws.{Clean, good_clean, stored_is, added-refused, added-settled}
+use Rattle.signed_group.proofs.Laws.{Clean, good_clean, stored_is, added_refused, added_settled}
 use Rattle.signed_group.proofs.add.Goals as goal
 use Rattle.signed_group.proofs.add.Goals.{After-number_of-word}
 
@@ -32,7 +32,7 @@ pub returns-then-status-ne0 : goal.returns-then-status-ne0
 returns-then-status-ne0 c = let a = c.args in
     c.unchanged.ensures
     ∙ ap (λ (x : ℕ). unchanged x a.g) c.bad_group-status.ensures
-    ∙ sym (added-refused a.g a.slot (integer a.minus a.magnitude) (λ z. c.if-status-ne0.true (c.bad_group-status.ensures ∙ z)))
+    ∙ sym (added_refused a.g a.slot (integer a.minus a.magnitude) (λ z. c.if-status-ne0.true (c.bad_group-status.ensures ∙ z)))
 
 pub add_in_place-sum-requires : goal.add_in_place-sum-requires
 add_in_place-sum-requires c = record { fact_1 = (clean c).merges; fact_2 = omega arith; fact_3 = word_clean c }
@@ -42,7 +42,7 @@ unfolding decode
 returns-then-sum c = let a = c.args in
     c.settled.ensures
     ∙ stored_is a.g _ (add (decode a.g) (a.slot % 8) (amount (goal.at.returns-then-sum c).After-number_of-word)) (rw (← c.number_of-word.ensures) (c.add_in_place-sum.ensures.stays c.if-sum.true)) refl
-    ∙ sym (added-settled a.g a.slot (amount (goal.at.returns-then-sum c).After-number_of-word) (good (goal.at.returns-then-sum c).After-number_of-word))
+    ∙ sym (added_settled a.g a.slot (amount (goal.at.returns-then-sum c).After-number_of-word) (good (goal.at.returns-then-sum c).After-number_of-word))
 
 pub add_widening-requires : goal.add_widening-requires
 unfolding cap
@@ -52,4 +52,4 @@ pub returns : goal.returns
 unfolding decode
 returns c = let a = c.args in
     c.outcome.ensures (add (decode a.g) (a.slot % 8) (amount (goal.at.returns c).After-number_of-word)) (rw (← c.number_of-word.ensures) c.add_widening.ensures)
-    ∙ sym (added-settled a.g a.slot (amount (goal.at.returns c).After-number_of-word) (good (goal.at.returns c).After-number_of-word))
+    ∙ sym (added_settled a.g a.slot (amount (goal.at.returns c).After-number_of-word) (good (goal.at.returns c).After-number_of-word))

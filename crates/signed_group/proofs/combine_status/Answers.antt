@@ -7,7 +7,7 @@ use Rattle.group_block.specs.Block.{cap}
 use Rattle.group.specs.declared.Outcome.{Outcome}
 use Rattle.signed_words.specs.Words.{sum_fits}
 use Rattle.signed_group.specs.Group.{bad_pair, decode}
-use Rattle.signed_group.proofs.Laws.{combined-refused, status-fits, status-full}
+use Rattle.signed_group.proofs.Laws.{combined_refused, status_fits, status_full}
 use Rattle.signed_group.proofs.combine_status.Goals as goal
 use Rattle.signed_group.proofs.combine_status.Goals.{After-sum_fits}
 
@@ -34,14 +34,14 @@ module _ (f : After-sum_fits) where
 pub returns-then-status-ne0 : goal.returns-then-status-ne0
 returns-then-status-ne0 c = let a = c.args in
     c.bad_pair-status.ensures
-    ∙ sym (ap (λ (o : Outcome). o.status) (combined-refused a.minus a.target a.source (λ z. c.if-status-ne0.true (c.bad_pair-status.ensures ∙ z))))
+    ∙ sym (ap (λ (o : Outcome). o.status) (combined_refused a.minus a.target a.source (λ z. c.if-status-ne0.true (c.bad_pair-status.ensures ∙ z))))
 
 pub returns-then-sum_fits : goal.returns-then-sum_fits
 unfolding decode
 returns-then-sum_fits c = let a = c.args in
-    sym (status-fits a.minus a.target a.source (word_in (goal.at.returns-then-sum_fits c).After-sum_fits) (source_in (goal.at.returns-then-sum_fits c).After-sum_fits) (good (goal.at.returns-then-sum_fits c).After-sum_fits) (ltb-true _ _ (tested (goal.at.returns-then-sum_fits c).After-sum_fits ∙ c.if-sum_fits.true)))
+    sym (status_fits a.minus a.target a.source (word_in (goal.at.returns-then-sum_fits c).After-sum_fits) (source_in (goal.at.returns-then-sum_fits c).After-sum_fits) (good (goal.at.returns-then-sum_fits c).After-sum_fits) (ltb-true _ _ (tested (goal.at.returns-then-sum_fits c).After-sum_fits ∙ c.if-sum_fits.true)))
 
 pub returns : goal.returns
 unfolding decode
 returns c = let a = c.args in
-    sym (status-full a.minus a.target a.source (word_in (goal.at.returns c).After-sum_fits) (source_in (goal.at.returns c).After-sum_fits) (good (goal.at.returns c).After-sum_fits) (ltb-false _ _ (tested (goal.at.returns c).After-sum_fits ∙ c.if-sum_fits.false)))
+    sym (status_full a.minus a.target a.source (word_in (goal.at.returns c).After-sum_fits) (source_in (goal.at.returns c).After-sum_fits) (good (goal.at.returns c).After-sum_fits) (ltb-false _ _ (tested (goal.at.returns c).After-sum_fits ∙ c.if-sum_fits.false)))

@@ -4,7 +4,7 @@ use native.Mathlib.Omega.{arith}
 use Rattle.group_layout.specs.Layout.{layout}
 use Rattle.group_layout.specs.Merged.{is_merged}
 use Rattle.signed_nodes.proofs.Integers.{raised_next}
-use Rattle.signed_nodes.proofs.Nodes.{chosen-tells, raised_in}
+use Rattle.signed_nodes.proofs.Nodes.{chosen_tells, raised_in}
 use Rattle.signed_nodes.proofs.formed.Goals as goal
 
 pub overflow_add-a : goal.overflow_add-a
@@ -25,5 +25,5 @@ returns c = let sides = c.args.sides in
       first = c.block_total-a.ensures;
       second = c.block_total-b.ensures;
       union = rw (c.chosen.ensures, c.chosen_bits.ensures)
-          (chosen-tells n b.word b.merge b.other_word b.other_merge sides c.requires.fact_4 c.held-sum.result (rw sum at c.held-sum.ensures) _ one);
+          (chosen_tells n b.word b.merge b.other_word b.other_merge sides c.requires.fact_4 c.held-sum.result (rw sum at c.held-sum.ensures) _ one);
     }

@@ -7,18 +7,18 @@ use mir.Facts.{to_z-of_z, to_z_pos}
 use Rattle.signed_number.specs.Number.{times_sign}
 use Rattle.signed_number.proofs.to_int.Goals as goal
 
-negation-fits : (m : ℕ) → m < 2 ^ 63 → SFits w64 (neg_ℤ (pos m))
-negation-fits zero h = record { sfits = omega arith }
-negation-fits (suc m) h = record { sfits = omega arith }
+negation_fits : (m : ℕ) → m < 2 ^ 63 → SFits w64 (neg_ℤ (pos m))
+negation_fits zero h = record { sfits = omega arith }
+negation_fits (suc m) h = record { sfits = omega arith }
 
 pub overflow_sub-result : goal.overflow_sub-result
 overflow_sub-result c = let m = c.args.magnitude in
-    rw (to_z_pos w64 {n = m} c.requires, +ℤ_idl (neg_ℤ (pos m))) (negation-fits m c.requires)
+    rw (to_z_pos w64 {n = m} c.requires, +ℤ_idl (neg_ℤ (pos m))) (negation_fits m c.requires)
 
 pub returns-then-minus : goal.returns-then-minus
 unfolding times_sign
 returns-then-minus c = let m = c.args.magnitude in
-    rw (to_z_pos w64 {n = m} c.requires, +ℤ_idl (neg_ℤ (pos m)), c.if-minus.true) (to_z-of_z {w = w64} {z = neg_ℤ (pos m)} (negation-fits m c.requires))
+    rw (to_z_pos w64 {n = m} c.requires, +ℤ_idl (neg_ℤ (pos m)), c.if-minus.true) (to_z-of_z {w = w64} {z = neg_ℤ (pos m)} (negation_fits m c.requires))
 
 pub returns-else-minus : goal.returns-else-minus
 unfolding times_sign

@@ -2,7 +2,7 @@ use mathlib.Core.Path.{sym, ◌∙◌}
 use mathlib.Core.Bool.{true≢false}
 use Prim.Native.Nat.{◌*◌}
 use Rattle.meter_memory.proofs.Lists.{lent}
-use Rattle.meter_runs.proofs.Runs.{status-none}
+use Rattle.meter_runs.proofs.Runs.{status_none}
 use Rattle.signed_group.specs.Group.{combined}
 use Rattle.signed_row.proofs.clean_eight.Goals as goal
 
@@ -13,4 +13,4 @@ pub returns : goal.returns
 returns c = let a = c.args in
     let none = sym c.eight_unmerged.ensures ∙ c.if-not-eight_unmerged.false in
     let accepted = rw (lent (8 * a.first) 64 a.row.now, lent (8 * a.first) 64 a.source.now) at c.clean.ensures in
-    λ r minus. status-none (combined minus) a.w a.source.now 8 a.first a.row.now none (accepted r minus)
+    λ r minus. status_none (combined minus) a.w a.source.now 8 a.first a.row.now none (accepted r minus)

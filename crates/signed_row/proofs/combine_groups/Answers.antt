@@ -4,10 +4,10 @@ use native.Mathlib.Omega.{arith}
 use Rattle.group.specs.declared.Group.{Group}
 use Rattle.meter_memory.specs.Rows.{with_group}
 use Rattle.meter_memory.specs.Pairs.{paired_at, pair_status, pair_groups}
-use Rattle.meter_memory.proofs.Pairs.{pair-run, pair_end}
-use Rattle.meter_runs.proofs.Runs.{taken-after}
+use Rattle.meter_memory.proofs.Pairs.{pair_run, pair_end}
+use Rattle.meter_runs.proofs.Runs.{taken_after}
 use Rattle.signed_group.specs.Group.{combined}
-use Rattle.signed_group.proofs.Outcomes.{combined-clean, combined-eight}
+use Rattle.signed_group.proofs.Outcomes.{combined_clean, combined_eight}
 use Rattle.signed_row.proofs.combine_groups.Goals as goal
 
 pub loop-g-init : goal.loop-g-init
@@ -17,7 +17,7 @@ loop-g-init c = let a = c.args in
 pub combine_clean-x-requires : goal.combine_clean-x-requires
 unfolding pair_status paired_at
 combine_clean-x-requires c = let l = c.loop-g in
-    rw (c.load.ensures, c.load-in-loop-g.ensures) (combined-clean c.args.minus _ _ (l.invariant.5 l.g (omega arith) (omega arith)))
+    rw (c.load.ensures, c.load-in-loop-g.ensures) (combined_clean c.args.minus _ _ (l.invariant.5 l.g (omega arith) (omega arith)))
 
 pub loop-g-preserved : goal.loop-g-preserved
 unfolding paired_at pair_groups
@@ -31,9 +31,9 @@ loop-g-preserved c = let a = c.args in
       omega arith,
       omega arith,
       refl,
-      rw next (pair-run (combined a.minus) a.w a.source.now 1 l.row end l.g (omega arith) ∙ l.invariant.3),
+      rw next (pair_run (combined a.minus) a.w a.source.now 1 l.row end l.g (omega arith) ∙ l.invariant.3),
       omega arith,
-      rw next (taken-after (combined a.minus) a.w a.source.now (combined-eight a.minus) 1 end l.g l.row (omega arith) (omega arith) (omega arith) l.invariant.5),
+      rw next (taken_after (combined a.minus) a.w a.source.now (combined_eight a.minus) 1 end l.g l.row (omega arith) (omega arith) (omega arith) l.invariant.5),
     )
 
 pub returns : goal.returns

@@ -5,11 +5,11 @@ use native.Mathlib.Omega.{arith}
 use lib.ListN.{length}
 use Rattle.geometry.proofs.Widths.{stride_is}
 use Rattle.meter_memory.specs.Pairs.{pair_status, pair_groups, pair_row}
-use Rattle.meter_memory.proofs.Pairs.{pair-run}
+use Rattle.meter_memory.proofs.Pairs.{pair_run}
 use Rattle.meter_memory.proofs.Written.{row_taken}
-use Rattle.meter_runs.proofs.Runs.{taken-after}
+use Rattle.meter_runs.proofs.Runs.{taken_after}
 use Rattle.signed_group.specs.Group.{combined}
-use Rattle.signed_group.proofs.Outcomes.{combined-eight}
+use Rattle.signed_group.proofs.Outcomes.{combined_eight}
 use Rattle.signed_row.proofs.combine_row.Goals as goal
 use Rattle.signed_row.proofs.combine_row.Goals.{then-not-combine_side, else-not-combine_side}
 
@@ -39,13 +39,13 @@ loop-e-preserved c = let a = c.args in
     let at : 8 * (l.e + 1) ≡ 8 * l.e + 8 = omega arith in (
       omega arith,
       refl,
-      rw (next, at) (pair-run (combined a.minus) a.w a.source.now 8 l.row (a.w / 8) (8 * l.e) (omega arith) ∙ l.invariant.2),
+      rw (next, at) (pair_run (combined a.minus) a.w a.source.now 8 l.row (a.w / 8) (8 * l.e) (omega arith) ∙ l.invariant.2),
       elim c.if-not-combine_side.branch [
         | then-not-combine_side t ↦ omega (arith, ap length t.row-is)
         | else-not-combine_side t ↦ omega (arith, ap length t.row-is)
       ],
       rw (next, at)
-          (taken-after (combined a.minus) a.w a.source.now (combined-eight a.minus) 8 (a.w / 8) (8 * l.e) l.row (omega arith) (omega arith) (omega (arith, stride_is a.w)) l.invariant.4),
+          (taken_after (combined a.minus) a.w a.source.now (combined_eight a.minus) 8 (a.w / 8) (8 * l.e) l.row (omega arith) (omega arith) (omega (arith, stride_is a.w)) l.invariant.4),
     )
 
 pub combine_groups-requires-2 : goal.combine_groups-requires-2

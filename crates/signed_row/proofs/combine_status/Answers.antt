@@ -6,7 +6,7 @@ use Rattle.answer.proofs.Order.{earlier_none}
 use Rattle.geometry.proofs.Widths.{stride_is}
 use Rattle.meter_memory.specs.Pairs.{pairs_status}
 use Rattle.meter_runs.specs.Runs.{run_status}
-use Rattle.meter_runs.proofs.Runs.{status-next}
+use Rattle.meter_runs.proofs.Runs.{status_next}
 use Rattle.signed_group.specs.Group.{combined}
 use Rattle.signed_row.proofs.combine_status.Goals as goal
 use Rattle.signed_row.proofs.combine_status.Goals.{then-not-clean_eight, else-not-clean_eight}
@@ -36,7 +36,7 @@ loop-e-preserved c = let a = c.args in
     let at : 8 * (l.e + 1) ≡ 8 * l.e + 8 = omega arith in (
       omega arith,
       refl,
-      rw (next, at) (status-next (combined a.minus) a.w a.source.now (a.w / 8) (8 * l.e) 8 a.row.now l.status x (omega arith) refl ∙ l.invariant.2),
+      rw (next, at) (status_next (combined a.minus) a.w a.source.now (a.w / 8) (8 * l.e) 8 a.row.now l.status x (omega arith) refl ∙ l.invariant.2),
     )
 
 pub groups_status-requires-2 : goal.groups_status-requires-2

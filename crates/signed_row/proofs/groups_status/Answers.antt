@@ -5,7 +5,7 @@ use Rattle.answer.specs.Order.{earlier}
 use Rattle.answer.proofs.Order.{earlier_none}
 use Rattle.group.specs.declared.Group.{Group}
 use Rattle.meter_memory.specs.Pairs.{paired_at, pair_status}
-use Rattle.meter_memory.proofs.Lists.{status-turn, status-end}
+use Rattle.meter_memory.proofs.Lists.{status_turn, status_end}
 use Rattle.meter_runs.specs.Runs.{run_status}
 use Rattle.signed_group.specs.Group.{combined}
 use Rattle.signed_row.proofs.groups_status.Goals as goal
@@ -30,7 +30,7 @@ loop-g-preserved c = let a = c.args in
       omega arith,
       refl,
       rw next
-          (status-turn (pair_status (combined a.minus) a.w a.source.now a.row.now) (a.first + a.n) l.g l.status s (omega arith)
+          (status_turn (pair_status (combined a.minus) a.w a.source.now a.row.now) (a.first + a.n) l.g l.status s (omega arith)
           (c.combine_status-s.ensures ∙ ap₂ (λ (x y : Group). (combined a.minus x y).status) c.load.ensures c.load-in-loop-g.ensures)
           ∙ l.invariant.3),
     )
@@ -39,4 +39,4 @@ pub returns : goal.returns
 unfolding run_status
 returns c = let a = c.args in
     let l = c.loop-g in
-    sym (status-end (pair_status (combined a.minus) a.w a.source.now a.row.now) (a.first + a.n) l.g l.status (omega arith)) ∙ l.invariant.3
+    sym (status_end (pair_status (combined a.minus) a.w a.source.now a.row.now) (a.first + a.n) l.g l.status (omega arith)) ∙ l.invariant.3

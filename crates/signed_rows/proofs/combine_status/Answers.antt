@@ -7,7 +7,7 @@ use Rattle.meter_memory.specs.Rows.{row_of}
 use Rattle.signed_row.specs.Row.{source_status}
 use Rattle.signed_group.specs.Group.{combined}
 use Rattle.geometry.proofs.Widths.{one_row}
-use Rattle.meter_memory.proofs.Gather.{status-turn, status-end, rows_start}
+use Rattle.meter_memory.proofs.Gather.{status_turn, status_end, rows_start}
 use Rattle.signed_rows.proofs.combine_status.Goals as goal
 
 pub loop-r-init : goal.loop-r-init
@@ -31,10 +31,10 @@ loop-r-preserved c = let a = c.args in
     let e = c.combine_status-next.ensures ∙ ap₂ (λ (source row : List ℕ). pairs_status (combined a.minus) a.w source row) c.row_at-in-loop-r.ensures.result_value c.row_at.ensures.result_value in (
       omega arith,
       rw c.earlier-status.ensures
-          (status-turn (source_status a.minus a.w a.source.now) a.w a.d l.r a.memory.now l.status c.combine_status-next.result (omega arith) e ∙ l.invariant.1),
+          (status_turn (source_status a.minus a.w a.source.now) a.w a.d l.r a.memory.now l.status c.combine_status-next.result (omega arith) e ∙ l.invariant.1),
     )
 
 pub returns : goal.returns
 returns c = let a = c.args in
     let l = c.loop-r in
-    sym (status-end (source_status a.minus a.w a.source.now) a.w a.d l.r a.memory.now l.status (omega arith)) ∙ l.invariant.1
+    sym (status_end (source_status a.minus a.w a.source.now) a.w a.d l.r a.memory.now l.status (omega arith)) ∙ l.invariant.1

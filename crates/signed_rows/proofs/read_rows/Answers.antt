@@ -10,7 +10,7 @@ use mir.Facts.{to_z-of_z}
 use Rattle.geometry.specs.Geometry.{stride}
 use Rattle.geometry.proofs.Widths.{one_row}
 use Rattle.meter_memory.specs.Rows.{row_of, of_rows}
-use Rattle.meter_memory.proofs.Gather.{status-turn, status-end, rows_start}
+use Rattle.meter_memory.proofs.Gather.{status_turn, status_end, rows_start}
 use Rattle.meter_memory.proofs.Lists.{filled_more, rows_list}
 use Rattle.signed_median.specs.Median.{median}
 use Rattle.signed_row.specs.Hashes.{hash_status, hash_figure}
@@ -36,7 +36,7 @@ loop-r-preserved c = let l = c.loop-r in
     let is-v = to_z-of_z {w = w64} {z = f.result.value} (search rules) in (
       omega arith,
       rw c.first_status-status.ensures
-          (status-turn (hash_status a.w a.hashes.now) a.w a.d l.r a.memory.now l.status f.result.status (omega arith) f.ensures.status_value ∙ l.invariant.1),
+          (status_turn (hash_status a.w a.hashes.now) a.w a.d l.r a.memory.now l.status f.result.status (omega arith) f.ensures.status_value ∙ l.invariant.1),
       rw is-v
           (filled_more (λ (k : ℕ). hash_figure a.w a.hashes.now k (row_of a.w a.memory.now k)) l.values l.r f.result.value (pos 0) (omega (arith, c.requires.fact_2.1)) f.ensures.value_value l.invariant.2),
       rw is-v (length-set l.values l.r f.result.value ∙ l.invariant.3),
@@ -49,4 +49,4 @@ returns c = let l = c.loop-r in
     let at : l.r ≡ a.d = omega arith in
     let all : take a.d l.values ≡ of_rows (hash_figure a.w a.hashes.now) (stride a.w) a.d 0 a.memory.now =
     rows_list (hash_figure a.w a.hashes.now) (stride a.w) a.d 0 a.memory.now l.values (pos 0) (omega (arith, c.requires.fact_2.1))
-    (λ k h. l.invariant.2 k (omega arith) ∙ ap (λ (i : ℕ). hash_figure a.w a.hashes.now i (row_of a.w a.memory.now k)) (sym (zero-add k))) in record { status_value = sym (status-end (hash_status a.w a.hashes.now) a.w a.d l.r a.memory.now l.status (omega arith)) ∙ l.invariant.1; value_value = to_z-of_z {w = w64} {z = c.median.result} (record { sfits = c.median.type_inv }) ∙ c.median.ensures ∙ ap median all }
+    (λ k h. l.invariant.2 k (omega arith) ∙ ap (λ (i : ℕ). hash_figure a.w a.hashes.now i (row_of a.w a.memory.now k)) (sym (zero-add k))) in record { status_value = sym (status_end (hash_status a.w a.hashes.now) a.w a.d l.r a.memory.now l.status (omega arith)) ∙ l.invariant.1; value_value = to_z-of_z {w = w64} {z = c.median.result} (record { sfits = c.median.type_inv }) ∙ c.median.ensures ∙ ap median all }

@@ -1,6 +1,6 @@
 use Rattle.std.proofs.Common.{arith, eqb-true}
 use Rattle.signed_side.proofs.Sums.{zeros_turn}
-use Rattle.signed_side.proofs.Groups.{side-accepted}
+use Rattle.signed_side.proofs.Groups.{side_accepted}
 use Rattle.signed_side.proofs.clean.Goals as goal
 
 pub loop-i-init : goal.loop-i-init
@@ -14,6 +14,6 @@ loop-i-preserved c = let l = c.loop-i in
 pub returns : goal.returns
 returns c = λ h.
     let l = c.loop-i in
-    side-accepted 8 c.args.counts.now c.args.source.now c.requires.fact_1 c.requires.fact_2
+    side_accepted 8 c.args.counts.now c.args.source.now c.requires.fact_1 c.requires.fact_2
     (λ i. (c.shared_slice_known-1.given i).fits) (λ i. (c.shared_slice_known-2-1.given i).fits)
     (λ i g. l.invariant.1 (eqb-true l.bad 0 h) i (omega arith))

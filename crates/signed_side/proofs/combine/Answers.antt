@@ -1,5 +1,5 @@
 use Rattle.std.proofs.Common.{◌≡◌, length, sym, refl, ap, ◌∙◌, true≢false, rules}
-use Rattle.signed_side.proofs.Groups.{side-combined}
+use Rattle.signed_side.proofs.Groups.{side_combined}
 use Rattle.signed_side.proofs.combine.Goals as goal
 
 pub returns-then-s-ge128 : goal.returns-then-s-ge128
@@ -12,7 +12,7 @@ returns c = let p = c.put in
       counts_unchanged = λ e. absurd (true≢false e);
       combined = λ e.
           rw p.ensures
-          (side-combined 8 c.args.counts.now c.args.source.now c.requires.fact_1 c.requires.fact_2
+          (side_combined 8 c.args.counts.now c.args.source.now c.requires.fact_1 c.requires.fact_2
           (search rules) (λ i. (c.type_inv.source i).fits)
           c.args.minus c.sums_of-s.result.bytes long (c.sums_of-s.ensures c.if-s-ge128.false));
     }

@@ -2,7 +2,7 @@ use mathlib.Core.Path.{refl, ◌∙◌}
 use native.Mathlib.Omega.{arith}
 use lib.ListN.{set, length-set, get_or}
 use lib.Seq.{get_or-set_same, get_or-set_other}
-use Rattle.signed_union.proofs.Slots.{halves-slotted, nodes-small, nodes-beside}
+use Rattle.signed_union.proofs.Slots.{halves_slotted, nodes_small, nodes_beside}
 use Prim.Native.Nat.{ℕ, ◌<◌}
 use borrow.Author.Count.{below_more}
 use Rattle.signed_union.specs.Slotted.{NodeOf, halves_of}
@@ -22,7 +22,7 @@ pub loop-h-init : goal.loop-h-init
 loop-h-init c = (omega arith, refl, λ k h. absurd (omega arith))
 
 pub four_slots-requires : goal.four_slots-requires
-four_slots-requires c = rw c.halves.ensures (halves-slotted 2 c.args.b c.requires c.loop-h.h)
+four_slots-requires c = rw c.halves.ensures (halves_slotted 2 c.args.b c.requires c.loop-h.h)
 
 pub loop-h-preserved : goal.loop-h-preserved
 loop-h-preserved c = let b = c.args.b in
@@ -36,7 +36,7 @@ loop-h-preserved c = let b = c.args.b in
     (omega arith, length-set xs h x ∙ c.loop-h.invariant.1, below_more (λ (k : ℕ). NodeOf 2 (get_or (set xs h x) k none) (halves_of 2 k b)) h before here)
 
 pub beside-requires : goal.beside-requires
-beside-requires c = (omega arith, nodes-small 2 c.args.b c.requires _ _ (left_is c) (right_is c) (omega arith))
+beside-requires c = (omega arith, nodes_small 2 c.args.b c.requires _ _ (left_is c) (right_is c) (omega arith))
 
 pub returns : goal.returns
-returns c = nodes-beside 2 c.args.b c.requires _ _ (left_is (goal.at.returns c).After-right-1) (right_is (goal.at.returns c).After-right-1) c.beside.result c.beside.ensures.a_value c.beside.ensures.beside_as
+returns c = nodes_beside 2 c.args.b c.requires _ _ (left_is (goal.at.returns c).After-right-1) (right_is (goal.at.returns c).After-right-1) c.beside.result c.beside.ensures.a_value c.beside.ensures.beside_as

@@ -4,7 +4,7 @@ use native.Mathlib.Numerals.{add-one}
 use lib.Dec.{eqb}
 use Rattle.signed_union.specs.declared.Blocks.{Blocks}
 use Rattle.signed_union.specs.Slotted.{lefts_of, rights_of, halves_of}
-use Rattle.signed_union.proofs.Slots.{sums-in, overs-in}
+use Rattle.signed_union.proofs.Slots.{sums_in, overs_in}
 use Rattle.signed_union.proofs.halves.Goals as goal
 
 -- a choice of two, part by part
@@ -15,10 +15,10 @@ parts true l r = refl
 parts false l r = refl
 
 pub half_word-requires-3 : goal.half_word-requires-3
-half_word-requires-3 c = let p = c.requires in record { fact_1 = p.fact_1; fact_2 = p.fact_2; fact_3 = rw (add-one c.args.half) (sums-in c.args.half c.args.b (rw (add-one c.args.half) at p.fact_3)) }
+half_word-requires-3 c = let p = c.requires in record { fact_1 = p.fact_1; fact_2 = p.fact_2; fact_3 = rw (add-one c.args.half) (sums_in c.args.half c.args.b (rw (add-one c.args.half) at p.fact_3)) }
 
 pub half_word-requires-4 : goal.half_word-requires-4
-half_word-requires-4 c = let p = c.requires in record { fact_1 = p.fact_1; fact_2 = p.fact_2; fact_3 = rw (add-one c.args.half) (overs-in c.args.half c.args.b (rw (add-one c.args.half) at p.fact_3)) }
+half_word-requires-4 c = let p = c.requires in record { fact_1 = p.fact_1; fact_2 = p.fact_2; fact_3 = rw (add-one c.args.half) (overs_in c.args.half c.args.b (rw (add-one c.args.half) at p.fact_3)) }
 
 pub returns : goal.returns
 unfolding halves_of lefts_of rights_of

@@ -7,7 +7,7 @@ use Rattle.group_layout.specs.Merged.{is_merged}
 use Rattle.group_layout.proofs.Laws.{valid_in}
 use Rattle.group_block.specs.Block.{cap}
 use Rattle.signed_slots.proofs.Unions.{stay}
-use Rattle.signed_slots.proofs.Blocks.{sums-eight, over-eight}
+use Rattle.signed_slots.proofs.Blocks.{sums_eight, over_eight}
 use Rattle.signed_nodes.proofs.Nodes.{or_false}
 use Rattle.signed_union.proofs.unite.Goals as goal
 
@@ -38,8 +38,8 @@ united-requires c = let a = c.args in
         other_in = p.fact_2.0.0;
         merge_in = valid_in 3 a.merge p.fact_1.0.1;
         other_merge_in = valid_in 3 a.other_merge p.fact_2.0.1;
-        sums_are = c.sums.ensures ∙ sym (sums-eight a.word a.other_word);
-        overs_are = c.over.ensures ∙ sym (over-eight a.word a.other_word);
+        sums_are = c.sums.ensures ∙ sym (sums_eight a.word a.other_word);
+        overs_are = c.over.ensures ∙ sym (over_eight a.word a.other_word);
       };
       fact_2 = off.0;
       fact_3 = off.1;

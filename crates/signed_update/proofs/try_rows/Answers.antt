@@ -1,7 +1,7 @@
 use native.Mathlib.Omega.{arith}
 use Rattle.geometry.proofs.Widths.{one_row}
 use Rattle.meter_memory.proofs.Gather.{rows_start}
-use Rattle.meter_memory.proofs.Tried.{tried-more, tried-all}
+use Rattle.meter_memory.proofs.Tried.{tried_more, tried_all}
 use Rattle.signed_number.specs.Number.{integer}
 use Rattle.signed_row.specs.Hashes.{added_status}
 use Rattle.signed_update.proofs.try_rows.Invariants.{outcome}
@@ -25,7 +25,7 @@ loop-r-preserved c = let o = c.add_at-o in
     let l = c.loop-r in
     let a = c.args in
     rw c.earlier-status.ensures
-    (tried-more (outcome a.w a.hashes.now (integer a.minus a.magnitude)) a.d a.w a.memory.now l.t.groups l.status l.r l.invariant
+    (tried_more (outcome a.w a.hashes.now (integer a.minus a.magnitude)) a.d a.w a.memory.now l.t.groups l.status l.r l.invariant
     c.loop-r-test.true
     o.result
     o.ensures)
@@ -33,5 +33,5 @@ loop-r-preserved c = let o = c.add_at-o in
 pub returns : goal.returns
 returns c = let a = c.args in
     let l = c.loop-r in
-    let r = tried-all (outcome a.w a.hashes.now (integer a.minus a.magnitude)) a.d a.w a.memory.now l.t.groups l.status l.r l.invariant (omega arith) in
+    let r = tried_all (outcome a.w a.hashes.now (integer a.minus a.magnitude)) a.d a.w a.memory.now l.t.groups l.status l.r l.invariant (omega arith) in
     record { status_value = r.0; added = r.1 }

@@ -14,8 +14,8 @@ use Rattle.signed_update.proofs.update_rows.Goals as goal
 use Rattle.signed_update.proofs.update_rows.Goals.{In-loop-r}
 
 -- row r ends in the memory
-row-end : (c : In-loop-r) → c.loop-r.r * c.stride-stride.result + c.stride-stride.result ≤ length c.loop-r.memory
-row-end c =
+row_end : (c : In-loop-r) → c.loop-r.r * c.stride-stride.result + c.stride-stride.result ≤ length c.loop-r.memory
+row_end c =
     let i = one_row c.args.d c.args.w c.loop-r.r c.requires.fact_1 c.loop-r-test.true in
     rw c.stride-stride.ensures (omega (arith, i.2))
 
@@ -33,13 +33,13 @@ loop-r-init c = let a = c.args in
     (omega arith, rows_start (stored a.w a.hashes.now c.try_rows-t.result.groups) c.stride-stride.result a.d a.memory.now, refl)
 
 pub overflow_mul-a : goal.overflow_mul-a
-overflow_mul-a c = omega (arith, row-end c)
+overflow_mul-a c = omega (arith, row_end c)
 
 pub overflow_add-e : goal.overflow_add-e
-overflow_add-e c = omega (arith, row-end c)
+overflow_add-e c = omega (arith, row_end c)
 
 pub slice_bounds-store_at-end : goal.slice_bounds-store_at-end
-slice_bounds-store_at-end c = omega (arith, row-end c)
+slice_bounds-store_at-end c = omega (arith, row_end c)
 
 pub bounds-hashes-r : goal.bounds-hashes-r
 bounds-hashes-r c = omega (arith, c.requires.fact_1.1)
@@ -48,7 +48,7 @@ pub bounds-t-r : goal.bounds-t-r
 bounds-t-r c = omega (arith, c.requires.fact_1.1)
 
 pub store_at-requires : goal.store_at-requires
-store_at-requires c = record { fact_1 = c.requires.fact_1.0; fact_2 = omega (arith, row-end (goal.at.store_at-requires c).In-loop-r, c.stride-stride.ensures); fact_3 = c.requires.fact_2 c.loop-r.r c.loop-r-test.true }
+store_at-requires c = record { fact_1 = c.requires.fact_1.0; fact_2 = omega (arith, row_end (goal.at.store_at-requires c).In-loop-r, c.stride-stride.ensures); fact_3 = c.requires.fact_2 c.loop-r.r c.loop-r-test.true }
 
 pub loop-r-preserved : goal.loop-r-preserved
 loop-r-preserved c = let l = c.loop-r in
@@ -56,7 +56,7 @@ loop-r-preserved c = let l = c.loop-r in
     let groups = c.try_rows-t.result.groups in
     let a = c.args in
     let back = c.store_at in
-    let fit = row-end (goal.at.loop-r-preserved c).In-loop-r in
+    let fit = row_end (goal.at.loop-r-preserved c).In-loop-r in
     let e = back.ensures ∙ ap (λ (row : List ℕ). stored a.w a.hashes.now groups l.r row) (lent (l.r * stride) stride l.memory) in
     (omega arith, rows_turn (stored a.w a.hashes.now groups) stride a.d l.r l.memory back.new.row (omega arith) fit (omega (arith, fit)) e ∙ l.invariant.1, omega arith)
 

@@ -12,14 +12,14 @@ use Rattle.signed_block.proofs.Counters.{top_half}
 use Rattle.signed_widening.proofs.twin_sum.Goals as goal
 use Rattle.signed_widening.proofs.twin_sum.Goals.{After-value_at-both}
 
-both-lt : (v : After-value_at-both) → v.value_at-both.result < cap (v.args.level + 1)
-both-lt v = omega (arith, v.value_at-both.ensures, mod-lt (v.args.word / 2 ^ v.args.place) (cap_pos (v.args.level + 1)))
+both_lt : (v : After-value_at-both) → v.value_at-both.result < cap (v.args.level + 1)
+both_lt v = omega (arith, v.value_at-both.ensures, mod-lt (v.args.word / 2 ^ v.args.place) (cap_pos (v.args.level + 1)))
 
 pub value-requires : goal.value-requires
 value-requires c = let n = c.args.level in record { fact_1 = omega arith; fact_2 = omega (arith, c.low_word.ensures, mod-lt c.value_at-both.result (cap_pos n)) }
 
 pub value-requires-2 : goal.value-requires-2
-value-requires-2 c = let n = c.args.level in record { fact_1 = omega arith; fact_2 = omega (arith, c.high_word.ensures, high_lt n c.value_at-both.result (rw (add-one n) at (both-lt (goal.at.value-requires-2 c).After-value_at-both))) }
+value-requires-2 c = let n = c.args.level in record { fact_1 = omega arith; fact_2 = omega (arith, c.high_word.ensures, high_lt n c.value_at-both.result (rw (add-one n) at (both_lt (goal.at.value-requires-2 c).After-value_at-both))) }
 
 pub plus-requires : goal.plus-requires
 plus-requires c = let n = c.args.level in

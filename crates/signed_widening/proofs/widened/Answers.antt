@@ -22,14 +22,14 @@ module _ (c : After-place-at) where
   abbrev p : ℕ
   p = c.place-at.result / 8
 
-  p-is : p ≡ c.args.slot / 2 ^ suc c.args.level * 2 ^ suc c.args.level
-  p-is = rw (← add-one c.args.level) (omega (arith, c.place-at.ensures.value))
+  p_is : p ≡ c.args.slot / 2 ^ suc c.args.level * 2 ^ suc c.args.level
+  p_is = rw (← add-one c.args.level) (omega (arith, c.place-at.ensures.value))
 
-  p-multiple : p % 2 ^ (c.args.level + 1) ≡ 0
-  p-multiple = rw (add-one c.args.level, p-is) (mul-mod_left (c.args.slot / 2 ^ suc c.args.level) (2 ^ suc c.args.level))
+  p_multiple : p % 2 ^ (c.args.level + 1) ≡ 0
+  p_multiple = rw (add-one c.args.level, p_is) (mul-mod_left (c.args.slot / 2 ^ suc c.args.level) (2 ^ suc c.args.level))
 
-  p-in : p + 2 ^ c.args.level < 8
-  p-in = second_in c.args.slot c.args.level p c.requires.fact_3 c.requires.fact_2 p-is
+  p_in : p + 2 ^ c.args.level < 8
+  p_in = second_in c.args.slot c.args.level p c.requires.fact_3 c.requires.fact_2 p_is
 
 -- the sum of both counters and the amount
 module _ (c : After-plus-sum) where
@@ -78,7 +78,7 @@ module _ (c : Else-top-sum) where
       (integer_of c.plus-sum.result) (sum_is (goal.at.Else-top-sum c).After-plus-sum) size
 
 pub twins-requires : goal.twins-requires
-twins-requires c = let a = c.requires in record { fact_1 = a.fact_1.0.1; fact_2 = a.fact_2; fact_3 = p-in c }
+twins-requires c = let a = c.requires in record { fact_1 = a.fact_1.0.1; fact_2 = a.fact_2; fact_3 = p_in c }
 
 pub returns-then-not-twins : goal.returns-then-not-twins
 returns-then-not-twins c = λ e. absurd (true≢false (sym c.none_holds.ensures ∙ e))
@@ -93,7 +93,7 @@ pub put-requires : goal.put-requires
 put-requires c = record { fact_1 = omega arith; fact_2 = c.place-at.ensures.upper_bound; fact_3 = rw (← c.bits.ensures) at (number_in (goal.at.put-requires c).Else-top-sum) }
 
 pub formed-requires : goal.formed-requires
-formed-requires c = record { fact_1 = c.requires.fact_1.0.1; fact_2 = c.requires.fact_2; fact_3 = p-in (goal.at.formed-requires c).After-place-at; fact_4 = (p-multiple (goal.at.formed-requires c).After-place-at, (both (goal.at.formed-requires c).After-plus-sum).0) }
+formed-requires c = record { fact_1 = c.requires.fact_1.0.1; fact_2 = c.requires.fact_2; fact_3 = p_in (goal.at.formed-requires c).After-place-at; fact_4 = (p_multiple (goal.at.formed-requires c).After-place-at, (both (goal.at.formed-requires c).After-plus-sum).0) }
 
 pub returns : goal.returns
 returns c = λ z. number_is (goal.at.returns c).Else-top-sum c.put.result c.formed.result

@@ -1,10 +1,10 @@
 use mathlib.Core.Path.{sym, ◌∙◌}
-use Rattle.watch.proofs.Calls.{cleared-bad, cleared_good}
+use Rattle.watch.proofs.Calls.{cleared_bad, cleared_good}
 use Rattle.watch.proofs.clear.Goals as goal
 
 pub returns-then-bad-ne0 : goal.returns-then-bad-ne0
 returns-then-bad-ne0 c = let a = c.args in
-    let p = cleared-bad a.list.now c.bad_list-bad.result c.bad_list-bad.ensures c.if-bad-ne0.true in record { value = c.answer_of.ensures ∙ p.0; list_after = p.1 }
+    let p = cleared_bad a.list.now c.bad_list-bad.result c.bad_list-bad.ensures c.if-bad-ne0.true in record { value = c.answer_of.ensures ∙ p.0; list_after = p.1 }
 
 pub returns : goal.returns
 returns c = let a = c.args in

@@ -1,7 +1,7 @@
 use mathlib.Core.Path.{◌≡◌, sym, ◌∙◌}
 use Prim.Native.Nat.{◌-◌}
 use native.Mathlib.Omega.{arith}
-use Rattle.watch_list.proofs.Places.{in-use-most}
+use Rattle.watch_list.proofs.Places.{in_use_most}
 use Rattle.watch_find.proofs.Scanning.{skip}
 use Rattle.watch_find.proofs.eights.Goals as goal
 
@@ -10,7 +10,7 @@ loop-k-init c = let a = c.args in
     let h = c.requires.fact_1 in
     let e : a.n - 0 ≡ a.n = omega arith in (
       omega arith,
-      omega (arith, h.entries, in-use-most a.list.now h.long),
+      omega (arith, h.entries, in_use_most a.list.now h.long),
       record { long = h.long; is_sound = h.is_sound; key_long = c.requires.fact_2; is_digest = c.digest-sought.ensures },
       rw e (omega arith),
     )

@@ -4,7 +4,7 @@ use Prim.Native.Nat.{ℕ, ◌+◌, ◌-◌, ◌*◌}
 use native.Mathlib.Omega.{arith}
 use lib.ListN.{length, take, drop}
 use Rattle.meter_keys.specs.Keys.{same_key}
-use Rattle.watch_key.proofs.Keys.{key-of-place, other_length}
+use Rattle.watch_key.proofs.Keys.{key_of_place, other_length}
 use Rattle.watch_key.proofs.has_key.Goals as goal
 
 pub returns-then-wide-size : goal.returns-then-wide-size
@@ -15,5 +15,5 @@ pub returns : goal.returns
 returns c = let a = c.args in
     let n = length a.key.now in
     let part : 65 + a.k * 64 + n - (65 + a.k * 64) ≡ n = omega arith in
-    let is = key-of-place a.list.now c.requires.fact_1 a.k c.requires.fact_2.0 (omega (arith, c.wide.ensures)) c.requires.fact_3.1 in
+    let is = key_of_place a.list.now c.requires.fact_1 a.k c.requires.fact_2.0 (omega (arith, c.wide.ensures)) c.requires.fact_3.1 in
     c.same_bytes.ensures ∙ ap (λ (x : List ℕ). same_key x a.key.now) (ap (λ (m : ℕ). take m (drop (65 + a.k * 64) a.list.now)) part ∙ sym is)

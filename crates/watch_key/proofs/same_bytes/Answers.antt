@@ -9,7 +9,7 @@ use mathlib.Core.List.{List}
 use Rattle.little_endian.specs.Bytes.{number}
 use Rattle.meter_keys.specs.Keys.{same_key}
 use Rattle.meter_keys.proofs.Same.{key_same, key_differs}
-use Rattle.watch_key.proofs.Keys.{word-turn, byte-turn}
+use Rattle.watch_key.proofs.Keys.{word_turn, byte_turn}
 use Rattle.watch_key.proofs.same_bytes.Goals as goal
 
 pub loop-i-init : goal.loop-i-init
@@ -27,7 +27,7 @@ loop-i-preserved c = let l = c.loop-i in
     let small_b : Bytes a.b.now = λ i. (c.type_inv.b i).fits in
     let next : (l.i + 1) * 8 ≡ l.i * 8 + 8 = omega arith in
     let same = sym c.word_at.ensures ∙ c.if-word_at.false ∙ c.word_at-in-loop-i.ensures in
-    (omega arith, refl, l.invariant.2, rw next (word-turn a.a.now a.b.now l.invariant.2 (l.i * 8) (omega arith) small-a small_b l.invariant.3 same))
+    (omega arith, refl, l.invariant.2, rw next (word_turn a.a.now a.b.now l.invariant.2 (l.i * 8) (omega arith) small-a small_b l.invariant.3 same))
 
 pub loop-i-2-init : goal.loop-i-2-init
 loop-i-2-init c = let l = c.loop-i in
@@ -42,7 +42,7 @@ returns-then-a-i c = let l = c.loop-i-2 in
 pub loop-i-2-preserved : goal.loop-i-2-preserved
 loop-i-2-preserved c = let l = c.loop-i-2 in
     let a = c.args in
-    (omega arith, refl, l.invariant.2, byte-turn a.a.now a.b.now l.invariant.2 l.i (omega arith) l.invariant.3 c.if-a-i.false)
+    (omega arith, refl, l.invariant.2, byte_turn a.a.now a.b.now l.invariant.2 l.i (omega arith) l.invariant.3 c.if-a-i.false)
 
 pub returns : goal.returns
 returns c = let l = c.loop-i-2 in

@@ -6,14 +6,14 @@ use lib.ListN.{take, drop}
 use Rattle.laws.proofs.Lists.{Bytes}
 use Rattle.watch_list.specs.Layout.{estimates_at}
 use Rattle.watch_list.specs.Parts.{Holds}
-use Rattle.watch_list.proofs.Places.{in-use-most}
-use Rattle.watch_list.proofs.Changes.{renewed-is, below_is, full_is, joined_is}
+use Rattle.watch_list.proofs.Places.{in_use_most}
+use Rattle.watch_list.proofs.Changes.{renewed_is, below_is, full_is, joined_is}
 use Rattle.watch_places.proofs.Pasting.{put_eight}
 use borrow.Author.Rules.{rules}
 use Rattle.watch_places.proofs.note.Goals as goal
 
 most : (xs : List ℕ) (n : ℕ) → Holds xs n → n ≤ 64
-most xs n h = omega (arith, h.entries, in-use-most xs h.long)
+most xs n h = omega (arith, h.entries, in_use_most xs h.long)
 
 pub overflow_mul-i : goal.overflow_mul-i
 overflow_mul-i c = record { fits = omega (arith, most c.args.list.now c.args.n c.requires.fact_1) }
@@ -31,7 +31,7 @@ returns-then-i-n c = let a = c.args in
     c.put_eight.ensures
     ∙ ap (λ (ys : List ℕ). take at a.list.now ++ ys ++ drop (at + 8) a.list.now) c.bytes_of.ensures
     ∙ put_eight a.list.now at a.estimate
-    ∙ sym (renewed-is a.list.now a.n c.requires.fact_1 small a.key.now c.find-i.result c.find-i.ensures.value c.if-i-n.true a.estimate a.threshold)
+    ∙ sym (renewed_is a.list.now a.n c.requires.fact_1 small a.key.now c.find-i.result c.find-i.ensures.value c.if-i-n.true a.estimate a.threshold)
 
 pub returns-then-estimate-threshold : goal.returns-then-estimate-threshold
 returns-then-estimate-threshold c = let a = c.args in
