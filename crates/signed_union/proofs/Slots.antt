@@ -8,7 +8,7 @@ use native.Mathlib.Omega.{arith}
 use borrow.Author.Tests.{lt-ltb, le-ltb, eq-eqb, ne_eqb}
 use lib.Dec.{eqb}
 use lib.Pow.{pow_pos, shr_lt, shr_mod}
-use lib.IntN.{ℤ, ◌+ℤ◌, nat_abs}
+use lib.IntN.{◌+ℤ◌, nat_abs}
 use Rattle.group_layout.specs.Layout.{ones, marks, layout}
 use Rattle.group_block.specs.declared.Summed.{Summed}
 use Rattle.group_block.specs.Block.{cap, shape, number_of, fill, block_as, total}

@@ -1,5 +1,5 @@
 use mathlib.Core.Path.{sym, ◌∙◌}
-use mathlib.Core.Bool.{true, true≢false}
+use mathlib.Core.Bool.{true≢false}
 use Prim.Native.Nat.{◌*◌}
 use Rattle.meter_memory.proofs.Lists.{lent}
 use Rattle.meter_runs.proofs.Runs.{status-none}

@@ -1,4 +1,4 @@
-use Rattle.std.proofs.Common.{◌-◌, arith, eqb-true}
+use Rattle.std.proofs.Common.{arith, eqb-true}
 use Rattle.signed_side.proofs.Sums.{zeros_turn}
 use Rattle.signed_side.proofs.Groups.{side-accepted}
 use Rattle.signed_side.proofs.clean.Goals as goal

@@ -1,4 +1,4 @@
-use Rattle.std.proofs.Common.{◌≡◌, ◌-◌, ◌≤◌}
+use Rattle.std.proofs.Common.{◌≡◌, ◌≤◌}
 use Rattle.signed_side.specs.Side.{NoMinusZeros}
 use Rattle.signed_side.proofs.clean.Given as goal
 

@@ -1,4 +1,4 @@
-use Rattle.std.proofs.Common.{◌-◌, refl, ◌∙◌, arith, length-set}
+use Rattle.std.proofs.Common.{refl, ◌∙◌, arith, length-set}
 use Rattle.signed_side.proofs.Sums.{sums-turn}
 use Rattle.signed_side.proofs.sums_of.Goals as goal
 

@@ -3,7 +3,7 @@ use native.Mathlib.Omega.{arith}
 use lib.ListN.{set, length-set, get_or}
 use lib.Seq.{get_or-set_same, get_or-set_other}
 use Rattle.signed_union.proofs.Slots.{halves-slotted, nodes-small, nodes-beside}
-use Prim.Native.Nat.{ℕ, ◌-◌, ◌<◌}
+use Prim.Native.Nat.{ℕ, ◌<◌}
 use borrow.Author.Count.{below_more}
 use Rattle.signed_union.specs.Slotted.{NodeOf, halves_of}
 use Rattle.signed_union.proofs.eight_slots.Invariants.{none}

@@ -1,7 +1,7 @@
 use mathlib.Core.Path.{◌≡◌}
 use lib.ListN.{length, get_or}
 use mathlib.Core.Bool.{false}
-use Prim.Native.Nat.{ℕ, ◌-◌, ◌≤◌, ◌<◌}
+use Prim.Native.Nat.{ℕ, ◌≤◌, ◌<◌}
 use Rattle.signed_nodes.specs.declared.Node.{Node}
 use Rattle.signed_union.specs.Slotted.{NodeOf, halves_of}
 use Rattle.signed_union.proofs.eight_slots.Given as goal
