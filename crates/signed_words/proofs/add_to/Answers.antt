@@ -68,7 +68,7 @@ module _ (c : After-moved) where
       moved-is (n (goal.at.After-moved c).After-raised-before) c.raised-before.result (v (goal.at.After-moved c).After-raised-before) r.0 r.1 r.2 a.minus a.magnitude c.moved.result (enough (goal.at.After-moved c).Else-room-amount) c.moved.ensures
 
 pub lowered-requires : goal.lowered-requires
-lowered-requires c = let t = (goal.at.lowered-requires c).After-top-sign in record { fact_1 = (moved c).1; fact_2 = omega (arith, c.top-sign.ensures, top_most (n (goal.at.lowered-requires c).After-raised-before) c.requires.fact_1) }
+lowered-requires c = record { fact_1 = (moved c).1; fact_2 = omega (arith, c.top-sign.ensures, top_most (n (goal.at.lowered-requires c).After-raised-before) c.requires.fact_1) }
 
 pub returns : goal.returns
 returns c = let r = moved (goal.at.returns c).After-moved in record {
