@@ -28,16 +28,36 @@ pub fn append(out: &mut [u8], at: usize, t: Text) -> usize
     at + n
 }
 
+// One write of bytes. 0 is a write that took none or failed.
+fn write_some(to: Stdout, bytes: &[u8]) -> usize
+    ensures { result ≤ length bytes.now }
+{
+    let mut stdout = to;
+    match stdout.write(bytes) {
+        Ok(put) => put,
+        Err(_) => 0,
+    }
+}
+
 // All bytes at hand are written, or a write fails.
 pub fn flush(to: Stdout, out: &[u8], at: usize) -> Output
     requires { at ≤ length out.now }
     ensures { result.at ≡ 0 }
 {
-    let mut stdout = to;
-    let done = stdout.write_all(&out[..at]);
+    let mut done = 0;
+    while done < at {
+        let put = write_some(to, &out[done..at]);
+        if put == 0 {
+            return Output {
+                at: 0,
+                failed: true,
+            };
+        }
+        done += put;
+    }
     Output {
         at: 0,
-        failed: done.is_err(),
+        failed: false,
     }
 }
 
