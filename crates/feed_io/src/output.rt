@@ -6,6 +6,9 @@ ghost use Rattle.feed_io.specs.Buffers.{Cleared};
 use feed_text::Text;
 use std::io::{Stdout, Write};
 
+// The most bytes of a line.
+const LINE: usize = 64;
+
 // The bytes of the buffer that are to be written, and whether a write has failed. Then there are none, and nothing more is written.
 #[derive(Clone, Copy)]
 pub struct Output {
@@ -73,7 +76,7 @@ pub fn make_room(to: Stdout, out: &[u8], at: usize, reads: bool) -> Output
     if reads {
         return flush(to, out, at);
     }
-    if out.len() - at < 64 {
+    if out.len() - at < LINE {
         return flush(to, out, at);
     }
     Output { at, failed: false }

@@ -43,6 +43,7 @@ pub fn is_end(l: Line) -> bool
     }
 }
 
+#[tactic(auto, unfolding(crate::specs::Line::stops))]
 fn stops(status: u8) -> bool
     ensures { result ≡ spec.stops status }
 {

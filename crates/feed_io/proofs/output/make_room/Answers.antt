@@ -10,8 +10,8 @@ returns-then-at-eq0 c = cleared_none c.args.reads c.args.out.now c.args.at (omeg
 pub returns-then-reads : goal.returns-then-reads
 returns-then-reads c = cleared_all c.args.reads c.args.out.now c.args.at c.flush.result c.requires.fact_1 c.requires.fact_2 c.if-at-eq0.false c.flush.ensures
 
-pub returns-then-out-at-lt64 : goal.returns-then-out-at-lt64
-returns-then-out-at-lt64 c = cleared_all c.args.reads c.args.out.now c.args.at c.flush-then-out-at-lt64.result c.requires.fact_1 c.requires.fact_2 c.if-at-eq0.false c.flush-then-out-at-lt64.ensures
+pub returns-then-out-at-lt-LINE : goal.returns-then-out-at-lt-LINE
+returns-then-out-at-lt-LINE c = cleared_all c.args.reads c.args.out.now c.args.at c.flush-then-out-at-lt-LINE.result c.requires.fact_1 c.requires.fact_2 c.if-at-eq0.false c.flush-then-out-at-lt-LINE.ensures
 
 pub returns : goal.returns
-returns c = cleared_none c.args.reads c.args.out.now c.args.at (omega (arith, c.requires.fact_1, c.if-out-at-lt64.false)) (λ e. absurd (true≢false (sym e ∙ c.if-reads.false)))
+returns c = cleared_none c.args.reads c.args.out.now c.args.at (omega (arith, c.requires.fact_1, c.if-out-at-lt-LINE.false)) (λ e. absurd (true≢false (sym e ∙ c.if-reads.false)))
