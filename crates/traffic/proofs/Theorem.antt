@@ -76,7 +76,7 @@ module _ (d w : ℕ) (vd : valid_depth d ≡ true) (vw : valid_width w ≡ true)
       → Holds d w (watched d w memory list key amount threshold).memory (record { key = key; amount = amount } ∷ ps)
   watch_holds memory ps h list key amount threshold e =
       let a = watched_accepted d w memory list key amount threshold e in
-      rw a.memory-is (update_holds d w vw vd memory ps h key amount a.update)
+      rw a.memory_is (update_holds d w vw vd memory ps h key amount a.update)
 
   mutual
     unfolding run done bytes_of words_of traffic after behind Faithful Listed LeftBy

@@ -71,13 +71,13 @@ module _ (d w t : ℕ) (vd : valid_depth d ≡ true) (vw : valid_width w ≡ tru
   inv_unbroken steps i =
       let watch = decode (after d w steps).list in
       let good = good_formed watch i.holding.good in
-      rw i.list-is (encode_long watch good, encode_sound watch good i.holding.good.mark_le)
+      rw i.list_is (encode_long watch good, encode_sound watch good i.holding.good.mark_le)
 
   inv_passes : (steps : List Step) → Inv steps → (step : Step) → passes step (entered d w steps) ≡ accepted d w steps step
   unfolding accepted
   inv_passes steps i step =
       let u = inv_unbroken steps i in
-      sym (passes_is step (after d w steps) (entered d w steps) i.memory-is u.0 u.1)
+      sym (passes_is step (after d w steps) (entered d w steps) i.memory_is u.0 u.1)
 
   start : Inv []
   unfolding after total calls traffic key_total amount_sum taken_off_since join_order found_full listed entered
@@ -122,7 +122,7 @@ module _ (d w t : ℕ) (vd : valid_depth d ≡ true) (vw : valid_width w ≡ tru
     entered_accepted : Inv steps → (step : Step) → accepted d w steps step ≡ true
         → changed step (record { memory = (after d w steps).memory; watch = decode (after d w steps).list }) ≡ entered d w (step ∷ steps)
     unfolding entered
-    entered_accepted i step e = rw (inv_passes steps i step ∙ e, i.memory-is, i.watch-is)
+    entered_accepted i step e = rw (inv_passes steps i step ∙ e, i.memory_is, i.watch_is)
 
     -- a refused step
     refused_total : (step : Step) → accepted d w steps step ≡ false → (k : List ℕ) → total d w (step ∷ steps) k ≡ total d w steps k
@@ -149,11 +149,11 @@ module _ (d w t : ℕ) (vd : valid_depth d ≡ true) (vw : valid_width w ≡ tru
     unfolding after accepted
     refused step e i =
         let s : stepped step (after d w steps) ≡ after d w steps = kept_state step (after d w steps) e in
-        after_step step (decode (after d w steps).list) (ap (λ (x : State). x.list) s ∙ i.list-is)
+        after_step step (decode (after d w steps).list) (ap (λ (x : State). x.list) s ∙ i.list_is)
         (rw (refused_full step e)
         (refused_holding t (decode (after d w steps).list) (total d w steps) (Right steps) (λ key. taken_off_since d w key steps) (join_order d w steps) (found_full d w t steps) i.holding
         (key_of step) (total d w (step ∷ steps)) (Right (step ∷ steps)) (λ key. taken_off_since d w key (step ∷ steps)) (refused_total step e) (λ k x r. rw (refused_total step e k, refused_last step e k) r) (refused_since step e)))
-        (rw (ap (λ (x : State). x.memory) s, i.memory-is, i.watch-is) (entered_refused i step e))
+        (rw (ap (λ (x : State). x.memory) s, i.memory_is, i.watch_is) (entered_refused i step e))
 
     -- an accepted update
     module _ (key : List ℕ) (amount : ℕ) (told : Told d w t (update d w key amount t ∷ steps)) (i : Inv steps) (e : accepted d w steps (update d w key amount t) ≡ true) where
@@ -173,11 +173,11 @@ module _ (d w t : ℕ) (vd : valid_depth d ≡ true) (vw : valid_width w ≡ tru
 
       memory_now : (after d w (step ∷ steps)).memory ≡ (updated d w (after d w steps).memory key amount).memory
       unfolding after stepped
-      memory_now = passed.memory-is
+      memory_now = passed.memory_is
 
       list_now : (after d w (step ∷ steps)).list ≡ encode (noted key value t before)
       unfolding after stepped noted_in
-      list_now = passed.list-is ∙ ap (λ (m : List ℕ). encode (noted key (estimated d w m key).value t before)) (sym memory_now)
+      list_now = passed.list_is ∙ ap (λ (m : List ℕ). encode (noted key (estimated d w m key).value t before)) (sym memory_now)
 
       entered_now : record { memory = (after d w (step ∷ steps)).memory; watch = noted key value t before } ≡ entered d w (step ∷ steps)
       unfolding changed
@@ -191,12 +191,12 @@ module _ (d w t : ℕ) (vd : valid_depth d ≡ true) (vw : valid_width w ≡ tru
       unfolding total lower
       above =
           subst (λ (m : List ℕ). key_total key (traffic (calls d w (step ∷ steps))) ≤ (estimated d w m key).value) now_faithful.1
-          (answers d w vd vw (calls d w (step ∷ steps)) now_faithful.0 key passed.key-good).1.0
+          (answers d w vd vw (calls d w (step ∷ steps)) now_faithful.0 key passed.key_good).1.0
 
       small : value < 2 ^ 64
       small =
           subst (λ (m : List ℕ). (estimated d w m key).value < 2 ^ 64) now_faithful.1
-          (estimate_small d w vd vw (calls d w (step ∷ steps)) now_faithful.0 key passed.key-good)
+          (estimate_small d w vd vw (calls d w (step ∷ steps)) now_faithful.0 key passed.key_good)
 
       others : (k : List ℕ) → same_key key k ≡ false → total d w (step ∷ steps) k ≡ total d w steps k
       unfolding total calls traffic after_call key_total amount_sum
@@ -221,7 +221,7 @@ module _ (d w t : ℕ) (vd : valid_depth d ≡ true) (vw : valid_width w ≡ tru
       noted_now : Holding t (noted key value t before) (total d w (step ∷ steps)) (Right (step ∷ steps)) (λ k. taken_off_since d w k (step ∷ steps))
           (order_now key before.entries (noted key value t before).entries (join_order d w steps)) (cond (finds_full d w t steps step) 1 (found_full d w t steps))
       noted_now =
-          let n = key_long key passed.key-good in
+          let n = key_long key passed.key_good in
           rw full_is
           (noted_holding t before (total d w steps) (Right steps) (λ k. taken_off_since d w k steps) (join_order d w steps) (found_full d w t steps) i.holding key value n.0 n.1 small
           (total d w (step ∷ steps)) above others (Right (step ∷ steps)) (above, sym last_same) (λ k x n r. rw (others k n, last_other k n) r) (λ k. taken_off_since d w k (step ∷ steps)) kept)
@@ -238,7 +238,7 @@ module _ (d w t : ℕ) (vd : valid_depth d ≡ true) (vw : valid_width w ≡ tru
         let before = decode (after d w steps).list in
         let r = removed_accepted (after d w steps).list key (eqb-true _ 0 e) in
         let h = off_holding t before (total d w steps) (Right steps) (λ k. taken_off_since d w k steps) (join_order d w steps) (found_full d w t steps) i.holding key in
-        after_step (remove key) (taken_off key before) r.list-is
+        after_step (remove key) (taken_off key before) r.list_is
         (subst
         (λ (b : Bool).
         Holding t (taken_off key before) (total d w steps) (Right steps) (λ k. b && (same_key key k && listed_after d w steps k) || taken_off_since d w k steps)
@@ -277,7 +277,7 @@ module _ (d w t : ℕ) (vd : valid_depth d ≡ true) (vw : valid_width w ≡ tru
         latest = λ key l. (h.estimates key l).1;
         once = h.good.once;
         order = h.order_is;
-        bytes = i.list-is ∙ ap encode (good_canonical (decode (after d w steps).list) h.good);
+        bytes = i.list_is ∙ ap encode (good_canonical (decode (after d w steps).list) h.good);
         mark = h.mark_is;
         unbroken = inv_unbroken steps i;
       }
@@ -292,7 +292,7 @@ equal_bytes d w t d' w' t' steps others c c' m p = c.bytes ∙ rw (m, p) (sym c'
 -- What steps leave is what they leave on entries.
 pub by_entries : (d w t : ℕ) → valid_depth d ≡ true → valid_width w ≡ true → 1 ≤ t → (steps : List Step) → Told d w t steps
     → decode (after d w steps).list ≡ (entered d w steps).watch
-by_entries d w t vd vw pos steps told = (invariant d w t vd vw pos steps told).watch-is
+by_entries d w t vd vw pos steps told = (invariant d w t vd vw pos steps told).watch_is
 
 -- The premise excludes no next step but an update that is accepted and was told something else.
 pub goes_on : (d w t : ℕ) → valid_depth d ≡ true → valid_width w ≡ true → 1 ≤ t → (steps : List Step) → Told d w t steps
