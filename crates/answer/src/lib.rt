@@ -5,6 +5,7 @@ ghost use Rattle.std.specs.Prelude.{◌≡◌};
 ghost use Rattle.answer.specs.Answers as spec;
 ghost use Rattle.answer.specs.Answers.{answer_of};
 ghost use Rattle.answer.specs.Numbers.{order};
+ghost use Rattle.answer.specs.Refusals.{number};
 ghost use Rattle.answer.specs.Order.{place_in};
 ghost use Rattle.answer.specs.Order as order_spec;
 
@@ -52,6 +53,48 @@ const ORDER: [u8; 13] = [
     BAD_PAYLOAD,
     OTHER_METER,
 ];
+
+// Why a call is refused. The refusals stand in checking order.
+#[derive(Clone, Copy, Debug, PartialEq, Eq)]
+pub enum Refusal {
+    InvalidDepth,
+    InvalidWidth,
+    EvenDepth,
+    WrongLength,
+    InvalidKeyLength,
+    InvalidContent,
+    MinusZero,
+    ZeroThreshold,
+    CounterFull,
+    TooFewWords,
+    BadWord,
+    BadPayload,
+    OtherMeter,
+}
+
+impl Refusal {
+    // Document 01's number.
+    #[tactic(auto, unfolding(crate::specs::Refusals::number))]
+    pub fn number(self) -> u8
+        ensures { result ≡ number self }
+    {
+        match self {
+            Refusal::InvalidDepth => INVALID_DEPTH,
+            Refusal::InvalidWidth => INVALID_WIDTH,
+            Refusal::EvenDepth => EVEN_DEPTH,
+            Refusal::WrongLength => WRONG_LENGTH,
+            Refusal::InvalidKeyLength => INVALID_KEY_LENGTH,
+            Refusal::InvalidContent => INVALID_CONTENT,
+            Refusal::MinusZero => MINUS_ZERO,
+            Refusal::ZeroThreshold => ZERO_THRESHOLD,
+            Refusal::CounterFull => COUNTER_FULL,
+            Refusal::TooFewWords => TOO_FEW_WORDS,
+            Refusal::BadWord => BAD_WORD,
+            Refusal::BadPayload => BAD_PAYLOAD,
+            Refusal::OtherMeter => OTHER_METER,
+        }
+    }
+}
 
 // What a call answers: document 01's number, place and figure.
 #[derive(Clone, Copy)]

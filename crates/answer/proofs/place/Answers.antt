@@ -1,5 +1,4 @@
 use mathlib.Core.Path.{refl}
-use Prim.Native.Nat.{◌-◌}
 use native.Mathlib.Omega.{arith}
 use Rattle.answer.specs.Numbers.{order}
 use Rattle.answer.proofs.Order.{place_more, place_here, place_end}
