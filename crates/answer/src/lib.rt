@@ -5,7 +5,7 @@ ghost use Rattle.std.specs.Prelude.{◌≡◌};
 ghost use Rattle.answer.specs.Answers as spec;
 ghost use Rattle.answer.specs.Answers.{answer_of};
 ghost use Rattle.answer.specs.Numbers.{order};
-ghost use Rattle.answer.specs.Refusals.{number};
+ghost use Rattle.answer.specs.Refusals.{number, status};
 ghost use Rattle.answer.specs.Order.{place_in};
 ghost use Rattle.answer.specs.Order as order_spec;
 
@@ -55,7 +55,7 @@ const ORDER: [u8; 13] = [
 ];
 
 // Why a call is refused. The refusals stand in checking order.
-#[derive(Clone, Copy, Debug, PartialEq, Eq)]
+#[derive(Clone, Copy, Debug, PartialEq, Eq, PartialOrd, Ord)]
 pub enum Refusal {
     InvalidDepth,
     InvalidWidth,
@@ -164,6 +164,19 @@ pub fn earlier(a: u8, b: u8) -> u8
         return a;
     }
     if place(a) <= place(b) { a } else { b }
+}
+
+// Of two results the one whose refusal comes first in checking order.
+pub fn first(a: Result<(), Refusal>, b: Result<(), Refusal>) -> Result<(), Refusal>
+    ensures { status result ≡ order_spec.earlier (status a) (status b) }
+{
+    let Err(x) = a else {
+        return b;
+    };
+    let Err(y) = b else {
+        return a;
+    };
+    if x <= y { a } else { b }
 }
 
 // An answer as a host takes it: place and figure written where it wants them, and the number.
