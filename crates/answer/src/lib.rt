@@ -3,7 +3,7 @@
 
 ghost use Rattle.std.specs.Prelude.{◌≡◌};
 ghost use Rattle.answer.specs.Answers as spec;
-ghost use Rattle.answer.specs.Answers.{answer_of};
+ghost use Rattle.answer.specs.Answers.{answer_of, told, done};
 ghost use Rattle.answer.specs.Numbers.{order};
 ghost use Rattle.answer.specs.Refusals.{number, status};
 ghost use Rattle.answer.specs.Order.{place_in};
@@ -138,6 +138,31 @@ pub fn answer_of(status: u8, value: u64) -> Answer
         return accepted(value);
     }
     refused(status)
+}
+
+// The answer by the result of a call: its figure, or 0 where it has none.
+impl From<Result<u64, Refusal>> for Answer {
+    ghost from_gives = { λ r a. a ≡ told r };
+
+    #[tactic(auto, unfolding(crate::specs::Answers::told))]
+    fn from(result_of: Result<u64, Refusal>) -> Answer {
+        match result_of {
+            Ok(value) => accepted(value),
+            Err(r) => refused(r.number()),
+        }
+    }
+}
+
+impl From<Result<(), Refusal>> for Answer {
+    ghost from_gives = { λ r a. a ≡ done r };
+
+    #[tactic(auto, unfolding(crate::specs::Answers::done))]
+    fn from(result_of: Result<(), Refusal>) -> Answer {
+        match result_of {
+            Ok(()) => accepted(0),
+            Err(why) => refused(why.number()),
+        }
+    }
 }
 
 // Where a number stands in the list, from 0 on.
