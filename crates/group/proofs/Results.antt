@@ -1,15 +1,16 @@
 -- What the code's results come to, and what follows for a caller.
 use mathlib.Core.Path.{◌≡◌, refl, sym, ap, ◌∙◌}
-use mathlib.Core.Bool.{Bool, true, false, cond, true≢false}
+use mathlib.Core.Bool.{Bool, true, false, cond}
 use mathlib.Core.List.{List}
-use Prim.Native.Nat.{ℕ, ◌%◌, ◌^◌, ◌<◌}
+use Prim.Native.Nat.{ℕ, ◌%◌}
 use native.Mathlib.Omega.{arith}
-use Rattle.std.specs.Prelude.{Option, Some, None, Result, Ok, Err}
+use Rattle.std.specs.Prelude.{Some, None, Ok, Err}
 use Rattle.answer.specs.declared.Answer.{Answer}
 use Rattle.answer.specs.declared.Refusal.{Refusal}
-use Rattle.answer.specs.declared.Refusal.TheVariants.{InvalidDepth, InvalidWidth, EvenDepth, WrongLength, InvalidKeyLength, InvalidContent, MinusZero, ZeroThreshold, CounterFull, TooFewWords, BadWord, BadPayload, OtherMeter}
-use Rattle.answer.specs.Answers.{accepted, refused}
+use Rattle.answer.specs.declared.Refusal.TheVariants.{InvalidContent}
+use Rattle.answer.specs.Answers.{told}
 use Rattle.answer.specs.Refusals.{number, status}
+use Rattle.answer.proofs.Refusals.{positive}
 use Rattle.little_endian.specs.Bytes.{bytes}
 use Rattle.group_layout.specs.Layout.{layout, valid}
 use Rattle.group_layout.specs.Layout as layout-spec
@@ -18,26 +19,13 @@ use Rattle.group_block.specs.Block.{counter_at, number_of}
 use Rattle.group_block.specs.Change.{change}
 use Rattle.group.specs.declared.Group.{Group}
 use Rattle.group.specs.declared.Kept.{Kept}
-use Rattle.group.specs.Results.{Reading, Outcome, reading_of, outcome_of, answered}
-use Rattle.group.specs.Group.{decode, read, reading, added, holds, united_groups, changed, widest_of, unchanged}
+use Rattle.group.specs.Results.{Reading, Outcome, reading_of, outcome_of}
+use Rattle.group.specs.Group.{decode, read, reading, added, holds, changed, widest_of}
 use Rattle.group.specs.Stored.{kept}
 
--- no refusal has the number 0, which says that nothing is refused
-pub number_some : (r : Refusal) → number r ≡ 0 → ⊥
-unfolding number
-number_some InvalidDepth e = omega arith
-number_some InvalidWidth e = omega arith
-number_some EvenDepth e = omega arith
-number_some WrongLength e = omega arith
-number_some InvalidKeyLength e = omega arith
-number_some InvalidContent e = omega arith
-number_some MinusZero e = omega arith
-number_some ZeroThreshold e = omega arith
-number_some CounterFull e = omega arith
-number_some TooFewWords e = omega arith
-number_some BadWord e = omega arith
-number_some BadPayload e = omega arith
-number_some OtherMeter e = omega arith
+-- a refusal's number is not 0, which says that nothing is refused
+number_some : (r : Refusal) → number r ≡ 0 → ⊥
+number_some r e = absurd (omega (arith, positive r))
 
 -- a counter that was read, or why not
 pub record IsRead (g : Group) (slot : ℕ) (c : Counter) : Type 0 where
@@ -89,7 +77,8 @@ pub record IsAnswered (a : Answer) (v : ℕ) : Type 0 where
   pub accepted : a.status ≡ 0
   pub value : v ≡ a.value
 
-pub answer_ok : (a : Answer) (v : ℕ) → answered (Ok v) ≡ a → IsAnswered a v
+pub answer_ok : (a : Answer) (v : ℕ) → told (Ok v) ≡ a → IsAnswered a v
+unfolding told
 answer_ok a v e = record { accepted = sym (ap (λ (x : Answer). x.status) e); value = ap (λ (x : Answer). x.value) e }
 
 pub record IsUnanswered (a : Answer) (r : Refusal) : Type 0 where
@@ -97,7 +86,8 @@ pub record IsUnanswered (a : Answer) (r : Refusal) : Type 0 where
   pub some : a.status ≡ 0 → ⊥
   pub value : a.value ≡ 0
 
-pub answer_err : (a : Answer) (r : Refusal) → answered (Err r) ≡ a → IsUnanswered a r
+pub answer_err : (a : Answer) (r : Refusal) → told (Err r) ≡ a → IsUnanswered a r
+unfolding told
 answer_err a r e =
     let s = ap (λ (x : Answer). x.status) e in record { refused = s; some = λ z. number_some r (s ∙ z); value = sym (ap (λ (x : Answer). x.value) e) }
 
@@ -166,10 +156,10 @@ module _ (g : Group) (slot : ℕ) where
   unfolding changed
   changed_accepted value counts v e = rw (v, e)
 
-pub widest_refused : (m : ℕ) → valid 3 m ≡ false → answered (Err InvalidContent) ≡ widest_of m
-unfolding widest_of number
+pub widest_refused : (m : ℕ) → valid 3 m ≡ false → told (Err InvalidContent) ≡ widest_of m
+unfolding told widest_of number
 widest_refused m v = rw v
 
-pub widest_accepted : (m level : ℕ) → valid 3 m ≡ true → level ≡ layout-spec.widest_in (layout 3 m) → answered (Ok level) ≡ widest_of m
-unfolding widest_of
+pub widest_accepted : (m level : ℕ) → valid 3 m ≡ true → level ≡ layout-spec.widest_in (layout 3 m) → told (Ok level) ≡ widest_of m
+unfolding told widest_of
 widest_accepted m level v e = rw (v, e)

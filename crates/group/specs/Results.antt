@@ -1,8 +1,6 @@
 -- What a group's calls come to, by status: records, and those of the code's results. Cited by contracts and theorems.
 use Rattle.std.specs.Prelude.{ℕ, Result, Ok, Err}
-use Rattle.answer.specs.declared.Answer.{Answer}
 use Rattle.answer.specs.declared.Refusal.{Refusal}
-use Rattle.answer.specs.Answers.{accepted, refused}
 use Rattle.answer.specs.Refusals.{number}
 use Rattle.group_block.specs.declared.Counter.{Counter}
 use Rattle.group.specs.declared.Group.{Group}
@@ -27,8 +25,3 @@ reading_of (Err r) = record { status = number r; value = 0; level = 0 }
 abbrev pub outcome_of : Group → Result Group Refusal → Outcome
 outcome_of g (Ok h) = record { status = 0; group = h }
 outcome_of g (Err r) = record { status = number r; group = g }
-
--- the answer of a value or a refusal
-abbrev pub answered : Result ℕ Refusal → Answer
-answered (Ok v) = accepted v
-answered (Err r) = refused (number r)

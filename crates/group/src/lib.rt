@@ -2,10 +2,11 @@
 #![tactic(auto)]
 
 ghost use Rattle.std.specs.Prelude.{◌≡◌, false};
+ghost use Rattle.answer.specs.Answers.{told};
 ghost use Rattle.answer.specs.Refusals.{status};
 ghost use Rattle.group_layout.specs.Layout.{valid};
 ghost use Rattle.group.specs.Group.{read, holds, added, united_groups, widest_of, changed};
-ghost use Rattle.group.specs.Results.{reading_of, outcome_of, answered};
+ghost use Rattle.group.specs.Results.{reading_of, outcome_of};
 ghost use Rattle.group.specs.Stored.{stored, kept};
 
 use answer::Refusal;
@@ -129,13 +130,13 @@ pub fn unite(target: Group, source: Group) -> Result<Group, Refusal>
 }
 
 // The largest level of a group's counters.
-pub fn widest(merge: u8) -> Result<u32, Refusal>
-    ensures { answered result ≡ widest_of merge }
+pub fn widest(merge: u8) -> Result<u64, Refusal>
+    ensures { told result ≡ widest_of merge }
 {
     if !is_valid(merge) {
         return Err(Refusal::InvalidContent);
     }
-    Ok(widest_level(merge))
+    Ok(widest_level(merge) as u64)
 }
 
 // Another value in the counter that a slot is in: of the value the bits that the counter holds. The layout stays.

@@ -1,6 +1,5 @@
 use mathlib.Core.Path.{sym, ap, ◌∙◌}
 use mathlib.Core.List.{List}
-use Rattle.group.specs.Results.{Outcome}
 use Prim.Native.Nat.{ℕ}
 use Rattle.group.proofs.Laws.{added_held}
 use Rattle.group.proofs.Results.{kept_some, not_kept}

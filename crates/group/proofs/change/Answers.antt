@@ -1,4 +1,4 @@
-use mathlib.Core.Path.{◌≡◌, sym, ap, ◌∙◌}
+use mathlib.Core.Path.{sym, ap, ◌∙◌}
 use Rattle.little_endian.specs.Bytes.{bytes}
 use Rattle.group.specs.Group.{decode}
 use Rattle.group.proofs.Results.{changed_refused, changed_accepted}

@@ -1,4 +1,4 @@
-use mathlib.Core.Path.{◌≡◌, sym, ◌∙◌}
+use mathlib.Core.Path.{sym, ◌∙◌}
 use Rattle.group.specs.Group.{decode}
 use Rattle.group.proofs.Results.{read_refused, read_accepted}
 use Rattle.group.proofs.counter.Goals as goal

@@ -7,7 +7,6 @@ use Rattle.little_endian.specs.Bytes.{number}
 use Rattle.group_layout.specs.Layout.{valid}
 use Rattle.group_block.specs.Block.{cap, total}
 use Rattle.group.specs.declared.Group.{Group}
-use Rattle.group.specs.Results.{Outcome}
 use Rattle.group.specs.Group.{decode, unchanged}
 use Rattle.group.specs.Stored.{stored}
 use Rattle.group.proofs.Laws.{united_refused, united_taken, united_stored}

@@ -38,8 +38,8 @@ unfolding number status
 returns-then-not-is_valid c = let a = c.args in elim c.then-not-is_valid.branch [
   | then-not-is_valid-via-then-not-is_valid w ↦ ap status_of (sym (united_invalid a.target a.source (sym c.is_valid.ensures ∙ w.if-not-is_valid.true)))
   | then-not-is_valid-via-else-not-is_valid+then-not-is_valid-2 w ↦ ap status_of
-    (sym
-    (united_source_invalid a.target a.source (sym c.is_valid.ensures ∙ w.if-not-is_valid.false) (sym w.is_valid-else-not-is_valid.ensures ∙ w.if-not-is_valid-2.true)))
+      (sym
+      (united_source_invalid a.target a.source (sym c.is_valid.ensures ∙ w.if-not-is_valid.false) (sym w.is_valid-else-not-is_valid.ensures ∙ w.if-not-is_valid-2.true)))
 ]
 
 pub returns-then-sum_fits : goal.returns-then-sum_fits
