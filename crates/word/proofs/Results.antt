@@ -1,15 +1,15 @@
 -- Results as steps: what a reader's result says of the tests that it stands for, and of those after it.
-use mathlib.Core.Path.{◌≡◌, refl, sym, ap, ◌∙◌}
+use mathlib.Core.Path.{◌≡◌, sym, ap, ◌∙◌}
 use Prim.Native.Nat.{ℕ, ◌<◌}
 use native.Mathlib.Omega.{arith}
-use Rattle.std.specs.Prelude.{Result, Ok, Err}
+use Rattle.std.specs.Prelude.{Result, Ok, Err, IsErrAnd}
+use borrow.Author.Tests.{ne_eqb}
 use Rattle.answer.specs.declared.Refusal.{Refusal}
 use Rattle.answer.specs.declared.Refusal.TheVariants.{InvalidDepth, InvalidWidth, EvenDepth, WrongLength, InvalidKeyLength, InvalidContent, MinusZero, ZeroThreshold, CounterFull, TooFewWords, BadWord, BadPayload, OtherMeter}
 use Rattle.answer.specs.Refusals.{number}
 use Rattle.word.specs.declared.Fault.{Fault}
 use Rattle.word.specs.Step.{Step, step}
 use Rattle.word.specs.Word.{go, next}
-use Rattle.word.proofs.Laws.{turn, halt}
 
 -- no refusal has the number 0
 pub number_above : (r : Refusal) → 0 < number r
@@ -28,6 +28,23 @@ number_above BadWord = omega arith
 number_above BadPayload = omega arith
 number_above OtherMeter = omega arith
 
+-- the tests after one that passed, and after a fault
+pub next_ok : (t : Step) (g : ℕ → Step) (q : ℕ) → step (Ok q) ≡ t → next t g ≡ g q
+unfolding next
+next_ok t g q e = rw (← e)
+
+pub next_err : (t : Step) (g : ℕ → Step) (f : Fault) → step (Err f) ≡ t → next t g ≡ step (Err f)
+unfolding next
+next_err t g f e = rw (← e, ne_eqb (number f.refusal) 0 (λ z. omega (arith, number_above f.refusal)))
+
+-- a fault handed on by `?`: that of a test, and that of tests of which it is the first
+pub handed_on : (r : Result ℕ Fault) (f : Fault) (t : Step) → IsErrAnd r (λ x. x ≡ f) → step (Err f) ≡ t → step r ≡ t
+handed_on (Ok q) f t h e = absurd h
+handed_on (Err x) f t h e = rw h e
+
+pub next_handed_on : (r : Result ℕ Fault) (f : Fault) (t : Step) (g : ℕ → Step) → IsErrAnd r (λ x. x ≡ f) → step (Err f) ≡ t → step r ≡ next t g
+next_handed_on r f t g h e = handed_on r f (next t g) h (sym (next_err t g f e))
+
 module _ (r : Result ℕ Fault) (t : Step) (e : step r ≡ t) where
   -- passed: read on from a position
   pub ok_go : (q : ℕ) → r ≡ Ok q → t ≡ go q
@@ -45,10 +62,3 @@ module _ (r : Result ℕ Fault) (t : Step) (e : step r ≡ t) where
 
   pub err_status : (f : Fault) → r ≡ Err f → t.status ≡ 0 → ⊥
   err_status f o z = omega (arith, ap (λ (s : Step). s.status) (err_stop f o), number_above f.refusal)
-
-  -- the tests after it
-  pub next_ok : (g : ℕ → Step) (q : ℕ) → r ≡ Ok q → next t g ≡ g q
-  next_ok g q o = turn t t g refl (ok_status q o) ∙ ap g (ok_position q o)
-
-  pub next_err : (g : ℕ → Step) (f : Fault) → r ≡ Err f → next t g ≡ step (Err f)
-  next_err g f o = halt t t g refl (err_status f o) ∙ err_stop f o
