@@ -37,6 +37,10 @@ pub next_err : (t : Step) (g : ℕ → Step) (f : Fault) → step (Err f) ≡ t 
 unfolding next
 next_err t g f e = rw (← e, ne_eqb (number f.refusal) 0 (λ z. omega (arith, number_above f.refusal)))
 
+-- what comes of the tests after one that passed comes of all
+pub next_passed : (s t : Step) (g : ℕ → Step) (q : ℕ) → step (Ok q) ≡ t → s ≡ g q → s ≡ next t g
+next_passed s t g q e h = h ∙ sym (next_ok t g q e)
+
 -- a fault handed on by `?`: that of a test, and that of tests of which it is the first
 pub handed_on : (r : Result ℕ Fault) (f : Fault) (t : Step) → IsErrAnd r (λ x. x ≡ f) → step (Err f) ≡ t → step r ≡ t
 handed_on (Ok q) f t h e = absurd h
