@@ -59,7 +59,13 @@ pub err_status : (A : Type 0) (x : Refusal) (n : ℕ) → status {A = A} (Err x)
 unfolding status
 err_status A x n e z = absurd (omega (arith, positive x, e, z))
 
+pub no_number : (x : Refusal) → number x ≡ 0 → ⊥
+no_number x z = absurd (omega (arith, positive x, z))
+
 -- a refusal that is handed on by `?`
+pub err_is : {B : Type 0} (r : Result B Refusal) (x : Refusal) → IsErrAnd r (λ y. y ≡ x) → r ≡ Err x
+err_is r x h = let p = err_from_is_err_and r h in rw (p.1, p.2)
+
 pub handed_on : (A : Type 0) {B : Type 0} (r : Result B Refusal) (x : Refusal) (n : ℕ) → IsErrAnd r (λ y. y ≡ x) → status {A = A} (Err x) ≡ n → status r ≡ n
 unfolding status
-handed_on A r x n h e = let p = err_from_is_err_and r h in rw (p.1, p.2) e
+handed_on A r x n h e = rw (err_is r x h) e
