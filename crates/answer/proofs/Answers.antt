@@ -6,6 +6,7 @@ use Prim.Native.Nat.{ℕ, zero, suc}
 use borrow.Author.Tests.{eq-eqb, ne_eqb}
 use lib.Dec.{eqb}
 use Rattle.std.specs.Prelude.{Result, Ok, Err, ⊤, IsErrAnd, IfOk}
+use Rattle.std.specs.Result.{result_and}
 use Rattle.answer.specs.declared.Refusal.{Refusal}
 use Rattle.answer.specs.Refusals.{number, status}
 use Rattle.answer.specs.Answers.{refused, answer_of, told, done, leaves, finish}
@@ -36,6 +37,17 @@ pub told_is : (r : Result ℕ Refusal) (v : ℕ) → IfOk r (λ x. x ≡ v) → 
 unfolding told status answer_of
 told_is (Ok x) v h = ap (λ (y : ℕ). answer_of 0 y) h
 told_is (Err x) v h = answer_refused (number x) v (no_number x)
+
+pub told_status : (r : Result ℕ Refusal) → (told r).status ≡ status r
+unfolding told status
+told_status (Ok v) = refl
+told_status (Err x) = refl
+
+-- the same refusal, and no figure
+pub status_alone : (r : Result ℕ Refusal) (v : ⊤) → status (result_and r (Ok v)) ≡ status r
+unfolding status
+status_alone (Ok x) v = refl
+status_alone (Err x) v = refl
 
 -- and where a refusal was handed on by `?`
 module _ (A : Type 0) (x : Refusal) (n : ℕ) (e : status {A = A} (Err x) ≡ n) where

@@ -4,10 +4,11 @@ use mathlib.Core.List.{List}
 use Prim.Native.Nat.{ℕ, ◌<◌}
 use lib.Dec.{eqb}
 use lib.ListN.{get_or}
-use Rattle.answer.specs.declared.Answer.{Answer}
-use Rattle.answer.specs.Answers.{answer_of}
+use Rattle.std.specs.Prelude.{Result, Ok, Err, IfOk}
+use Rattle.answer.specs.declared.Refusal.{Refusal}
+use Rattle.answer.specs.Refusals.{status}
+use Rattle.meter_row.specs.declared.Found.{Found}
 use Rattle.answer.specs.Order.{earliest}
-use Rattle.answer.proofs.Answers.{status_is}
 use Rattle.hash.specs.Hash.{basis}
 use Rattle.geometry.specs.Geometry.{stride}
 use Rattle.meter_memory.specs.Rows.{map_rows, of_rows, least}
@@ -16,7 +17,7 @@ use Rattle.meter_row.specs.Row.{update_status, update_row}
 use Rattle.meter.specs.Meter.{bad_call, updated, estimated}
 use Rattle.meter.proofs.Calls.{call_rows, updated_rows}
 use Rattle.meter.proofs.Slots.{left_value, status_by_key, added_by_key, left_by_key, one_long, one_status, one_added, one_left}
-use Rattle.meter.proofs.Reading.{rows_status, value_is, value_left}
+use Rattle.meter.proofs.Reading.{rows_status, value_left}
 use Rattle.meter.proofs.update_reading.Goals as goal
 use Rattle.meter.proofs.update_reading.Goals.{After-key_slots-slots}
 
@@ -28,26 +29,26 @@ update_one-one-requires c = let p = (call_rows _ _ _ _ c.requires).1 in record {
 
 -- what a meter answers and becomes, by what its rows answered, the least value that they have then, and what the memory became
 module _ (d w : ℕ) (memory key : List ℕ) (amount : ℕ) (good : bad_call d w memory key ≡ 0) where
-  abbrev Done : Answer → List ℕ → Type 0
-  Done a m = (a.status ≡ (updated d w memory key amount).answer.status)
-      × ((m ≡ (updated d w memory key amount).memory) × (a.status ≡ 0 → a.value ≡ (estimated d w m key).value))
+  abbrev Done : Result ℕ Refusal → List ℕ → Type 0
+  Done a m = (status a ≡ (updated d w memory key amount).answer.status)
+      × ((m ≡ (updated d w memory key amount).memory) × IfOk a (λ v. v ≡ (estimated d w m key).value))
 
-  by_rows : (u a : Answer) (m : List ℕ) → a ≡ answer_of u.status u.value
-      → u.status ≡ earliest (of_rows (update_status basis w key amount) (stride w) d 0 memory)
+  -- a figure is that of a call that is not refused
+  figured : (a : Result ℕ Refusal) (s x v : ℕ) → status a ≡ s → IfOk a (λ y. y ≡ x) → (s ≡ 0 → x ≡ v) → IfOk a (λ y. y ≡ v)
+  unfolding status
+  figured (Ok y) s x v e h k = h ∙ k (sym e)
+  figured (Err r) s x v e h k = h
+
+  by_rows : (u : Found) (a : Result ℕ Refusal) (m : List ℕ) → status a ≡ status u.status → IfOk a (λ v. v ≡ u.value)
+      → status u.status ≡ earliest (of_rows (update_status basis w key amount) (stride w) d 0 memory)
       → u.value ≡ least (of_rows (left_value w key amount) (stride w) d 0 memory)
-      → m ≡ cond (eqb u.status 0) (map_rows (update_row basis w key amount) (stride w) d 0 memory) memory
+      → m ≡ cond (eqb (status u.status) 0) (map_rows (update_row basis w key amount) (stride w) d 0 memory) memory
       → Done a m
-  by_rows u a m is status value after =
-      let s : a.status ≡ u.status = ap (λ (x : Answer). x.status) is ∙ status_is u.status u.value in
-      let t = rows_status d w memory key amount u.status good status in
-      let n = (updated_rows d w memory key amount good u.status m status after).1 in (
+  by_rows u a m s is found value after =
+      let t = rows_status d w memory key amount (status u.status) good found in
+      let n = (updated_rows d w memory key amount good (status u.status) m found after).1 in (
         s ∙ t,
-        (
-          n,
-          λ e.
-              ap (λ (x : Answer). x.value) (is ∙ ap (λ (x : ℕ). answer_of x u.value) (sym s ∙ e)) ∙ value_is u.value
-              ∙ value_left d w memory key amount (sym t ∙ sym s ∙ e) m u.value good n value,
-        ),
+        (n, figured a (status u.status) u.value (estimated d w m key).value s is (λ e. value_left d w memory key amount (sym t ∙ e) m u.value good n value)),
       )
 
 pub returns-then-d-eq1 : goal.returns-then-d-eq1
@@ -56,11 +57,11 @@ returns-then-d-eq1 c = let u = c.update_one-one in
     let long = one_long a.d a.w _ c.if-d-eq1.true (call_rows _ _ _ _ c.requires).1.2 in
     let at = c.row_slot-slot.ensures.value ∙ ap (λ (b : List ℕ). key_slot c.start.result.state a.w b 0) c.whole-bytes.ensures in
     let start = c.start.ensures in
-    let r = by_rows a.d a.w a.memory.now a.key.now a.amount c.requires u.result c.answer_of.result u.new.row c.answer_of.ensures
+    let r = by_rows a.d a.w a.memory.now a.key.now a.amount c.requires u.result c.figure.result u.new.row c.figure.ensures.status_value c.figure.ensures.value
     (u.ensures.status_value ∙ one_status a.d a.w a.memory.now a.key.now c.if-d-eq1.true long start at a.amount)
     (u.ensures.value_value ∙ one_left a.d a.w a.memory.now a.key.now c.if-d-eq1.true long start at a.amount)
     (u.ensures.row_after
-    ∙ ap (λ (m : List ℕ). cond (eqb u.result.status 0) m a.memory.now) (one_added a.d a.w a.memory.now a.key.now c.if-d-eq1.true long start at a.amount)) in
+    ∙ ap (λ (m : List ℕ). cond (eqb (status u.result.status) 0) m a.memory.now) (one_added a.d a.w a.memory.now a.key.now c.if-d-eq1.true long start at a.amount)) in
     record { status_value = r.0; memory_after = r.1.0; value_value = r.1.1 }
 
 pub key_slots-slots-requires : goal.key_slots-slots-requires
@@ -80,9 +81,9 @@ returns c = let u = c.update_rows-all in
     let a = c.args in
     let start = c.start-2.ensures in
     let slots = c.key_slots-slots.result in
-    let r = by_rows a.d a.w a.memory.now a.key.now a.amount c.requires u.result c.answer_of-2.result u.new.memory c.answer_of-2.ensures
+    let r = by_rows a.d a.w a.memory.now a.key.now a.amount c.requires u.result c.figure-2.result u.new.memory c.figure-2.ensures.status_value c.figure-2.ensures.value
     (u.ensures.status_value ∙ status_by_key a.d a.w a.memory.now a.key.now slots start (key_slots_at (goal.at.returns c).After-key_slots-slots) a.amount)
     (u.ensures.value_value ∙ left_by_key a.d a.w a.memory.now a.key.now slots start (key_slots_at (goal.at.returns c).After-key_slots-slots) a.amount)
     (u.ensures.memory_after
-    ∙ ap (λ (m : List ℕ). cond (eqb u.result.status 0) m a.memory.now) (added_by_key a.d a.w a.memory.now a.key.now slots start (key_slots_at (goal.at.returns c).After-key_slots-slots) a.amount)) in
+    ∙ ap (λ (m : List ℕ). cond (eqb (status u.result.status) 0) m a.memory.now) (added_by_key a.d a.w a.memory.now a.key.now slots start (key_slots_at (goal.at.returns c).After-key_slots-slots) a.amount)) in
     record { status_value = r.0; memory_after = r.1.0; value_value = r.1.1 }

@@ -1,11 +1,16 @@
-use mathlib.Core.Path.{◌≡◌, sym, ap, ◌∙◌}
-use mathlib.Core.Bool.{Bool}
+use mathlib.Core.Path.{◌≡◌, refl, sym, ap, ◌∙◌}
+use mathlib.Core.Bool.{Bool, true, false, true≢false}
 use mathlib.Core.List.{List}
 use Prim.Native.Nat.{ℕ}
 use Rattle.meter.specs.Meter.{estimated}
 use Rattle.answer.specs.declared.Answer.{Answer}
 use Rattle.answer.specs.Numbers.{invalid_content}
-use Rattle.answer.specs.Answers.{answer_of}
+use Rattle.std.specs.Prelude.{Result, Ok, Err, ⊤, is_err}
+use Rattle.answer.specs.declared.Refusal.{Refusal}
+use Rattle.answer.specs.Refusals.{status}
+use Rattle.answer.specs.Answers.{answer_of, done}
+use Rattle.answer.proofs.Refusals.{ok_status, err_status, no_number}
+use Rattle.answer.proofs.Answers.{done_is, told_status, status_alone, done_handed}
 use Rattle.answer.specs.Order.{unless, earlier}
 use Rattle.answer.proofs.Order.{none_earlier}
 use Rattle.watch_list.specs.List.{noted}
@@ -16,26 +21,44 @@ use Rattle.watch.specs.Watch.{noted_in}
 use Rattle.watch_checks.proofs.Lines.{list_sound}
 use Rattle.watch.proofs.Calls.{lines_good, watched_bad, watched_line, watched_full, watched_done}
 use Rattle.watch.proofs.update.Goals as goal
-use Rattle.watch.proofs.update.Goals.{After-bad_content-line, Else-bad-ne0}
+use Rattle.watch.proofs.update.Goals.{After-check_content-content, Else-content, In_ok-check_lines}
 
-pub returns-then-bad-ne0 : goal.returns-then-bad-ne0
-returns-then-bad-ne0 c = let a = c.args in
-    let p = watched_bad a.d a.w a.memory.now a.list.now a.key.now a.amount a.threshold c.bad_lines-bad.result c.bad_lines-bad.ensures c.if-bad-ne0.true in
-    record { value = c.answer_of.ensures ∙ p.0; memory_after = p.1.0; list_after = p.1.1 }
+pub returns-in_err-check_lines : goal.returns-in_err-check_lines
+returns-in_err-check_lines c = let a = c.args in
+    let e = c.in_err-check_lines.ensures in
+    let p = watched_bad a.d a.w a.memory.now a.list.now a.key.now a.amount a.threshold _ refl (err_status _ _ _ e) in
+    record { value = done_handed _ _ _ e _ c.from_residual.ensures.1 ∙ p.0; memory_after = p.1.0; list_after = p.1.1 }
 
 -- lines 1 to 4 have passed
-passed : (c : Else-bad-ne0)
+passed : (c : In_ok-check_lines)
     → let a = c.args in
     bad_lines a.d a.w a.memory.now a.list.now a.key.now ≡ 0
-passed c = sym c.bad_lines-bad.ensures ∙ c.if-bad-ne0.false
+passed c = ok_status _ _ c.in_ok-check_lines.ensures
 
 -- lines 5 and 11
-own_line : (c : After-bad_content-line)
+own_line : (c : After-check_content-content)
     → let a = c.args in
-    c.bad_content-line.result ≡ earlier (broken_list a.list.now) (bad_threshold a.threshold)
+    status c.check_content-content.result ≡ earlier (broken_list a.list.now) (bad_threshold a.threshold)
 own_line c =
     let a = c.args in
-    c.bad_content-line.ensures ∙ ap (λ (b : Bool). earlier (unless b invalid_content) (bad_threshold a.threshold)) c.usage_of-found.ensures.sound_value
+    c.check_content-content.ensures ∙ ap (λ (b : Bool). earlier (unless b invalid_content) (bad_threshold a.threshold)) c.usage_of-found.ensures.sound_value
+
+-- what is refused has a status, and what is not has none
+refused : (r : Result ⊤ Refusal) → is_err r ≡ true → status r ≡ 0 → ⊥
+unfolding status
+refused (Ok v) e z = absurd (true≢false (sym e))
+refused (Err x) e z = no_number x z
+
+accepted : (r : Result ⊤ Refusal) → is_err r ≡ false → status r ≡ 0
+unfolding status
+accepted (Ok v) e = refl
+accepted (Err x) e = absurd (true≢false e)
+
+-- 5 and 11 have passed
+clean : (c : Else-content)
+    → let a = c.args in
+    earlier (broken_list a.list.now) (bad_threshold a.threshold) ≡ 0
+clean c = sym (own_line (goal.at-Else-content c)) ∙ accepted c.check_content-content.result (sym c.is_err.ensures ∙ c.if-content.false)
 
 pub usage_of-found-requires : goal.usage_of-found-requires
 usage_of-found-requires c = let a = c.args in
@@ -43,30 +66,31 @@ usage_of-found-requires c = let a = c.args in
 
 pub estimate_checked-asked-requires : goal.estimate_checked-asked-requires
 estimate_checked-asked-requires c = let a = c.args in
-    (lines_good a.d a.w a.memory.now a.list.now a.key.now (passed (goal.at.estimate_checked-asked-requires c).Else-bad-ne0)).0
+    (lines_good a.d a.w a.memory.now a.list.now a.key.now (passed (goal.at.estimate_checked-asked-requires c).In_ok-check_lines)).0
 
-pub returns-then-line-ne0 : goal.returns-then-line-ne0
-returns-then-line-ne0 c = let a = c.args in
-    let p = watched_line a.d a.w a.memory.now a.list.now a.key.now a.amount a.threshold (passed (goal.at.returns-then-line-ne0 c).Else-bad-ne0) c.bad_content-line.result c.estimate_checked-asked.result.status (own_line (goal.at.returns-then-line-ne0 c).After-bad_content-line) c.if-line-ne0.true (ap (λ (x : Answer). x.status) c.estimate_checked-asked.ensures) in
-    record { value = c.answer_of-then-line-ne0.ensures ∙ ap (λ (s : ℕ). answer_of s 0) c.earlier.ensures ∙ p.0; memory_after = p.1.0; list_after = p.1.1 }
+pub returns-then-content : goal.returns-then-content
+returns-then-content c = let a = c.args in
+    let content = c.check_content-content.result in
+    let p = watched_line a.d a.w a.memory.now a.list.now a.key.now a.amount a.threshold (passed (goal.at.returns-then-content c).In_ok-check_lines) (status content) _ (own_line (goal.at.returns-then-content c).After-check_content-content) (refused content (sym c.is_err.ensures ∙ c.if-content.true)) (sym (told_status c.estimate_checked-asked.result) ∙ ap (λ (x : Answer). x.status) c.estimate_checked-asked.ensures) in
+    record { value = done_is c.first.result ∙ ap (λ (s : ℕ). answer_of s 0) (c.first.ensures ∙ ap (λ (s : ℕ). earlier s (status content)) (ap status c.and.ensures ∙ status_alone c.estimate_checked-asked.result _)) ∙ p.0; memory_after = p.1.0; list_after = p.1.1 }
 
 pub update_reading-left-requires : goal.update_reading-left-requires
 update_reading-left-requires c = let a = c.args in
-    (lines_good a.d a.w a.memory.now a.list.now a.key.now (passed (goal.at.update_reading-left-requires c).Else-bad-ne0)).0
+    (lines_good a.d a.w a.memory.now a.list.now a.key.now (passed (goal.at.update_reading-left-requires c).In_ok-check_lines)).0
 
-pub returns-then-left-ne0 : goal.returns-then-left-ne0
-returns-then-left-ne0 c = let a = c.args in
-    let p = watched_full a.d a.w a.memory.now a.list.now a.key.now a.amount a.threshold (passed (goal.at.returns-then-left-ne0 c).Else-bad-ne0) (sym (own_line (goal.at.returns-then-left-ne0 c).After-bad_content-line) ∙ c.if-line-ne0.false) c.update_reading-left.result.status c.update_reading-left.ensures.status_value c.if-left-ne0.true in record { value = c.answer_of-then-left-ne0.ensures ∙ p.0; memory_after = c.update_reading-left.ensures.memory_after ∙ p.1.0; list_after = p.1.1 }
+pub returns-in_err-left : goal.returns-in_err-left
+returns-in_err-left c = let a = c.args in
+    let e = c.in_err-left.ensures in
+    let p = watched_full a.d a.w a.memory.now a.list.now a.key.now a.amount a.threshold (passed (goal.at.returns-in_err-left c).In_ok-check_lines) (clean (goal.at.returns-in_err-left c).Else-content) _ refl (err_status _ _ _ e.status_value) in record { value = done_handed _ _ _ e.status_value _ c.from_residual.ensures.1 ∙ p.0; memory_after = e.memory_after ∙ p.1.0; list_after = p.1.1 }
 
 pub note-requires : goal.note-requires
 note-requires c = let a = c.args in
-    let g = lines_good a.d a.w a.memory.now a.list.now a.key.now (passed (goal.at.note-requires c).Else-bad-ne0) in
-    let clean = none_earlier (broken_list a.list.now) (bad_threshold a.threshold) (sym (own_line (goal.at.note-requires c).After-bad_content-line) ∙ c.if-line-ne0.false) in record { fact_1 = usage_holds g.1 (list_sound a.list.now clean.0) c.usage_of-found.ensures.places_value; fact_2 = g.2 }
+    let g = lines_good a.d a.w a.memory.now a.list.now a.key.now (passed (goal.at.note-requires c).In_ok-check_lines) in
+    let clean = none_earlier (broken_list a.list.now) (bad_threshold a.threshold) (clean (goal.at.note-requires c).Else-content) in record { fact_1 = usage_holds g.1 (list_sound a.list.now clean.0) c.usage_of-found.ensures.places_value; fact_2 = g.2 }
 
 pub returns : goal.returns
-unfolding noted_in
+unfolding noted_in done answer_of
 returns c = let a = c.args in
-    let left = c.update_reading-left in
-    let p = watched_done a.d a.w a.memory.now a.list.now a.key.now a.amount a.threshold (passed (goal.at.returns c).Else-bad-ne0) (sym (own_line (goal.at.returns c).After-bad_content-line) ∙ c.if-line-ne0.false) (sym left.ensures.status_value ∙ c.if-left-ne0.false) in
-    let is = c.update_reading-left.ensures.memory_after in
-    let estimate = left.ensures.value_value c.if-left-ne0.false ∙ ap (λ (m : List ℕ). (estimated a.d a.w m a.key.now).value) is in record { value = c.answer_of-2.ensures ∙ p.0; memory_after = is ∙ p.1.0; list_after = c.note.ensures ∙ ap (λ (v : ℕ). encode (noted a.key.now v a.threshold (decode a.list.now))) estimate ∙ p.1.1 }
+    let left = c.in_ok-left.ensures in
+    let p = watched_done a.d a.w a.memory.now a.list.now a.key.now a.amount a.threshold (passed (goal.at.returns c).In_ok-check_lines) (clean (goal.at.returns c).Else-content) (ok_status _ _ left.status_value) in
+    let estimate = left.value_value ∙ ap (λ (m : List ℕ). (estimated a.d a.w m a.key.now).value) left.memory_after in record { value = p.0; memory_after = left.memory_after ∙ p.1.0; list_after = c.note.ensures ∙ ap (λ (v : ℕ). encode (noted a.key.now v a.threshold (decode a.list.now))) estimate ∙ p.1.1 }
