@@ -1,7 +1,7 @@
 // The union of one row with a source row.
 #![tactic(auto)]
 
-ghost use Rattle.std.specs.Prelude.{◌≡◌, true, cond, ◌+◌, ◌-◌, ◌*◌, ◌/◌, ◌<◌, ◌≤◌, length};
+ghost use Rattle.std.specs.Prelude.{◌≡◌, true, cond, ◌+◌, ◌-◌, ◌*◌, ◌/◌, ◌<◌, ◌≤◌, IfSome, IsNone, length};
 ghost use Rattle.geometry.specs.Geometry.{valid_width};
 ghost use Rattle.geometry.specs.Geometry as geometry;
 ghost use Rattle.group_side.specs.Side.{stay_unmerged};
@@ -24,19 +24,20 @@ fn united_at(row: &[u8], source: &[u8], w: usize, g: usize) -> Outcome
     group::unite(load(row, w, g), load(source, w, g))
 }
 
-// The first eight groups, by number and from eight `from` on, some of which is merged in either row; w / 64 if there are none.
-fn next_merged(row: &[u8], source: &[u8], w: usize, from: usize) -> usize
+// The first eight groups, by number and from eight `from` on, some of which is merged in either row.
+fn next_merged(row: &[u8], source: &[u8], w: usize, from: usize) -> Option<usize>
     requires fact_1 { length row.now ≡ geometry.stride w }
     requires fact_2 { length source.now ≡ geometry.stride w }
     requires fact_3 { from ≤ w / 64 }
-    ensures { result ≡ next_merged w row.now source.now (w / 64 - from) from }
+    ensures some { IfSome result (λ e. (e < w / 64) × (e ≡ next_merged w row.now source.now (w / 64 - from) from)) }
+    ensures none { IsNone result → w / 64 ≡ next_merged w row.now source.now (w / 64 - from) from }
 {
     for e in from..w / 64 {
         if !eight_unmerged(row, source, w, 8 * e) {
-            return e;
+            return Some(e);
         }
     }
-    w / 64
+    None
 }
 
 // Whether n groups of a row take those of a source row, the first of which is group `first`.
@@ -60,10 +61,10 @@ pub fn unite_status(row: &[u8], source: &[u8], w: usize) -> u8
     ensures { result ≡ unite_status w source.now row.now }
 {
     let mut status = 0u8;
-    let mut e = next_merged(row, source, w, 0);
-    while e < w / 64 {
+    let mut from = 0;
+    while let Some(e) = next_merged(row, source, w, from) {
         status = earlier(status, groups_status(row, source, w, 8 * e, 8));
-        e = next_merged(row, source, w, e + 1);
+        from = e + 1;
     }
     let first = w / 64 * 8;
     let n = w / 8 % 8;

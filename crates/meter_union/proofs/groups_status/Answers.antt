@@ -6,7 +6,7 @@ use Rattle.meter_runs.specs.Runs.{run_status}
 use Rattle.meter_union.specs.Runs.{groups_status}
 use Rattle.meter_memory.proofs.Lists.{status_turn, status_end}
 use mathlib.Core.Path.{refl, sym, ap, ap₂, ◌∙◌}
-use Prim.Native.Nat.{ℕ, ◌+◌, ◌-◌}
+use Prim.Native.Nat.{ℕ, ◌+◌}
 use native.Mathlib.Omega.{arith}
 use Rattle.answer.specs.Order.{earlier}
 use Rattle.meter_union.proofs.groups_status.Goals as goal
