@@ -2,6 +2,7 @@ use mathlib.Core.Path.{◌≡◌, refl, sym, ap, ◌∙◌}
 use Prim.Native.Nat.{ℕ, ◌+◌, ◌-◌, ◌*◌, ◌/◌, ◌%◌, ◌≤◌, ◌<◌}
 use native.Mathlib.Omega.{arith}
 use Rattle.answer.specs.Order.{earlier}
+use Rattle.answer.specs.Refusals.{status}
 use Rattle.answer.proofs.Order.{earlier_none}
 use Rattle.group.specs.Group.{united_groups}
 use Rattle.geometry.proofs.Widths.{stride_is}
@@ -26,7 +27,7 @@ next c =
 
 -- the groups after the eights
 rest : (c : In_default)
-    → earlier c.loop-e.status (groups_status c.args.w c.args.source.now c.args.row.now (c.args.w / 8 % 8) (c.args.w / 64 * 8)) ≡ unite_status c.args.w c.args.source.now c.args.row.now
+    → earlier (status c.loop-e.status) (groups_status c.args.w c.args.source.now c.args.row.now (c.args.w / 8 % 8) (c.args.w / 64 * 8)) ≡ unite_status c.args.w c.args.source.now c.args.row.now
 rest c =
     let a = c.args in
     let p = passed_over a.w a.row.now a.source.now (omega (arith, stride_is a.w)) (omega (arith, stride_is a.w)) (λ i. (c.type_inv.row i).fits) (λ i. (c.type_inv.source i).fits) c.loop-e.from (a.w / 64) c.loop-e.invariant.0 (c.in_default.ensures.none refl) in
@@ -35,7 +36,7 @@ rest c =
     rw (first, n, p.1) c.loop-e.invariant.1
 
 pub loop-e-init : goal.loop-e-init
-unfolding earlier pairs_status run_status
+unfolding earlier status pairs_status run_status
 loop-e-init c = let a = c.args in
     (omega arith, ap (λ (n : ℕ). groups_status a.w a.source.now a.row.now n 0) (omega arith))
 
@@ -53,8 +54,8 @@ loop-e-preserved c = let a = c.args in
     let p = next (goal.at.loop-e-preserved c).In-Some in
     let at : 8 * (e + 1) ≡ 8 * e + 8 = omega arith in (
       omega arith,
-      rw (c.earlier-status.ensures, at)
-          (status_next united_groups a.w a.source.now (a.w / 8) (8 * e) 8 a.row.now c.loop-e.status c.groups_status.result (omega arith) c.groups_status.ensures
+      rw (c.first-status.ensures, at)
+          (status_next united_groups a.w a.source.now (a.w / 8) (8 * e) 8 a.row.now (status c.loop-e.status) (status c.groups_status.result) (omega arith) c.groups_status.ensures
           ∙ rw p.2 c.loop-e.invariant.1),
     )
 
@@ -66,7 +67,7 @@ pub returns-then-none_merged : goal.returns-then-none_merged
 returns-then-none_merged c = let a = c.args in
     let none = united_status_lem a.w (a.w / 8 % 8) (a.w / 64 * 8) a.row.now a.source.now (omega arith) (omega (arith, stride_is a.w)) (omega (arith, stride_is a.w))
     (λ i. (c.type_inv.row i).fits) (λ i. (c.type_inv.source i).fits) (sym c.none_merged.ensures ∙ c.if-none_merged.true) in
-    sym (earlier_none c.loop-e.status) ∙ rw none at (rest (goal.at.returns-then-none_merged c).In_default)
+    sym (earlier_none (status c.loop-e.status)) ∙ rw none at (rest (goal.at.returns-then-none_merged c).In_default)
 
 pub groups_status-requires-2 : goal.groups_status-requires-2
 groups_status-requires-2 c = let w = c.args.w in
@@ -74,4 +75,4 @@ groups_status-requires-2 c = let w = c.args.w in
 
 pub returns : goal.returns
 returns c =
-    c.earlier.ensures ∙ ap (earlier c.loop-e.status) c.groups_status-2.ensures ∙ rest (goal.at.returns c).In_default
+    c.first.ensures ∙ ap (earlier (status c.loop-e.status)) c.groups_status-2.ensures ∙ rest (goal.at.returns c).In_default
