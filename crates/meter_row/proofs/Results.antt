@@ -1,11 +1,16 @@
 -- The status of a result, and its figure.
-use mathlib.Core.Path.{◌≡◌, refl}
+use mathlib.Core.Path.{◌≡◌, refl, sym}
+use mathlib.Core.Bool.{true, false, true≢false}
 use Prim.Native.Nat.{ℕ}
+use native.Mathlib.Omega.{arith}
+use borrow.Author.Tests.{ne_eqb}
+use lib.Dec.{eqb}
 use Rattle.std.specs.Prelude.{Result, Ok, Err}
-use Rattle.std.specs.Result.{result_and, result_unwrap_or}
+use Rattle.std.specs.Result.{is_err, result_and, result_unwrap_or}
 use Rattle.answer.specs.declared.Refusal.{Refusal}
 use Rattle.answer.specs.Answers.{told}
-use Rattle.answer.specs.Refusals.{status}
+use Rattle.answer.specs.Refusals.{number, status}
+use Rattle.answer.proofs.Refusals.{positive}
 use Rattle.group_block.specs.declared.Counter.{Counter}
 use Rattle.group.specs.declared.Group.{Group}
 use Rattle.group.specs.Results.{reading_of, outcome_of}
@@ -35,3 +40,14 @@ pub told_value : (r : Result ℕ Refusal) → result_unwrap_or r 0 ≡ (told r).
 unfolding told
 told_value (Ok v) = refl
 told_value (Err x) = refl
+
+-- whether it is refused
+pub refused_status : {A : Type 0} (r : Result A Refusal) → is_err r ≡ true → eqb (status r) 0 ≡ false
+unfolding status
+refused_status (Ok v) e = absurd (true≢false (sym e))
+refused_status (Err x) e = ne_eqb (number x) 0 (λ z. absurd (omega (arith, positive x)))
+
+pub accepted_status : {A : Type 0} (r : Result A Refusal) → is_err r ≡ false → status r ≡ 0
+unfolding status
+accepted_status (Ok v) e = refl
+accepted_status (Err x) e = absurd (true≢false e)
