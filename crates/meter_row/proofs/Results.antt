@@ -1,0 +1,53 @@
+-- The status of a result, and its figure.
+use mathlib.Core.Path.{◌≡◌, refl, sym}
+use mathlib.Core.Bool.{true, false, true≢false}
+use Prim.Native.Nat.{ℕ}
+use native.Mathlib.Omega.{arith}
+use borrow.Author.Tests.{ne_eqb}
+use lib.Dec.{eqb}
+use Rattle.std.specs.Prelude.{Result, Ok, Err}
+use Rattle.std.specs.Result.{is_err, result_and, result_unwrap_or}
+use Rattle.answer.specs.declared.Refusal.{Refusal}
+use Rattle.answer.specs.Answers.{told}
+use Rattle.answer.specs.Refusals.{number, status}
+use Rattle.answer.proofs.Refusals.{positive}
+use Rattle.group_block.specs.declared.Counter.{Counter}
+use Rattle.group.specs.declared.Group.{Group}
+use Rattle.group.specs.Results.{reading_of, outcome_of}
+
+-- what is refused, and no more
+pub and_status : {A : Type 0} (r : Result A Refusal) → status (result_and r (Ok (tt {0}))) ≡ status r
+unfolding status
+and_status (Ok v) = refl
+and_status (Err x) = refl
+
+pub read_status : (r : Result Counter Refusal) → status r ≡ (reading_of r).status
+unfolding status
+read_status (Ok v) = refl
+read_status (Err x) = refl
+
+pub outcome_status : (g : Group) (r : Result Group Refusal) → status r ≡ (outcome_of g r).status
+unfolding status
+outcome_status g (Ok v) = refl
+outcome_status g (Err x) = refl
+
+pub told_status : (r : Result ℕ Refusal) → status r ≡ (told r).status
+unfolding status told
+told_status (Ok v) = refl
+told_status (Err x) = refl
+
+pub told_value : (r : Result ℕ Refusal) → result_unwrap_or r 0 ≡ (told r).value
+unfolding told
+told_value (Ok v) = refl
+told_value (Err x) = refl
+
+-- whether it is refused
+pub refused_status : {A : Type 0} (r : Result A Refusal) → is_err r ≡ true → eqb (status r) 0 ≡ false
+unfolding status
+refused_status (Ok v) e = absurd (true≢false (sym e))
+refused_status (Err x) e = ne_eqb (number x) 0 (λ z. absurd (omega (arith, positive x)))
+
+pub accepted_status : {A : Type 0} (r : Result A Refusal) → is_err r ≡ false → status r ≡ 0
+unfolding status
+accepted_status (Ok v) e = refl
+accepted_status (Err x) e = absurd (true≢false e)
