@@ -2,7 +2,7 @@
 use Rattle.std.specs.Prelude.{ℕ, Result, Ok, Err}
 use Rattle.answer.specs.declared.Refusal.{Refusal}
 use Rattle.answer.specs.Refusals.{number}
-use Rattle.group_block.specs.declared.Counter.{Counter}
+pub use Rattle.group_block.specs.declared.Counter.{Counter}
 use Rattle.group.specs.declared.Group.{Group}
 
 -- a counter that was read, or why not

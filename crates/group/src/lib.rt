@@ -10,6 +10,7 @@ ghost use Rattle.group.specs.Results.{reading_of, outcome_of};
 ghost use Rattle.group.specs.Stored.{stored, kept};
 
 use answer::Refusal;
+pub use group_block::Counter;
 use group_block::Summed;
 use group_levels::{level_at, widest_level};
 use group_sums::{sum_fits, with_value};
@@ -30,7 +31,7 @@ pub fn is_valid(merge: u8) -> bool
 }
 
 // The counter that a slot is in.
-pub fn counter(g: Group, slot: usize) -> Result<group_block::Counter, Refusal>
+pub fn counter(g: Group, slot: usize) -> Result<Counter, Refusal>
     ensures { reading_of result ≡ read g slot }
 {
     if !is_valid(g.merge) {

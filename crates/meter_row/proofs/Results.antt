@@ -11,9 +11,8 @@ use Rattle.answer.specs.declared.Refusal.{Refusal}
 use Rattle.answer.specs.Answers.{told}
 use Rattle.answer.specs.Refusals.{number, status}
 use Rattle.answer.proofs.Refusals.{positive}
-use Rattle.group_block.specs.declared.Counter.{Counter}
 use Rattle.group.specs.declared.Group.{Group}
-use Rattle.group.specs.Results.{reading_of, outcome_of}
+use Rattle.group.specs.Results.{Counter, reading_of, outcome_of}
 
 -- what is refused, and no more
 pub and_status : {A : Type 0} (r : Result A Refusal) → status (result_and r (Ok (tt {0}))) ≡ status r

@@ -1,18 +1,18 @@
 // One row of a meter: what an estimate and the widest level read of it, and an update in it.
 #![tactic(auto)]
 
-ghost use Rattle.std.specs.Prelude.{◌≡◌, true, cond, ◌/◌, ◌<◌, eqb, length};
+ghost use Rattle.std.specs.Prelude.{◌≡◌, true, cond, ◌/◌, ◌<◌, eqb, length, IfOk};
 ghost use Rattle.geometry.specs.Geometry.{valid_width};
 ghost use Rattle.geometry.specs.Geometry as geometry;
 ghost use Rattle.meter_memory.specs.Rows.{group_at, with_group};
+ghost use Rattle.answer.specs.Answers.{answer_of, told};
 ghost use Rattle.answer.specs.Refusals.{status};
 ghost use Rattle.group.specs.Group.{read};
 ghost use Rattle.group.specs.Results.{reading_of};
 ghost use Rattle.meter_row.specs.Row.{widest_status, widest_row, added_in, added_row};
 
 use answer::{Refusal, first};
-use group::Group;
-use group_block::Counter;
+use group::{Counter, Group};
 use meter_memory::{load, store};
 
 // The first refusal of all that was looked at, if any, and a number made of it, also of what was refused.
@@ -20,6 +20,20 @@ use meter_memory::{load, store};
 pub struct Found {
     pub status: Result<(), Refusal>,
     pub value: u64,
+}
+
+impl Found {
+    // The number, where nothing is refused.
+    pub fn figure(self) -> Result<u64, Refusal>
+        ensures answer { told result ≡ answer_of (status self.status) self.value }
+        ensures status_value { status result ≡ status self.status }
+        ensures value { IfOk result (λ v. v ≡ self.value) }
+    {
+        match self.status {
+            Ok(()) => Ok(self.value),
+            Err(refusal) => Err(refusal),
+        }
+    }
 }
 
 // The counter of a slot.
