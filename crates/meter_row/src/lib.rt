@@ -5,6 +5,7 @@ ghost use Rattle.std.specs.Prelude.{◌≡◌, true, cond, ◌/◌, ◌<◌, eqb
 ghost use Rattle.geometry.specs.Geometry.{valid_width};
 ghost use Rattle.geometry.specs.Geometry as geometry;
 ghost use Rattle.meter_memory.specs.Rows.{group_at, with_group};
+ghost use Rattle.answer.specs.Answers.{answer_of, told};
 ghost use Rattle.answer.specs.Refusals.{status};
 ghost use Rattle.group.specs.Group.{read};
 ghost use Rattle.group.specs.Results.{reading_of};
@@ -20,6 +21,16 @@ use meter_memory::{load, store};
 pub struct Found {
     pub status: Result<(), Refusal>,
     pub value: u64,
+}
+
+impl Found {
+    // The number, where nothing is refused.
+    #[tactic(auto, using(crate::proofs::Results::and_told))]
+    pub fn figure(self) -> Result<u64, Refusal>
+        ensures { told result ≡ answer_of (status self.status) self.value }
+    {
+        self.status.and(Ok(self.value))
+    }
 }
 
 // The counter of a slot.
