@@ -120,3 +120,10 @@ fit_split (suc k) [] ys = refl
 fit_split (suc k) (x ∷ xs) [] = sym (fit_none (drop k xs))
 fit_split (suc k) (x ∷ xs) (y ∷ ys) =
     ap (λ (b : Bool). ltb (x + y) 256 && b) (fit_split k xs ys) ∙ sym (and_assoc (ltb (x + y) 256) (fit (take k xs) (take k ys)) (fit (drop k xs) (drop k ys)))
+
+-- where the elements of a list are that are left of it from a place on
+pub front_at : (xs : List ℕ) (n x : ℕ) (rest : List ℕ) → x ∷ rest ≡ drop n xs → (n < length xs) × (x ≡ get_or xs n 0) × (rest ≡ drop (n + 1) xs)
+front_at [] zero x rest e = cc
+front_at [] (suc n) x rest e = cc
+front_at (y ∷ ys) zero x rest e = let p : x ≡ y = cc in let q : rest ≡ ys = cc in (omega arith, p, q)
+front_at (y ∷ ys) (suc n) x rest e = let r = front_at ys n x rest e in (omega arith, r.1, r.2 ∙ ap (λ (k : ℕ). drop k ys) (add-one n) ∙ ap (λ (k : ℕ). drop k (y ∷ ys)) (sym (add-one (suc n))))

@@ -9,7 +9,6 @@ ghost use Rattle.group_side.specs.Side.{any_merged, fit, wrapped_sums, united_si
 ghost use Rattle.group_side.specs.Side as spec;
 
 use group::Group;
-use std::num::wrapping_add_u8;
 
 // Whether some of these groups is merged, by their merge bytes.
 pub fn any_merged(merges: &[u8]) -> bool
@@ -61,9 +60,9 @@ fn sums_of(counts: &[u8], source: &[u8]) -> Sums
 {
     let mut bytes = [0u8; 64];
     let mut carries = 0u8;
-    for i in 0..64 {
-        bytes[i] = wrapping_add_u8(counts[i], source[i]);
-        carries = carries | carry(counts[i], source[i]);
+    for (i, (a, b)) in counts.iter().zip(source).enumerate() {
+        bytes[i] = a.wrapping_add(*b);
+        carries |= carry(*a, *b);
     }
     Sums { bytes, carries }
 }
