@@ -11,26 +11,18 @@ pub const LARGEST_LOG: u32 = 14;
 
 pub const MAX_WIDTH: usize = 1 << LARGEST_LOG;
 
+#[tactic(auto, unfolding(crate::specs::Geometry::valid_depth))]
 pub fn valid_depth(d: usize) -> bool
     ensures { result ≡ valid_depth d }
 {
-    if d < 1 {
-        return false;
-    }
-    d <= 8
+    (1..=8).contains(&d)
 }
 
-// Whether a width is a power of two in range: such a number shares no bit with its predecessor.
+// Whether a width is a power of two in range.
 pub fn valid_width(w: usize) -> bool
     ensures { result ≡ valid_width w }
 {
-    if w < 32 {
-        return false;
-    }
-    if MAX_WIDTH < w {
-        return false;
-    }
-    w & (w - 1) == 0
+    (32..=MAX_WIDTH).contains(&w) && w.is_power_of_two()
 }
 
 // The bytes of a row.
@@ -61,10 +53,7 @@ pub fn bad_shape(d: usize, w: usize, bytes: usize) -> u8
 pub fn bad_key(bytes: usize) -> u8
     ensures { result ≡ bad_key bytes }
 {
-    if bytes < 1 {
-        return answer::INVALID_KEY_LENGTH;
-    }
-    if 64 < bytes {
+    if !(1..=64).contains(&bytes) {
         return answer::INVALID_KEY_LENGTH;
     }
     0
