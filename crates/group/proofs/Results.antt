@@ -1,27 +1,21 @@
--- What the code's results come to, and what follows for a caller.
+-- What follows for a caller from a call's result.
 use mathlib.Core.Path.{◌≡◌, refl, sym, ap, ◌∙◌}
 use mathlib.Core.Bool.{Bool, true, false, cond}
 use mathlib.Core.List.{List}
-use Prim.Native.Nat.{ℕ, ◌%◌}
+use Prim.Native.Nat.{ℕ}
 use native.Mathlib.Omega.{arith}
 use Rattle.std.specs.Prelude.{Some, None, Result, Ok, Err}
 use Rattle.std.specs.Result.{result_unwrap_or}
 use Rattle.answer.specs.declared.Answer.{Answer}
 use Rattle.answer.specs.declared.Refusal.{Refusal}
-use Rattle.answer.specs.declared.Refusal.TheVariants.{InvalidContent}
 use Rattle.answer.specs.Answers.{told}
 use Rattle.answer.specs.Refusals.{number, status}
 use Rattle.answer.proofs.Refusals.{positive}
-use Rattle.little_endian.specs.Bytes.{bytes}
-use Rattle.group_layout.specs.Layout.{layout, valid}
-use Rattle.group_layout.specs.Layout as layout-spec
 use Rattle.group_block.specs.declared.Counter.{Counter}
-use Rattle.group_block.specs.Block.{counter_at, number_of}
-use Rattle.group_block.specs.Change.{change}
 use Rattle.group.specs.declared.Group.{Group}
 use Rattle.group.specs.declared.Kept.{Kept}
 use Rattle.group.specs.Results.{Reading, Outcome, reading_of, outcome_of}
-use Rattle.group.specs.Group.{decode, read, reading, added, holds, changed, widest_of}
+use Rattle.group.specs.Group.{read, added, holds}
 use Rattle.group.specs.Stored.{kept}
 use Rattle.group.proofs.Laws.{added_held}
 
@@ -139,33 +133,6 @@ module _ (g : Group) (slot amount : ℕ) where
       go true h e = let same : k ≡ record { counts = (added g slot amount).group.counts; value = (read (added g slot amount).group slot).value } = cc in record { held = h; counts = ap (λ (x : Kept). x.counts) same; value = ap (λ (x : Kept). x.value) same }
       go false h e = cc
 
--- What the code's calls hand back.
-module _ (g : Group) (slot : ℕ) where
-  pub read_refused : valid 3 g.merge ≡ false → reading_of (Err InvalidContent) ≡ read g slot
-  unfolding read number
-  read_refused v = rw v
-
-  pub read_accepted : (c : Counter) → valid 3 g.merge ≡ true → c ≡ counter_at (decode g) (slot % 8) → reading_of (Ok c) ≡ read g slot
-  unfolding read reading
-  read_accepted c v e = rw (v, e)
-
-  pub changed_refused : (value : ℕ) → valid 3 g.merge ≡ false → outcome_of g (Err InvalidContent) ≡ changed g slot value
-  unfolding changed number
-  changed_refused value v = rw v
-
-  pub changed_accepted : (value : ℕ) (counts : List ℕ) → valid 3 g.merge ≡ true → counts ≡ bytes 8 (number_of (change (decode g) (slot % 8) value))
-      → outcome_of g (Ok (record { counts = counts; merge = g.merge })) ≡ changed g slot value
-  unfolding changed
-  changed_accepted value counts v e = rw (v, e)
-
-pub widest_refused : (m : ℕ) → valid 3 m ≡ false → told (Err InvalidContent) ≡ widest_of m
-unfolding told widest_of number
-widest_refused m v = rw v
-
-pub widest_accepted : (m level : ℕ) → valid 3 m ≡ true → level ≡ layout-spec.widest_in (layout 3 m) → told (Ok level) ≡ widest_of m
-unfolding told widest_of
-widest_accepted m level v e = rw (v, e)
-
 -- the group that an addition or a union left, or the one that was there
 pub group_or : (g : Group) (r : Result Group Refusal) → result_unwrap_or r g ≡ (outcome_of g r).group
 group_or g (Ok h) = refl
@@ -176,3 +143,7 @@ pub added_kept : (g : Group) (slot amount : ℕ) (k : Kept) → IsKept g slot am
     → added g slot amount ≡ record { status = 0; group = record { counts = k.counts; merge = g.merge } }
 added_kept g slot amount k i =
     added_held g slot amount i.held ∙ ap (λ (l : List ℕ). record { status = 0; group = record { counts = l; merge = g.merge } }) (sym i.counts)
+
+pub kept_added : (g : Group) (slot amount : ℕ) (k : Kept) → kept g slot amount ≡ Some k
+    → record { status = 0; group = record { counts = k.counts; merge = g.merge } } ≡ added g slot amount
+kept_added g slot amount k e = sym (added_kept g slot amount k (kept_some g slot amount k (sym e)))

@@ -31,6 +31,7 @@ pub fn is_valid(merge: u8) -> bool
 }
 
 // The counter that a slot is in.
+#[tactic(auto, unfolding(answer::specs::Refusals::number, crate::specs::Group::read, crate::specs::Group::reading, crate::specs::Group::decode))]
 pub fn counter(g: Group, slot: usize) -> Result<Counter, Refusal>
     ensures { reading_of result ≡ read g slot }
 {
@@ -41,6 +42,7 @@ pub fn counter(g: Group, slot: usize) -> Result<Counter, Refusal>
 }
 
 // The group of the count bytes and merge bits that an addition or a union left.
+#[tactic(auto, unfolding(crate::specs::Stored::stored))]
 pub fn settled(s: Summed) -> Group
     ensures { result ≡ (stored s).group }
 {
@@ -58,6 +60,7 @@ pub struct Kept {
 }
 
 // An amount added to the counter that a slot is in, if the counter holds the sum. The layout stays and no other counter changes.
+#[tactic(auto, unfolding(crate::specs::Group::decode), using(crate::proofs::Laws::holds_invalid, crate::proofs::Laws::holds_valid, crate::proofs::Results::kept_none))]
 pub fn add_in_place(g: Group, slot: usize, amount: u32) -> Option<Kept>
     ensures { result ≡ kept g slot amount }
 {
@@ -92,6 +95,7 @@ pub fn add_widening(g: Group, slot: usize, amount: u32) -> Result<Group, Refusal
 }
 
 // An amount added to the counter that a slot is in.
+#[tactic(auto, using(crate::proofs::Results::not_kept, crate::proofs::Results::kept_added))]
 pub fn add(g: Group, slot: usize, amount: u32) -> Result<Group, Refusal>
     ensures { outcome_of g result ≡ added g slot amount }
 {
@@ -106,6 +110,7 @@ pub fn add(g: Group, slot: usize, amount: u32) -> Result<Group, Refusal>
 }
 
 // Whether a target takes a source.
+#[tactic(auto, unfolding(answer::specs::Refusals::number, answer::specs::Refusals::status, crate::specs::Group::decode, group_block::specs::Block::cap, crate::specs::Stored::stored), using(crate::proofs::Laws::united_invalid, crate::proofs::Laws::united_source_invalid, crate::proofs::Laws::united_full, crate::proofs::Laws::united_stored))]
 pub fn unite_status(target: Group, source: Group) -> Result<(), Refusal>
     ensures { status result ≡ (united_groups target source).status }
 {
@@ -121,6 +126,7 @@ pub fn unite_status(target: Group, source: Group) -> Result<(), Refusal>
 }
 
 // A source group united with a target.
+#[tactic(auto, unfolding(crate::specs::Group::decode, group_block::specs::Block::cap, crate::specs::Stored::stored), using(crate::proofs::Laws::united_taken, crate::proofs::Laws::united_stored, crate::proofs::Results::status_ok))]
 pub fn unite(target: Group, source: Group) -> Result<Group, Refusal>
     ensures { outcome_of target result ≡ united_groups target source }
 {
@@ -131,6 +137,7 @@ pub fn unite(target: Group, source: Group) -> Result<Group, Refusal>
 }
 
 // The largest level of a group's counters.
+#[tactic(auto, unfolding(answer::specs::Refusals::number, answer::specs::Answers::told, crate::specs::Group::widest_of))]
 pub fn widest(merge: u8) -> Result<u64, Refusal>
     ensures { told result ≡ widest_of merge }
 {
@@ -141,6 +148,7 @@ pub fn widest(merge: u8) -> Result<u64, Refusal>
 }
 
 // Another value in the counter that a slot is in: of the value the bits that the counter holds. The layout stays.
+#[tactic(auto, unfolding(answer::specs::Refusals::number, crate::specs::Group::changed, crate::specs::Group::decode))]
 pub fn change(g: Group, slot: usize, value: u64) -> Result<Group, Refusal>
     ensures { outcome_of g result ≡ changed g slot value }
 {

@@ -5,7 +5,7 @@ use Prim.Native.Nat.{ℕ, zero, suc, ◌<◌}
 use native.Mathlib.Omega.{arith}
 use borrow.Author.Tests.{ne_eqb}
 use lib.Dec.{eqb}
-use Rattle.std.specs.Prelude.{Result, Ok, Err}
+use Rattle.std.specs.Prelude.{Result, Ok, Err, MatchResult, IsOkAnd}
 use Rattle.std.specs.Result.{is_err, result_and, result_unwrap_or}
 use Rattle.answer.specs.declared.Refusal.{Refusal}
 use Rattle.answer.specs.Answers.{answer_of, refused, told}
@@ -63,3 +63,11 @@ and_told (Err x) v = go (number x) (positive x)
     go : (n : ℕ) → 0 < n → refused n ≡ answer_of n v
     go zero h = absurd (omega arith)
     go (suc n) h = refl
+
+-- the value of a counter that was read
+pub read_told : (c : Result Counter Refusal) (m : Result ℕ Refusal) → MatchResult c (λ x. IsOkAnd m (λ v. v ≡ x.value)) (λ e. m ≡ Err e)
+    → told m ≡ answer_of (reading_of c).status (reading_of c).value
+unfolding told answer_of status
+read_told (Ok x) (Ok v) h = rw h
+read_told (Ok x) (Err r) h = absurd h
+read_told (Err r) m h = rw h (and_told {A = ℕ} (Err r) 0)

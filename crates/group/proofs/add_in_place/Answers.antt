@@ -2,15 +2,15 @@ use mathlib.Core.Path.{◌≡◌, refl, sym, ap, ◌∙◌}
 use mathlib.Core.Bool.{true, false}
 use Prim.Native.Nat.{ℕ, ◌%◌}
 use native.Mathlib.Omega.{arith}
-use borrow.Author.Tests.{not-true, not-false}
+use borrow.Author.Tests.{not-false}
 use Rattle.group_layout.specs.Layout.{valid}
 use Rattle.group_block.specs.Block.{cap}
 use Rattle.group_sums.specs.Sums.{holds_at}
 use Rattle.group.specs.Results.{Outcome}
 use Rattle.group.specs.Group.{decode, read, added, holds}
 use Rattle.group.specs.Stored.{stored}
-use Rattle.group.proofs.Laws.{added_summed, holds_invalid, holds_valid, read_held}
-use Rattle.group.proofs.Results.{kept_none, kept_ok}
+use Rattle.group.proofs.Laws.{added_summed, holds_valid, read_held}
+use Rattle.group.proofs.Results.{kept_ok}
 use Rattle.group.proofs.add_in_place.Goals as goal
 use Rattle.group.proofs.add_in_place.Goals.{After-add_in_place-sum, Else-not-is_valid}
 
@@ -36,14 +36,6 @@ module _ (d : After-add_in_place-sum) where
   value_is e =
       rw d.number_of.ensures at (d.add_in_place-sum.ensures.stays e).1
       ∙ sym (read_held d.args.g d.args.slot d.args.amount (omega (arith, d.number_of.ensures)) (holds_is ∙ e))
-
-pub returns-then-not-is_valid : goal.returns-then-not-is_valid
-returns-then-not-is_valid c = let a = c.args in
-    kept_none a.g a.slot a.amount (holds_invalid a.g a.slot a.amount (sym c.is_valid.ensures ∙ c.if-not-is_valid.true))
-
-pub returns-then-not-sum : goal.returns-then-not-sum
-returns-then-not-sum c = let a = c.args in
-    kept_none a.g a.slot a.amount (holds_is (goal.at.returns-then-not-sum c).After-add_in_place-sum ∙ not-true _ c.if-not-sum.true)
 
 pub returns : goal.returns
 unfolding stored
