@@ -10,7 +10,7 @@ use Rattle.group_block.proofs.Codes.{ordinary_codes}
 use Rattle.group_block.proofs.Laws.{fill_fits}
 use Rattle.group_block.proofs.Adding.{total_lt}
 use Rattle.group.specs.declared.Group.{Group}
-use Rattle.group.specs.declared.Outcome.{Outcome}
+use Rattle.group.specs.Results.{Outcome}
 use Rattle.group.specs.Group.{decode, united_groups, valid_merge}
 use Rattle.group.specs.Stored.{stored}
 use Rattle.group.proofs.Laws.{Eight, number_in, united_stored, united_fits}

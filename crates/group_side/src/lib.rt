@@ -23,11 +23,12 @@ pub fn any_merged(merges: &[u8]) -> bool
 }
 
 // Eight merge bytes as one word of 64 bits.
+#[tactic(auto, using(little_endian::proofs::Bytes::number_eight))]
 fn word(merges: &[u8]) -> u64
     requires { length merges.now ≡ 8 }
     ensures { result ≡ number merges.now }
 {
-    little_endian::number_of([
+    u64::from_le_bytes([
         merges[0], merges[1], merges[2], merges[3], merges[4], merges[5], merges[6], merges[7],
     ])
 }

@@ -1,5 +1,5 @@
 use Rattle.std.proofs.Common.{ap, ◌∙◌, ap₂}
-use Rattle.group.specs.declared.Outcome.{Outcome}
+use Rattle.group.specs.Results.{Outcome}
 use Rattle.group.specs.Group.{united_groups}
 use Rattle.group_side.proofs.unite_unmerged.Goals as goal
 
