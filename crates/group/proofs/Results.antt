@@ -4,7 +4,8 @@ use mathlib.Core.Bool.{Bool, true, false, cond}
 use mathlib.Core.List.{List}
 use Prim.Native.Nat.{ℕ, ◌%◌}
 use native.Mathlib.Omega.{arith}
-use Rattle.std.specs.Prelude.{Some, None, Ok, Err}
+use Rattle.std.specs.Prelude.{Some, None, Result, Ok, Err}
+use Rattle.std.specs.Result.{result_unwrap_or}
 use Rattle.answer.specs.declared.Answer.{Answer}
 use Rattle.answer.specs.declared.Refusal.{Refusal}
 use Rattle.answer.specs.declared.Refusal.TheVariants.{InvalidContent}
@@ -22,6 +23,7 @@ use Rattle.group.specs.declared.Kept.{Kept}
 use Rattle.group.specs.Results.{Reading, Outcome, reading_of, outcome_of}
 use Rattle.group.specs.Group.{decode, read, reading, added, holds, changed, widest_of}
 use Rattle.group.specs.Stored.{kept}
+use Rattle.group.proofs.Laws.{added_held}
 
 -- a refusal's number is not 0, which says that nothing is refused
 number_some : (r : Refusal) → number r ≡ 0 → ⊥
@@ -163,3 +165,14 @@ widest_refused m v = rw v
 pub widest_accepted : (m level : ℕ) → valid 3 m ≡ true → level ≡ layout-spec.widest_in (layout 3 m) → told (Ok level) ≡ widest_of m
 unfolding told widest_of
 widest_accepted m level v e = rw (v, e)
+
+-- the group that an addition or a union left, or the one that was there
+pub group_or : (g : Group) (r : Result Group Refusal) → result_unwrap_or r g ≡ (outcome_of g r).group
+group_or g (Ok h) = refl
+group_or g (Err r) = refl
+
+-- the group with the count bytes of an addition in place is the one that the addition leaves
+pub added_kept : (g : Group) (slot amount : ℕ) (k : Kept) → IsKept g slot amount k
+    → added g slot amount ≡ record { status = 0; group = record { counts = k.counts; merge = g.merge } }
+added_kept g slot amount k i =
+    added_held g slot amount i.held ∙ ap (λ (l : List ℕ). record { status = 0; group = record { counts = l; merge = g.merge } }) (sym i.counts)
