@@ -20,14 +20,12 @@ fn put_parts(words: &mut [u32], p: usize, n: u32, value: u64) -> usize
     ensures words_after { words.new ≡ sets words.old p (parts n value) }
 {
     let mut at = p;
-    let mut left = n;
-    while left > 0 {
+    for left in (0..n).rev() {
         words[at] = word(
             image_format::COUNT,
-            ((value >> (24 * (left - 1))) % 16777216) as u32,
+            ((value >> (24 * left)) % 16777216) as u32,
         );
         at += 1;
-        left -= 1;
     }
     at
 }
@@ -39,11 +37,11 @@ fn put_group(words: &mut [u32], p: usize, g: Group) -> usize
     ensures words_after { words.new ≡ sets words.old p (group_words g) }
 {
     let mut at = p;
-    let mut k = 0;
-    while k < 8 {
-        let c = group::counter(g, k);
-        at = put_parts(words, at, image_format::word_count(c.level), c.value);
-        k += 1 << c.level;
+    for k in 0..8 {
+        if let Some(level) = image_format::counter_level(g.merge, k) {
+            let c = group::counter(g, k);
+            at = put_parts(words, at, image_format::word_count(level), c.value);
+        }
     }
     at
 }

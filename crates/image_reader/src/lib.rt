@@ -27,12 +27,8 @@ fn value_at(words: &[u32], p: usize, n: u32) -> u64
     ensures { result ≡ value_from n 0 words.now p }
 {
     let mut v: u64 = 0;
-    let mut at = p;
-    let mut left = n;
-    while left > 0 {
+    for at in p..p + n as usize {
         v = v % 1099511627776 * 16777216 + (payload(words, at) % 16777216) as u64;
-        at += 1;
-        left -= 1;
     }
     v
 }
@@ -56,14 +52,13 @@ fn read_group(merge: u8, words: &[u32], p: usize) -> Taken
         merge,
     };
     let mut at = p;
-    let mut k = 0;
-    while k < 8 {
-        let level = image_format::level_at(merge, k);
-        let n = image_format::word_count(level);
-        let o = group::change(g, k, value_at(words, at, n));
-        g = o.group;
-        at += n as usize;
-        k += 1 << level;
+    for k in 0..8 {
+        if let Some(level) = image_format::counter_level(merge, k) {
+            let n = image_format::word_count(level);
+            let o = group::change(g, k, value_at(words, at, n));
+            g = o.group;
+            at += n as usize;
+        }
     }
     Taken {
         group: g,
