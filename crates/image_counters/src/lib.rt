@@ -3,7 +3,7 @@
 
 ghost use Rattle.std.specs.Prelude.{◌≡◌, true, ◌+◌, ◌≤◌, length};
 ghost use Rattle.std.proofs.lemmas.List.Edits.{sets};
-ghost use Rattle.group.specs.Group.{valid_merge};
+ghost use Rattle.group.specs.Group.{valid_merge, read};
 ghost use Rattle.image_format.specs.Image.{parts, group_words};
 ghost use Rattle.image_format.specs.Write.{group_size};
 ghost use Rattle.image_format.specs.Tables.{DescribedAt, Writes};
@@ -30,6 +30,16 @@ fn put_parts(words: &mut [u32], p: usize, n: u32, value: u64) -> usize
     at
 }
 
+// The value of the counter that a slot is in; 0 in an invalid group.
+fn value_at(g: Group, k: usize) -> u64
+    ensures { result ≡ (read g k).value }
+{
+    match group::counter(g, k) {
+        Ok(c) => c.value,
+        Err(_) => 0,
+    }
+}
+
 // The words of a group's counters.
 fn put_group(words: &mut [u32], p: usize, g: Group) -> usize
     requires { p + group_size g.merge ≤ length words.old }
@@ -39,8 +49,7 @@ fn put_group(words: &mut [u32], p: usize, g: Group) -> usize
     let mut at = p;
     for k in 0..8 {
         if let Some(level) = image_format::counter_level(g.merge, k) {
-            let c = group::counter(g, k);
-            at = put_parts(words, at, image_format::word_count(level), c.value);
+            at = put_parts(words, at, image_format::word_count(level), value_at(g, k));
         }
     }
     at

@@ -55,8 +55,7 @@ fn read_group(merge: u8, words: &[u32], p: usize) -> Taken
     for k in 0..8 {
         if let Some(level) = image_format::counter_level(merge, k) {
             let n = image_format::word_count(level);
-            let o = group::change(g, k, value_at(words, at, n));
-            g = o.group;
+            g = group::change(g, k, value_at(words, at, n)).unwrap_or(g);
             at += n as usize;
         }
     }

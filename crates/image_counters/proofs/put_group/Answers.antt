@@ -2,7 +2,8 @@ use mathlib.Core.Path.{◌≡◌, refl, sym, ap, ◌∙◌}
 use Prim.Native.Nat.{ℕ, ◌+◌, ◌-◌}
 use native.Mathlib.Omega.{arith}
 use lib.Seq.{sets}
-use Rattle.image_format.specs.Image.{slot_words, group_words}
+use Rattle.image_format.specs.Image.{parts, slot_words, group_words}
+use Rattle.group.specs.Group.{read}
 use Rattle.image_format.specs.Write.{slot_size, group_size}
 use Rattle.image_format.proofs.Laws.{size_first, size_other, sizes_step, sizes_none, slot_none, slot_some}
 use Rattle.image_size.proofs.Laws.{slot_length}
@@ -30,7 +31,6 @@ loop-k-preserved c = let l = c.loop-k in
       | in-Some w ↦
           let e = w.in-Some.ensures.some in
           let n = w.word_count in
-          let r = w.counter-c in
           let s = w.put_parts-at in
           let y : n.result ≡ slot_size m l.k = size_first m l.k w.in-Some.level n.result e.1 e.0 n.ensures.value in
           let x : s.result ≡ l.at + slot_size m l.k = s.ensures.value ∙ ap (λ (i : ℕ). l.at + i) y in
@@ -38,7 +38,7 @@ loop-k-preserved c = let l = c.loop-k in
             omega arith,
             omega (arith, z, x),
             omega arith,
-            put_turn l.words _ l.at s.result (slot_words g l.k) _ (s.ensures.words_after ∙ ap (sets l.words l.at) (slot_some g l.k w.in-Some.level n.result r.result e.1 e.0 n.ensures.value r.ensures))
+            put_turn l.words _ l.at s.result (slot_words g l.k) _ (s.ensures.words_after ∙ ap (λ (v : ℕ). sets l.words l.at (parts n.result v)) w.value_at.ensures ∙ ap (sets l.words l.at) (slot_some g l.k w.in-Some.level n.result (read g l.k) e.1 e.0 n.ensures.value refl))
                 (x ∙ ap (λ (i : ℕ). l.at + i) (sym (slot_length g l.k)))
                 ∙ step,
           )

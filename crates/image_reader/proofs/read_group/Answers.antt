@@ -1,7 +1,8 @@
 use mathlib.Core.Path.{refl, sym, ap, ◌∙◌}
 use Prim.Native.Nat.{◌-◌}
 use native.Mathlib.Omega.{arith}
-use Rattle.group.specs.declared.Outcome.{Outcome}
+use Rattle.group.specs.Results.{Outcome}
+use Rattle.group.proofs.Results.{group_or}
 use Rattle.image_format.specs.Write.{group_size}
 use Rattle.image_format.specs.Read.{read_group}
 use Rattle.image_format.proofs.Laws.{size_first, size_other, sizes_step, sizes_none}
@@ -24,7 +25,7 @@ loop-k-preserved c = let l = c.loop-k in
           let e = w.in-Some.ensures.some in
           let n = w.word_count-n in
           let x = w.value_at in
-          let s = reads_some a.merge l.k l.g w.change-o.result.group w.in-Some.level n.result x.result a.words.now l.at l.invariant.2 h e.0 e.1 n.ensures.value x.ensures (ap (λ (o : Outcome). o.group) w.change-o.ensures) in
+          let s = reads_some a.merge l.k l.g w.unwrap_or-g.result w.in-Some.level n.result x.result a.words.now l.at l.invariant.2 h e.0 e.1 n.ensures.value x.ensures (w.unwrap_or-g.ensures ∙ group_or l.g w.change.result ∙ ap (λ (o : Outcome). o.group) w.change.ensures) in
           rw (w.g-is, w.at-is) (
             omega arith,
             omega arith,
