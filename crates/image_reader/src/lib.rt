@@ -1,7 +1,7 @@
 // Reading an image whose words have been checked.
 #![tactic(auto)]
 
-ghost use Rattle.std.specs.Prelude.{◌≡◌, ℕ, ◌+◌, ◌*◌, ◌/◌, ◌^◌, ◌<◌, ◌≤◌, length};
+ghost use Rattle.std.specs.Prelude.{◌≡◌, ℕ, ◌+◌, ◌*◌, ◌/◌, ◌%◌, ◌^◌, ◌<◌, ◌≤◌, length, map};
 ghost use Rattle.std.proofs.lemmas.List.Edits.{sets};
 ghost use Rattle.group_codes.specs.Pack.{layouts_of, code_merge};
 ghost use Rattle.group_codes.specs.Codes.{AllCodes, merges_of};
@@ -12,7 +12,6 @@ ghost use Rattle.image_format.specs.Write.{group_size};
 ghost use Rattle.image_format.specs.Tables as tables;
 ghost use Rattle.image_format.specs.Tables.{Reads};
 ghost use Rattle.image_format.specs.Read.{value_from, read_group, read_groups, after_groups, read_fours, after_fours, read_rows};
-ghost use Rattle.image_reader.specs.Reader.{lows};
 
 use group::Group;
 use group_fields::Fields;
@@ -106,14 +105,13 @@ fn read_any(merge: u8, words: &[u32], p: usize, fields: &[u8], c: usize) -> Take
     read_group(merge, words, p)
 }
 
-// n count bytes of a row from `at` on, each from a word.
-fn read_counts(row: &mut [u8], at: usize, words: &[u32], p: usize, n: usize)
-    requires fact_1 { at + n ≤ length row.old }
-    requires fact_2 { p + n ≤ length words.now }
-    ensures { row.new ≡ sets row.old at (lows words.now p n) }
+// Count bytes of a row from `at` on, each from a word.
+fn read_counts(row: &mut [u8], at: usize, words: &[u32])
+    requires { at + length words.now ≤ length row.old }
+    ensures { row.new ≡ sets row.old at (map (λ word. word % 256) words.now) }
 {
-    for i in 0..n {
-        row[at + i] = (words[p + i] % 256) as u8;
+    for (i, &word) in words.iter().enumerate() {
+        row[at + i] = (word % 256) as u8;
     }
 }
 
@@ -140,7 +138,7 @@ fn read_into(
 {
     if merge == 0 {
         if are_counts(words, p, 8) {
-            read_counts(row, 8 * g, words, p, 8);
+            read_counts(row, 8 * g, &words[p..p + 8]);
             row[w + g] = 0;
             return p + 8;
         }
@@ -171,8 +169,7 @@ fn read_groups(
     ensures row_after { row.new ≡ read_groups (merges_of codes) g w row.old words.now p }
 {
     let mut at = p;
-    for i in 0..4 {
-        let c = codes[i];
+    for (i, &c) in codes.iter().enumerate() {
         at = read_into(
             row,
             w,
