@@ -13,7 +13,7 @@ use lib.Dec.{eqb}
 use lib.Pow.{pow_mono, pow_pos, pow-lt}
 use Rattle.laws.proofs.Shifts.{one_shl}
 use Rattle.group.specs.declared.Group.{Group}
-use Rattle.group.specs.declared.Reading.{Reading}
+use Rattle.group.specs.Results.{Reading}
 use Rattle.group.specs.Group.{read}
 use Rattle.geometry.specs.Geometry.{largest_log, valid_width}
 use Rattle.geometry.proofs.Widths.{width_is}

@@ -40,14 +40,14 @@ pub fn level_at(merge: u8, k: usize) -> u32
     ensures value { result ≡ level_at merge k }
     ensures upper_bound { result ≤ 3 }
 {
-    let r = group::counter(
-        Group {
-            counts: [0; 8],
-            merge,
-        },
-        k,
-    );
-    r.level
+    let empty = Group {
+        counts: [0; 8],
+        merge,
+    };
+    match group::counter(empty, k) {
+        Ok(c) => c.level,
+        Err(_) => 0,
+    }
 }
 
 // The level of the counter that starts at slot k, if one does. A counter of 2 ^ level slots starts at a multiple of them.
@@ -169,7 +169,7 @@ pub fn code_at(codes: &[u8], merge: u8) -> u8
 pub fn code_merge(c: u8) -> u8
     ensures { c < layouts_of 1 → result ≡ code_merge c }
 {
-    group_codes::unpack(c as u32).merges[3]
+    group_codes::unpack(c as u32).unwrap()[3]
 }
 
 // The words of a counter described, from word i of a description at `at` on: the counter's lowest bit is at a place, its first word has so

@@ -1,5 +1,5 @@
 use mathlib.Core.Path.{ap, ◌∙◌}
-use Rattle.group_codes.specs.declared.Unpacked.{Unpacked}
+use Rattle.group_codes.specs.Pack.{Unpacked}
 use Rattle.c_group.proofs.meter_unpack.Goals as goal
 
 pub returns : goal.returns

@@ -1,11 +1,10 @@
 use mathlib.Core.Path.{sym, ◌∙◌}
-use Rattle.group.proofs.Laws.{added_kept}
+use Rattle.group.proofs.Results.{kept_some, not_kept, added_kept}
 use Rattle.group.proofs.add.Goals as goal
 
-pub returns-then-s : goal.returns-then-s
-returns-then-s c = let p = c.add_in_place-s in
-    let a = c.args in
-    sym (added_kept a.g a.slot a.amount p.result c.if-s.true p.ensures.held_value p.ensures.counts_value)
+pub returns-in-Some : goal.returns-in-Some
+returns-in-Some c = let a = c.args in
+    sym (added_kept a.g a.slot a.amount c.in-Some.sum (kept_some a.g a.slot a.amount c.in-Some.sum (sym c.in-Some.is ∙ c.add_in_place.ensures)))
 
 pub add_widening-requires : goal.add_widening-requires
-add_widening-requires c = sym c.add_in_place-s.ensures.held_value ∙ c.if-s.false
+add_widening-requires c = let a = c.args in not_kept a.g a.slot a.amount (sym c.in_default.is ∙ c.add_in_place.ensures)

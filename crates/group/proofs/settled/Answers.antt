@@ -6,4 +6,4 @@ use Rattle.group.proofs.settled.Goals as goal
 
 pub returns : goal.returns
 unfolding stored
-returns c = ap (λ (l : List ℕ). record { status = 0; group = record { counts = l; merge = c.args.s.merge } }) c.bytes_of.ensures
+returns c = ap (λ (l : List ℕ). record { counts = l; merge = c.args.s.merge }) c.bytes_of.ensures

@@ -1,8 +1,9 @@
-use mathlib.Core.Path.{ap, ◌∙◌}
-use lib.ListN.{get_or}
-use Rattle.group_codes.specs.declared.Unpacked.{Unpacked}
-use Rattle.group_codes.proofs.Packing.{last_merge}
+use native.Mathlib.Omega.{arith}
+use Rattle.group_codes.proofs.Packing.{unpacks, last_unpacked}
 use Rattle.image_format.proofs.code_merge.Goals as goal
 
+pub unwrap-requires : goal.unwrap-requires
+unwrap-requires c = unpacks c.args.c c.unpack.result (omega arith) c.unpack.ensures
+
 pub returns : goal.returns
-returns c = λ h. ap (λ (u : Unpacked). get_or u.merges 3 0) c.unpack.ensures ∙ last_merge c.args.c h
+returns c = λ h. last_unpacked c.args.c c.unwrap.result h (rw c.unwrap.ensures at c.unpack.ensures)
