@@ -11,6 +11,7 @@ ghost use Rattle.image_format.specs.Tables.{DescribedAt, Writes};
 use group::Group;
 use group_fields::Fields;
 use image_format::{code_at, word};
+use word::Kind;
 
 // The n words of a value, high part first.
 fn put_parts(words: &mut [u32], p: usize, n: u32, value: u64) -> usize
@@ -21,10 +22,7 @@ fn put_parts(words: &mut [u32], p: usize, n: u32, value: u64) -> usize
 {
     let mut at = p;
     for left in (0..n).rev() {
-        words[at] = word(
-            image_format::COUNT,
-            ((value >> (24 * left)) % 16777216) as u32,
-        );
+        words[at] = word(Kind::Count, ((value >> (24 * left)) % 16777216) as u32);
         at += 1;
     }
     at
@@ -69,7 +67,7 @@ fn put_fields(words: &mut [u32], p: usize, g: Group, fields: &[u8], c: usize) ->
     let x = Fields::of(counts);
     for i in 0..n {
         let part = x.bits_at(fields[at + 1 + i], fields[at + 9 + i]);
-        words[p + i] = word(image_format::COUNT, part);
+        words[p + i] = word(Kind::Count, part);
     }
     p + n
 }

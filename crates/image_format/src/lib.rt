@@ -5,6 +5,7 @@ ghost use Rattle.std.specs.Prelude.{◌≡◌, ◌+◌, ◌^◌, ◌<◌, ◌≤
 ghost use Rattle.geometry.specs.Geometry.{largest_log};
 ghost use Rattle.group_codes.specs.Pack.{layouts_of, code_merge};
 ghost use Rattle.group_codes.specs.Codes.{code_of};
+ghost use Rattle.word.specs.Kinds.{code};
 ghost use Rattle.image_format.specs.Image as spec;
 ghost use Rattle.image_format.specs.Image.{count_kind, log_width, word_count, level_at, is_first};
 ghost use Rattle.image_format.specs.Write.{group_size};
@@ -13,26 +14,21 @@ ghost use Rattle.image_format.specs.Fields.{part_fields, ToldMore, Described};
 ghost use Rattle.image_format.specs.Tables.{Filled, Sizes, Codes, FirstFields};
 
 use group::Group;
-
-// The kinds of words.
-pub const LAYOUT: u32 = 2;
-
-pub const COUNT: u32 = 3;
+use word::Kind;
 
 // A word has its kind in the top four bits.
-pub fn word(kind: u32, payload: u32) -> u32
-    requires fact_1 { kind < 2 ^ 4 }
-    requires fact_2 { payload < 2 ^ 28 }
-    ensures { result ≡ spec.word kind payload }
+pub fn word(kind: Kind, payload: u32) -> u32
+    requires { payload < 2 ^ 28 }
+    ensures { result ≡ spec.word (code kind) payload }
 {
-    (kind << 28) | payload
+    (kind.code() << 28) | payload
 }
 
 // The word of a counter of one slot.
 pub fn count_word(count: u8) -> u32
     ensures { result ≡ spec.word count_kind count }
 {
-    word(COUNT, count as u32)
+    word(Kind::Count, count as u32)
 }
 
 // The level of the counter that a slot is in, in a group with this merge byte.

@@ -14,6 +14,7 @@ use image_counters::put_any;
 use image_format::{code_at, log_width, word};
 use image_size::clear;
 use meter_memory::{load, row_at};
+use word::Kind;
 
 // The words of the counters of four groups, from group g on.
 fn put_groups(
@@ -71,7 +72,7 @@ fn put_clear(words: &mut [u32], p: usize, row: &[u8], g: usize)
     requires fact_2 { p + 33 ≤ length words.old }
     ensures { words.new ≡ sets words.old p (clear_words g row.now) }
 {
-    words[p] = word(image_format::LAYOUT, 0);
+    words[p] = word(Kind::Layout, 0);
     put_counts(words, p + 1, &row[8 * g..8 * g + 32]);
 }
 
@@ -92,7 +93,7 @@ fn put_mixed(
     ensures value { result ≡ p + length (four_words w row.now g) }
     ensures words_after { words.new ≡ sets words.old p (four_words w row.now g) }
 {
-    words[p] = word(image_format::LAYOUT, layout_at(row, w, g, codes));
+    words[p] = word(Kind::Layout, layout_at(row, w, g, codes));
     put_groups(words, p + 1, row, w, g, codes, fields)
 }
 
@@ -166,7 +167,7 @@ pub fn put_image(words: &mut [u32], memory: &[u8], d: usize, w: usize, codes: &[
     requires fact_3 { Writes codes.now fields.now }
     ensures { words.new ≡ image d w memory.now ++ drop (length (image d w memory.now)) words.old }
 {
-    words[0] = word(word::HEAD, log_width(w) * 16 + d as u32);
+    words[0] = word(Kind::Head, log_width(w) * 16 + d as u32);
     let end = put_rows(words, 1, memory, d, w, codes, fields);
-    words[end] = word(word::END, (end % word::PAYLOADS) as u32);
+    words[end] = word(Kind::End, (end % word::PAYLOADS) as u32);
 }
