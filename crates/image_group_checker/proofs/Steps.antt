@@ -16,8 +16,5 @@ Stands m k = (k ≤ 8) × (k < 8 → is_first m k ≡ true)
 pub stands_first : (m : ℕ) → Stands m 0
 stands_first m = (omega arith, λ h. first_zero m)
 
-pub step_small : (level : ℕ) → level ≤ 3 → (0 < 1 * 2 ^ level % 2 ^ 64) × (1 * 2 ^ level % 2 ^ 64 ≤ 8)
-step_small level h = rw (one_shl 64 level (omega arith)) (pow_pos level, pow_mono {i = level} {j = 3} h)
-
 pub stands_next : (m k : ℕ) → k < 8 → is_first m k ≡ true → Stands m (k + 2 ^ level_at m k)
 stands_next m k h t = (counter_end m k h t, next_first m k h t)

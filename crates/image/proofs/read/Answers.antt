@@ -8,7 +8,7 @@ use Rattle.group_codes.specs.Pack.{code_merge}
 use Rattle.std.specs.Prelude.{Ok, Err}
 use Rattle.answer.specs.Answers.{refused_at}
 use Rattle.word.specs.Step.{step}
-use Rattle.word.proofs.Results.{number_above}
+use Rattle.answer.proofs.Refusals.{positive}
 use Rattle.image_format.specs.Tables.{Reads}
 use Rattle.image_format.proofs.Tables.{table_part, fields_part}
 use Rattle.image.proofs.read.Goals as goal
@@ -55,6 +55,6 @@ pub returns-in-Err : goal.returns-in-Err
 returns-in-Err c = let a = c.args in
     let s = c.bad_shape-status in
     let f = c.in-Err.fault in
-    let e = read_faulty a.d a.w a.memory.now a.words.now s.result s.ensures c.if-status-ne0.false (step (Err f)) c.in-Err.ensures (λ z. omega (arith, number_above f.refusal)) in
+    let e = read_faulty a.d a.w a.memory.now a.words.now s.result s.ensures c.if-status-ne0.false (step (Err f)) c.in-Err.ensures (λ z. omega (arith, positive f.refusal)) in
     let r = all_of a.d a.w a.memory.now a.words.now _ _ _ e (c.refused_at.ensures ∙ ap (λ (n : ℕ). refused_at n f.position) c.number.ensures) refl in
     record { value = r.0; memory_after = r.1.0; position_in_bounds = r.1.1 }
