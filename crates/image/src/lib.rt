@@ -46,10 +46,11 @@ pub fn read(d: usize, w: usize, memory: &mut [u8], words: &[u32]) -> Answer
     let n = image_layouts::table_size(words.len(), d, w);
     let layouts = image_layouts::layout_table(n);
     let fields = image_format::field_table(n);
-    let s = image_checker::check(words, d, w, &layouts[0..n], &fields[0..17 * n]);
-    if s.status != 0 {
-        return answer::refused_at(s.status, s.position as u64);
+    match image_checker::check(words, d, w, &layouts[0..n], &fields[0..17 * n]) {
+        Ok(end) => {
+            image_reader::read_rows(memory, d, w, words, &layouts[0..n], &fields[0..17 * n]);
+            answer::accepted(end as u64)
+        }
+        Err(fault) => answer::refused_at(fault.refusal.number(), fault.position as u64),
     }
-    image_reader::read_rows(memory, d, w, words, &layouts[0..n], &fields[0..17 * n]);
-    answer::accepted(s.position as u64)
 }

@@ -3,7 +3,7 @@
 
 ghost use Rattle.std.specs.Prelude.{◌≡◌, true, ◌+◌, ◌≤◌, length};
 ghost use Rattle.std.proofs.lemmas.List.Edits.{sets};
-ghost use Rattle.group.specs.Group.{valid_merge};
+ghost use Rattle.group.specs.Group.{valid_merge, read};
 ghost use Rattle.image_format.specs.Image.{parts, group_words};
 ghost use Rattle.image_format.specs.Write.{group_size};
 ghost use Rattle.image_format.specs.Tables.{DescribedAt, Writes};
@@ -11,6 +11,7 @@ ghost use Rattle.image_format.specs.Tables.{DescribedAt, Writes};
 use group::Group;
 use group_fields::Fields;
 use image_format::{code_at, word};
+use word::Kind;
 
 // The n words of a value, high part first.
 fn put_parts(words: &mut [u32], p: usize, n: u32, value: u64) -> usize
@@ -20,16 +21,21 @@ fn put_parts(words: &mut [u32], p: usize, n: u32, value: u64) -> usize
     ensures words_after { words.new ≡ sets words.old p (parts n value) }
 {
     let mut at = p;
-    let mut left = n;
-    while left > 0 {
-        words[at] = word(
-            image_format::COUNT,
-            ((value >> (24 * (left - 1))) % 16777216) as u32,
-        );
+    for left in (0..n).rev() {
+        words[at] = word(Kind::Count, ((value >> (24 * left)) % 16777216) as u32);
         at += 1;
-        left -= 1;
     }
     at
+}
+
+// The value of the counter that a slot is in; 0 in an invalid group.
+fn value_at(g: Group, k: usize) -> u64
+    ensures { result ≡ (read g k).value }
+{
+    match group::counter(g, k) {
+        Ok(c) => c.value,
+        Err(_) => 0,
+    }
 }
 
 // The words of a group's counters.
@@ -39,11 +45,10 @@ fn put_group(words: &mut [u32], p: usize, g: Group) -> usize
     ensures words_after { words.new ≡ sets words.old p (group_words g) }
 {
     let mut at = p;
-    let mut k = 0;
-    while k < 8 {
-        let c = group::counter(g, k);
-        at = put_parts(words, at, image_format::word_count(c.level), c.value);
-        k += 1 << c.level;
+    for k in 0..8 {
+        if let Some(level) = image_format::counter_level(g.merge, k) {
+            at = put_parts(words, at, image_format::word_count(level), value_at(g, k));
+        }
     }
     at
 }
@@ -62,7 +67,7 @@ fn put_fields(words: &mut [u32], p: usize, g: Group, fields: &[u8], c: usize) ->
     let x = Fields::of(counts);
     for i in 0..n {
         let part = x.bits_at(fields[at + 1 + i], fields[at + 9 + i]);
-        words[p + i] = word(image_format::COUNT, part);
+        words[p + i] = word(Kind::Count, part);
     }
     p + n
 }

@@ -1,6 +1,6 @@
 -- The fields of a group's words: how many there are, that each lies in the 64 bits of the count bytes, and tables that describe them.
 use mathlib.Core.Path.{◌≡◌, refl, sym, ap, ap₂, ◌∙◌}
-use mathlib.Core.Bool.{true}
+use mathlib.Core.Bool.{true, false}
 use mathlib.Core.List.{List, ◌++◌}
 use Prim.Native.Nat.{ℕ, zero, suc, ◌+◌, ◌-◌, ◌*◌, ◌^◌, ◌≤◌, ◌<◌}
 use native.Mathlib.Nat.{add-zero}
@@ -140,6 +140,20 @@ unfolding slots_fields slot_fields
 fields_turn m k level n bits h t e f g =
     let z : 8 - k ≡ suc (8 - (k + 1)) = omega arith in
     rw (f, g, e, z, t) (ap (λ (l : List Field). part_fields (word_count (level_at m k)) (8 * k) (first_bits (level_at m k)) ++ l) (behind (λ n i. slots_fields n i m) m (λ n i o. rw o) k h t))
+
+-- slot by slot: the words of the counter that starts at a slot, or none
+pub fields_some : (m k level n bits : ℕ) → k < 8 → is_first m k ≡ true → level ≡ level_at m k → n ≡ word_count level → bits ≡ first_bits level
+    → slots_fields (8 - k) k m ≡ part_fields n (8 * k) bits ++ slots_fields (8 - (k + 1)) (k + 1) m
+unfolding slots_fields slot_fields
+fields_some m k level n bits h t e f g =
+    let z : 8 - k ≡ suc (8 - (k + 1)) = omega arith in
+    rw (f, g, e, z, t) refl
+
+pub fields_other : (m k : ℕ) → k < 8 → is_first m k ≡ false → slots_fields (8 - k) k m ≡ slots_fields (8 - (k + 1)) (k + 1) m
+unfolding slots_fields slot_fields
+fields_other m k h t =
+    let z : 8 - k ≡ suc (8 - (k + 1)) = omega arith in
+    rw (z, t) refl
 
 -- what is behind the words of a counter
 pub past_parts : (fs rest : List Field) (i n place bits : ℕ) → drop i fs ≡ part_fields n place bits ++ rest → drop (i + n) fs ≡ rest

@@ -1,17 +1,17 @@
 -- Laws of widths, levels and the words of counters.
-use mathlib.Core.Path.{◌≡◌, refl, ap, ◌∙◌}
+use mathlib.Core.Path.{◌≡◌, refl, sym, ap, ◌∙◌}
 use mathlib.Core.Bool.{true, false}
 use mathlib.Core.List.{[]}
 use Prim.Native.Nat.{ℕ, zero, suc, ◌+◌, ◌-◌, ◌%◌, ◌^◌, ◌≤◌, ◌<◌, ◌*◌}
-use native.Mathlib.Nat.{mod-eq_of_lt, mul-le-mul_right}
+use native.Mathlib.Nat.{mod-eq_of_lt, mul-le-mul_right, pow-suc}
 use native.Mathlib.Omega.{arith}
 use lib.ListN.{length}
-use native.Mathlib.Numerals.{add-one}
 use native.Mathlib.Decide.{dec_lt}
 use borrow.Table.Steps.{cases}
 use borrow.Author.Tests.{eq-eqb, ne_eqb}
 use lib.Dec.{eqb}
-use lib.Pow.{pow_mono, pow-lt}
+use lib.Pow.{pow_mono, pow_pos, pow-lt}
+use Rattle.laws.proofs.Shifts.{one_shl}
 use Rattle.group.specs.declared.Group.{Group}
 use Rattle.group.specs.Results.{Reading}
 use Rattle.group.specs.Group.{read}
@@ -39,18 +39,36 @@ log_found (suc n) k h = elim (dec_lt k n) [
   | no l ↦ let e : n ≡ k = omega arith in rw (e, eq-eqb (2 ^ k) (2 ^ k) refl)
 ]
 
--- one more tried: it is the one, or it is among those below
-pub log_this : (n k w : ℕ) → n ≡ k + 1 → 2 ^ k ≡ w → log_from n w ≡ k
+pub log_missing : (n w : ℕ) → ((k : ℕ) → k < n → 2 ^ k ≡ w → ⊥) → log_from n w ≡ 0
 unfolding log_from
-log_this n k w e h = rw (e ∙ add-one k, eq-eqb (2 ^ k) w h)
+log_missing zero w h = refl
+log_missing (suc n) w h = rw (ne_eqb (2 ^ n) w (h n (omega arith))) (log_missing n w (λ k l. h k (omega arith)))
 
-pub log_below : (n k w : ℕ) → n ≡ k + 1 → (2 ^ k ≡ w → ⊥) → log_from n w ≡ log_from k w
-unfolding log_from
-log_below n k w e h = rw (e ∙ add-one k, ne_eqb (2 ^ k) w h)
+-- the logarithm is the one that is rounded down
+same_log : (k r w : ℕ) → 2 ^ k ≡ w → 2 ^ r ≤ w → w < 2 * 2 ^ r → k ≡ r
+same_log k r w e a b = elim (dec_lt k r) [
+  | yes l ↦ absurd (omega (arith, pow-lt {i = k} {j = r} l))
+  | no l ↦ elim (dec_lt r k) [
+    | yes m ↦ absurd (omega (arith, pow_mono {i = suc r} {j = k} (omega arith), pow-suc 2 r))
+    | no m ↦ omega arith
+  ]
+]
 
-pub log_none : (n w : ℕ) → n ≡ 0 → log_from n w ≡ 0
-unfolding log_from
-log_none n w e = rw e
+pub rounded_log : (k w : ℕ) → k ≤ largest_log → 1 * 2 ^ k % 2 ^ 64 ≡ w → k ≡ log_width w
+unfolding log_width
+rounded_log k w h e =
+    let f : w ≡ 2 ^ k = sym e ∙ one_shl 64 k (omega arith) in
+    rw f (sym (log_found (largest_log + 1) k (omega arith)))
+
+pub no_log : (k w : ℕ) → 2 ^ k ≤ w → w < 2 * 2 ^ k → (k ≤ largest_log → 1 * 2 ^ k % 2 ^ 64 ≡ w → ⊥) → 0 ≡ log_width w
+unfolding log_width
+no_log k w a b h = sym (log_missing (largest_log + 1) w (λ j l e.
+    let s : j ≡ k = same_log j k w e a b in
+    h (omega arith) (one_shl 64 k (omega arith) ∙ rw s at e)))
+
+pub zero_log : (w : ℕ) → w ≡ 0 → 0 ≡ log_width w
+unfolding log_width
+zero_log w e = sym (log_missing (largest_log + 1) w (λ k l f. omega (arith, pow_pos k)))
 
 -- the logarithm of a width is one
 pub log_width_is : (w : ℕ) → valid_width w ≡ true → 2 ^ log_width w ≡ w

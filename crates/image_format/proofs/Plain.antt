@@ -1,13 +1,13 @@
 -- Groups where nothing is merged have a word for each slot.
 use mathlib.Core.Path.{◌≡◌, refl, ap, ap₂, ◌∙◌}
 use mathlib.Core.List.{List, [], ◌∷◌, map}
-use Prim.Native.Nat.{ℕ, zero, suc, ◌+◌, ◌-◌, ◌/◌, ◌%◌, ◌^◌, ◌≤◌, ◌<◌}
-use native.Mathlib.Nat.{add-zero, sub-zero, mod-one, div-one}
+use Prim.Native.Nat.{ℕ, zero, suc, ◌+◌, ◌/◌, ◌%◌, ◌^◌, ◌≤◌, ◌<◌}
+use native.Mathlib.Nat.{mod-one, div-one}
 use native.Mathlib.Numerals.{add-one}
 use native.Mathlib.Omega.{arith}
 use borrow.Author.Tests.{eq-eqb}
-use lib.ListN.{length, get_or, take, drop}
-use lib.Seq.{sets, drop-cons, take_all}
+use lib.ListN.{length, get_or, take, drop, drop_of_length-le}
+use lib.Seq.{drop-cons, take_all}
 use Rattle.group.specs.Results.{Reading}
 use Rattle.group.specs.Group.{read}
 use Rattle.group.proofs.Laws.{Eight}
@@ -39,15 +39,8 @@ unfolding group_words
 plain_words xs o = plain_slots 8 0 xs o (omega arith) ∙ ap (map (word count_kind)) (take_all 8 xs (omega (arith, o.long)))
 
 -- words and count bytes one by one
-pub counts_step : (f : ℕ → ℕ) (n i at : ℕ) (row : List ℕ) → i < n → at + n ≤ length row
-    → map f (take (n - i) (drop (at + i) row)) ≡ f (get_or row (at + i) 0) ∷ map f (take (n - (i + 1)) (drop (at + (i + 1)) row))
-counts_step f n i at row h k =
-    let e : n - i ≡ suc (n - (i + 1)) = omega arith in
-    let g : at + (i + 1) ≡ suc (at + i) = omega arith in
-    rw (e, g, drop-cons row (at + i) 0 (omega arith))
+pub counts_step : (f : ℕ → ℕ) (xs : List ℕ) (i : ℕ) → i < length xs → map f (drop i xs) ≡ f (get_or xs i 0) ∷ map f (drop (i + 1) xs)
+counts_step f xs i h = rw (add-one i, drop-cons xs i 0 h)
 
-pub counts_none : (f : ℕ → ℕ) (n at : ℕ) (row : List ℕ) → n ≡ 0 → map f (take n (drop at row)) ≡ []
-counts_none f n at row e = rw e
-
-pub counts_start : (f : ℕ → ℕ) (out : List ℕ) (p at n : ℕ) (row : List ℕ) → sets out (p + 0) (map f (take (n - 0) (drop (at + 0) row))) ≡ sets out p (map f (take n (drop at row)))
-counts_start f out p at n row = rw (add-zero p, add-zero at, sub-zero n)
+pub counts_none : (f : ℕ → ℕ) (xs : List ℕ) (i : ℕ) → length xs ≤ i → map f (drop i xs) ≡ []
+counts_none f xs i h = rw (drop_of_length-le xs h)

@@ -4,7 +4,7 @@ use mathlib.Core.Bool.{true, false}
 use Prim.Native.Nat.{ℕ, zero, suc, ◌+◌, ◌*◌, ◌%◌, ◌^◌, ◌≤◌, ◌<◌}
 use native.Mathlib.Nat.{zero-mod, mod-one}
 use native.Mathlib.Omega.{arith}
-use borrow.Author.Tests.{eq-eqb}
+use borrow.Author.Tests.{eq-eqb, ne_eqb}
 use lib.ListN.{replicate}
 use Rattle.group.specs.declared.Group.{Group}
 use Rattle.group.specs.Results.{Reading}
@@ -36,6 +36,15 @@ level_at_le m k = level_most (empty m) k
 -- the slot behind a counter, as the code finds it
 pub behind_is : (m k level : ℕ) → level ≡ level_at m k → k + 1 * 2 ^ level % 2 ^ 64 ≡ k + 2 ^ level_at m k
 behind_is m k level e = rw e (ap (λ (n : ℕ). k + n) (one_shl 64 (level_at m k) (omega (arith, level_at_le m k))))
+
+-- whether slot k is the first of its counter, as the code finds it
+pub first_here : (m k level : ℕ) → level ≡ level_at m k → k % (1 * 2 ^ level % 2 ^ 64) ≡ 0 → is_first m k ≡ true
+unfolding is_first
+first_here m k level e h = rw (← e) (eq-eqb (k % 2 ^ level) 0 (rw (one_shl 64 level (rw e (omega (arith, level_at_le m k)))) at h))
+
+pub none_here : (m k level : ℕ) → level ≡ level_at m k → (k % (1 * 2 ^ level % 2 ^ 64) ≡ 0 → ⊥) → is_first m k ≡ false
+unfolding is_first
+none_here m k level e h = rw (← e) (ne_eqb (k % 2 ^ level) 0 (λ z. h (rw (one_shl 64 level (rw e (omega (arith, level_at_le m k)))) z)))
 
 -- every slot of an invalid group is a counter of its own, and of one where nothing is merged
 pub invalid_level : (m k : ℕ) → valid_merge m ≡ false → level_at m k ≡ 0

@@ -4,8 +4,8 @@ use mathlib.Core.List.{List}
 use Prim.Native.Nat.{ℕ, ◌+◌, ◌-◌, ◌*◌, ◌≤◌, ◌<◌}
 use native.Mathlib.Decide.{dec_lt}
 use native.Mathlib.Omega.{arith}
-use lib.ListN.{length, get_or, take, set, length-set, length-take}
-use lib.Seq.{get_or-set_same, get_or-set_other, get_or-take, take-take}
+use lib.ListN.{length, get_or, take, length-take}
+use lib.Seq.{get_or-take, take-take}
 use Rattle.group_codes.specs.Pack.{code_merge}
 use Rattle.image_format.specs.Fields.{Described}
 use Rattle.image_format.specs.Tables.{Filled, FirstFields, Fields}
@@ -19,17 +19,7 @@ entries_more P t s n keep new f k h = elim (dec_lt k n) [
   | no l ↦ let e : k ≡ n = omega arith in rw e new
 ]
 
--- a table of numbers that is being filled
-abbrev pub Filling : ℕ → (ℕ → ℕ) → ℕ → List ℕ → Type 0
-Filling size f n t = (length t ≡ size) × Filled f n t
-
-pub filling_more : (size : ℕ) (f : ℕ → ℕ) (n x : ℕ) (t : List ℕ) → n < size → x ≡ f n → Filling size f n t → Filling size f (n + 1) (set t n x)
-filling_more size f n x t h e o = (
-  length-set t n x ∙ o.0,
-  entries_more (λ k l. get_or l k 0 ≡ f k) t (set t n x) n (λ k l p. get_or-set_other t n k x 0 (λ q. omega arith) ∙ p) (get_or-set_same t n x 0 (omega (arith, o.0)) ∙ e) o.1,
-)
-
--- its first n entries, lent
+-- the first n entries of a table, lent
 pub table_part : (f : ℕ → ℕ) (t : List ℕ) (n : ℕ) → Filled f n t → Filled f (length (take (n - 0) t)) (take (n - 0) t)
 table_part f t n p k h =
     let l : k < n = omega (arith, length-take (n - 0) t) in

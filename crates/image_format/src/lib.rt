@@ -1,38 +1,34 @@
 // What an image's words are: words, the counters that they hold, and tables by merge byte.
 #![tactic(auto)]
 
-ghost use Rattle.std.specs.Prelude.{◌≡◌, ◌+◌, ◌^◌, ◌<◌, ◌≤◌, length, take};
+ghost use Rattle.std.specs.Prelude.{◌≡◌, ◌+◌, ◌^◌, ◌<◌, ◌≤◌, true, false, ℕ, length, get_or, take, IfSome, IfNone};
 ghost use Rattle.geometry.specs.Geometry.{largest_log};
-ghost use Rattle.group_codes.specs.Pack.{layouts_of};
+ghost use Rattle.group_codes.specs.Pack.{layouts_of, code_merge};
 ghost use Rattle.group_codes.specs.Codes.{code_of};
+ghost use Rattle.word.specs.Kinds.{code};
 ghost use Rattle.image_format.specs.Image as spec;
-ghost use Rattle.image_format.specs.Image.{count_kind, log_width, word_count, level_at};
+ghost use Rattle.image_format.specs.Image.{count_kind, log_width, word_count, level_at, is_first};
 ghost use Rattle.image_format.specs.Write.{group_size};
 ghost use Rattle.image_format.specs.Read.{first_bits};
 ghost use Rattle.image_format.specs.Fields.{part_fields, ToldMore, Described};
 ghost use Rattle.image_format.specs.Tables.{Filled, Sizes, Codes, FirstFields};
 
 use group::Group;
-
-// The kinds of words.
-pub const LAYOUT: u32 = 2;
-
-pub const COUNT: u32 = 3;
+use word::Kind;
 
 // A word has its kind in the top four bits.
-pub fn word(kind: u32, payload: u32) -> u32
-    requires fact_1 { kind < 2 ^ 4 }
-    requires fact_2 { payload < 2 ^ 28 }
-    ensures { result ≡ spec.word kind payload }
+pub fn word(kind: Kind, payload: u32) -> u32
+    requires { payload < 2 ^ 28 }
+    ensures { result ≡ spec.word (code kind) payload }
 {
-    (kind << 28) | payload
+    (kind.code() << 28) | payload
 }
 
 // The word of a counter of one slot.
 pub fn count_word(count: u8) -> u32
     ensures { result ≡ spec.word count_kind count }
 {
-    word(COUNT, count as u32)
+    word(Kind::Count, count as u32)
 }
 
 // The level of the counter that a slot is in, in a group with this merge byte.
@@ -40,14 +36,28 @@ pub fn level_at(merge: u8, k: usize) -> u32
     ensures value { result ≡ level_at merge k }
     ensures upper_bound { result ≤ 3 }
 {
-    let r = group::counter(
-        Group {
-            counts: [0; 8],
-            merge,
-        },
-        k,
-    );
-    r.level
+    let empty = Group {
+        counts: [0; 8],
+        merge,
+    };
+    match group::counter(empty, k) {
+        Ok(c) => c.level,
+        Err(_) => 0,
+    }
+}
+
+// The level of the counter that starts at slot k, if one does. A counter of 2 ^ level slots starts at a multiple of them.
+pub fn counter_level(merge: u8, k: usize) -> Option<u32>
+    ensures some { IfSome result (λ level. (is_first merge k ≡ true) × (level ≡ level_at merge k)) }
+    ensures none { IfNone result (is_first merge k ≡ false) }
+    ensures upper_bound { IfSome result (λ level. level ≤ 3) }
+{
+    let level = level_at(merge, k);
+    if k % (1 << level) == 0 {
+        Some(level)
+    } else {
+        None
+    }
 }
 
 // The number of words of a counter.
@@ -77,58 +87,60 @@ fn group_size(merge: u8) -> usize
         return 8;
     }
     let mut n = 0;
-    let mut k = 0;
-    while k < 8 {
-        let level = level_at(merge, k);
-        n += word_count(level) as usize;
-        k += 1 << level;
+    for k in 0..8 {
+        if let Some(level) = counter_level(merge, k) {
+            n += word_count(level) as usize;
+        }
     }
     n
 }
-
-// Logarithms of widths are below this.
-const LOGS: u32 = geometry::LARGEST_LOG + 1;
 
 // The logarithm of a width.
 pub fn log_width(w: usize) -> u32
     ensures value { result ≡ log_width w }
     ensures upper_bound { result ≤ largest_log }
 {
-    let mut k = LOGS;
-    while k > 0 {
-        k -= 1;
-        if 1 << k == w {
-            return k;
-        }
+    match w.checked_ilog2() {
+        Some(k) if k <= geometry::LARGEST_LOG && 1 << k == w => k,
+        _ => 0,
     }
-    0
 }
 
 // Tables by merge byte, so that what a group's merge byte says is found out once for all groups of an image. A table of n entries has the
 // merge bytes below n; the others, and all of them when little is merged, are found out one by one. No valid merge byte is above 127.
+
+// A table whose first n entries are those of a function.
+pub fn table<const N: usize, F: Fn(u8) -> u8>(n: usize, entry: F) -> [u8; N]
+    requires fits { n ≤ N }
+    requires bytes { N ≤ 256 }
+    requires callable { F.IsAlwaysCallable entry }
+    ensures { (k : ℕ) → k < n → F.post entry k (get_or result k 0) }
+{
+    let mut t = [0; N];
+    for k in 0..n {
+        t[k] = entry(k as u8);
+    }
+    t
+}
 
 // The number of words of a group's counters, by merge byte.
 pub fn size_table(n: usize) -> [u8; 128]
     requires { n ≤ 128 }
     ensures { Filled group_size n result }
 {
-    let mut t = [0u8; 128];
-    for m in 0..n {
-        t[m] = group_size(m as u8) as u8;
-    }
-    t
+    table(n, |m| group_size(m) as u8)
 }
 
+#[tactic(auto, using(crate::proofs::Fields::size_most))]
 pub fn size_at(sizes: &[u8], merge: u8) -> usize
     requires { Sizes sizes.now }
     ensures value { result ≡ group_size merge }
     ensures upper_bound { result ≤ 24 }
 {
-    let m = merge as usize;
-    if m < sizes.len() {
-        return sizes[m] as usize;
+    match sizes.get(merge as usize) {
+        Some(&n) => n as usize,
+        None => group_size(merge),
     }
-    group_size(merge)
 }
 
 // The layout code of a group by merge byte, or group_codes::LAYOUTS for an invalid one.
@@ -136,22 +148,24 @@ pub fn code_table(n: usize) -> [u8; 128]
     requires { n ≤ 128 }
     ensures { Filled code_of n result }
 {
-    let mut t = [0u8; 128];
-    for m in 0..n {
-        t[m] = group_codes::code_of(m as u8);
-    }
-    t
+    table(n, group_codes::code_of)
 }
 
 pub fn code_at(codes: &[u8], merge: u8) -> u8
     requires { Codes codes.now }
     ensures { result ≡ code_of merge }
 {
-    let m = merge as usize;
-    if m < codes.len() {
-        return codes[m];
+    match codes.get(merge as usize) {
+        Some(&code) => code,
+        None => group_codes::code_of(merge),
     }
-    group_codes::code_of(merge)
+}
+
+// The merge byte of a layout code.
+pub fn code_merge(c: u8) -> u8
+    ensures { c < layouts_of 1 → result ≡ code_merge c }
+{
+    group_codes::unpack(c as u32).unwrap()[3]
 }
 
 // The words of a counter described, from word i of a description at `at` on: the counter's lowest bit is at a place, its first word has so
@@ -166,10 +180,8 @@ fn describe_parts(t: &mut [u8], at: usize, i: usize, place: u32, n: u32, bits: u
     ensures told_more { ToldMore i (part_fields n place bits) t.old t.new at }
 {
     let mut j = i;
-    let mut left = n;
     let mut b = bits;
-    while left > 0 {
-        left -= 1;
+    for left in (0..n).rev() {
         t[at + 1 + j] = (place + 24 * left) as u8;
         t[at + 9 + j] = b as u8;
         b = 24;
@@ -185,11 +197,10 @@ fn describe(t: &mut [u8], at: usize, merge: u8)
     ensures t_unchanged { take at t.new ≡ take at t.old }
 {
     let mut i = 0;
-    let mut k = 0;
-    while k < 8 {
-        let level = level_at(merge, k);
-        i = describe_parts(t, at, i, 8 * k as u32, word_count(level), first_bits(level));
-        k += 1 << level;
+    for k in 0..8 {
+        if let Some(level) = counter_level(merge, k) {
+            i = describe_parts(t, at, i, 8 * k as u32, word_count(level), first_bits(level));
+        }
     }
     t[at] = i as u8;
 }
@@ -202,8 +213,7 @@ pub fn field_table(n: usize) -> [u8; 442]
 {
     let mut t = [31u8; 442];
     for c in 0..n {
-        let u = group_codes::unpack(c as u32);
-        describe(&mut t, 17 * c, u.merges[3]);
+        describe(&mut t, 17 * c, code_merge(c as u8));
     }
     t
 }

@@ -1,5 +1,5 @@
-pub mod Laws
-pub mod Digits
-pub mod Steps
 pub mod Bits
+pub mod Digits
+pub mod Laws
 pub mod Fields
+pub mod Steps

@@ -21,8 +21,8 @@ pub fn are_counts(words: &[u32], p: usize, n: usize) -> bool
         return false;
     }
     let mut bits: u32 = 0;
-    for i in 0..n {
-        bits = bits | differing_bits(words[p + i], Kind::Count);
+    for w in &words[p..p + n] {
+        bits |= differing_bits(*w, Kind::Count);
     }
     bits < 256
 }
@@ -45,16 +45,15 @@ fn check_group(words: &[u32], p: usize, merge: u8) -> Result<usize, Fault>
     ensures { step result ≡ check_slots 8 0 merge words.now p }
 {
     let mut at = p;
-    let mut k = 0;
-    while k < 8 {
-        let level = image_format::level_at(merge, k);
-        at = check_parts(
-            words,
-            at,
-            image_format::word_count(level),
-            1 << image_format::first_bits(level),
-        )?;
-        k += 1 << level;
+    for k in 0..8 {
+        if let Some(level) = image_format::counter_level(merge, k) {
+            at = check_parts(
+                words,
+                at,
+                image_format::word_count(level),
+                1 << image_format::first_bits(level),
+            )?;
+        }
     }
     Ok(at)
 }
@@ -77,8 +76,8 @@ fn are_sound(words: &[u32], p: usize, fields: &[u8], c: usize) -> bool
     }
     let at = 17 * c + 9;
     let mut bits: u32 = 0;
-    for i in 0..8 {
-        bits = bits | (differing_bits(words[p + i], Kind::Count) >> (fields[at + i] % 32));
+    for (w, b) in words[p..p + 8].iter().zip(&fields[at..at + 8]) {
+        bits |= differing_bits(*w, Kind::Count) >> (*b % 32);
     }
     bits == 0
 }

@@ -8,6 +8,7 @@ ghost use Rattle.geometry.specs.Geometry.{largest_width};
 ghost use Rattle.image_format.specs.Read.{merges_at};
 ghost use Rattle.image_format.specs.Tables.{Filled, Layouts};
 
+use image_format::{code_merge, table};
 use word::payload;
 
 // How many layout codes are unpacked ahead for an image of n words: all or, when nothing or almost nothing is merged, none. 32 slots
@@ -28,12 +29,7 @@ pub fn layout_table(n: usize) -> [u8; 26]
     requires { n ≤ layouts_of 1 }
     ensures { Filled (λ (c : ℕ). code_merge c) n result }
 {
-    let mut t = [0u8; 26];
-    for c in 0..n {
-        let u = group_codes::unpack(c as u32);
-        t[c] = u.merges[3];
-    }
-    t
+    table(n, code_merge)
 }
 
 // The layout codes of the four groups whose layout word is at a position; all 0 where it has no code.
@@ -53,10 +49,8 @@ pub fn merge_of(c: u8, layouts: &[u8]) -> u8
     if c == 0 {
         return 0;
     }
-    let at = c as usize;
-    if at < layouts.len() {
-        return layouts[at];
+    match layouts.get(c as usize) {
+        Some(&merge) => merge,
+        None => code_merge(c),
     }
-    let u = group_codes::unpack(c as u32);
-    u.merges[3]
 }

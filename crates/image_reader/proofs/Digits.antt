@@ -1,7 +1,7 @@
 -- The words of a counter are its value's digits: they make the value again.
 use mathlib.Core.Path.{◌≡◌, sym, ap, ap₂, ◌∙◌}
 use mathlib.Core.List.{List, ◌++◌}
-use Prim.Native.Nat.{ℕ, zero, suc, ◌+◌, ◌-◌, ◌*◌, ◌/◌, ◌%◌, ◌^◌, ◌≤◌, ◌<◌}
+use Prim.Native.Nat.{ℕ, zero, suc, ◌+◌, ◌*◌, ◌/◌, ◌%◌, ◌^◌, ◌≤◌, ◌<◌}
 use native.Mathlib.Nat.{add-zero, zero-add, mod-one, mod-eq_of_lt, mul-one, mul_assoc, mul-le-mul_left, add-mul, zero-mul}
 use native.Mathlib.Omega.{arith}
 use lib.ListN.{drop}

@@ -1,7 +1,7 @@
 // Reading an image whose words have been checked.
 #![tactic(auto)]
 
-ghost use Rattle.std.specs.Prelude.{◌≡◌, ℕ, ◌+◌, ◌*◌, ◌/◌, ◌^◌, ◌<◌, ◌≤◌, length};
+ghost use Rattle.std.specs.Prelude.{◌≡◌, ℕ, ◌+◌, ◌*◌, ◌/◌, ◌%◌, ◌^◌, ◌<◌, ◌≤◌, length, map};
 ghost use Rattle.std.proofs.lemmas.List.Edits.{sets};
 ghost use Rattle.group_codes.specs.Pack.{layouts_of, code_merge};
 ghost use Rattle.group_codes.specs.Codes.{AllCodes, merges_of};
@@ -12,7 +12,6 @@ ghost use Rattle.image_format.specs.Write.{group_size};
 ghost use Rattle.image_format.specs.Tables as tables;
 ghost use Rattle.image_format.specs.Tables.{Reads};
 ghost use Rattle.image_format.specs.Read.{value_from, read_group, read_groups, after_groups, read_fours, after_fours, read_rows};
-ghost use Rattle.image_reader.specs.Reader.{lows};
 
 use group::Group;
 use group_fields::Fields;
@@ -27,12 +26,8 @@ fn value_at(words: &[u32], p: usize, n: u32) -> u64
     ensures { result ≡ value_from n 0 words.now p }
 {
     let mut v: u64 = 0;
-    let mut at = p;
-    let mut left = n;
-    while left > 0 {
+    for at in p..p + n as usize {
         v = v % 1099511627776 * 16777216 + (payload(words, at) % 16777216) as u64;
-        at += 1;
-        left -= 1;
     }
     v
 }
@@ -56,14 +51,12 @@ fn read_group(merge: u8, words: &[u32], p: usize) -> Taken
         merge,
     };
     let mut at = p;
-    let mut k = 0;
-    while k < 8 {
-        let level = image_format::level_at(merge, k);
-        let n = image_format::word_count(level);
-        let o = group::change(g, k, value_at(words, at, n));
-        g = o.group;
-        at += n as usize;
-        k += 1 << level;
+    for k in 0..8 {
+        if let Some(level) = image_format::counter_level(merge, k) {
+            let n = image_format::word_count(level);
+            g = group::change(g, k, value_at(words, at, n)).unwrap_or(g);
+            at += n as usize;
+        }
     }
     Taken {
         group: g,
@@ -112,14 +105,13 @@ fn read_any(merge: u8, words: &[u32], p: usize, fields: &[u8], c: usize) -> Take
     read_group(merge, words, p)
 }
 
-// n count bytes of a row from `at` on, each from a word.
-fn read_counts(row: &mut [u8], at: usize, words: &[u32], p: usize, n: usize)
-    requires fact_1 { at + n ≤ length row.old }
-    requires fact_2 { p + n ≤ length words.now }
-    ensures { row.new ≡ sets row.old at (lows words.now p n) }
+// Count bytes of a row from `at` on, each from a word.
+fn read_counts(row: &mut [u8], at: usize, words: &[u32])
+    requires { at + length words.now ≤ length row.old }
+    ensures { row.new ≡ sets row.old at (map (λ word. word % 256) words.now) }
 {
-    for i in 0..n {
-        row[at + i] = (words[p + i] % 256) as u8;
+    for (i, &word) in words.iter().enumerate() {
+        row[at + i] = (word % 256) as u8;
     }
 }
 
@@ -146,7 +138,7 @@ fn read_into(
 {
     if merge == 0 {
         if are_counts(words, p, 8) {
-            read_counts(row, 8 * g, words, p, 8);
+            read_counts(row, 8 * g, &words[p..p + 8]);
             row[w + g] = 0;
             return p + 8;
         }
@@ -177,8 +169,7 @@ fn read_groups(
     ensures row_after { row.new ≡ read_groups (merges_of codes) g w row.old words.now p }
 {
     let mut at = p;
-    for i in 0..4 {
-        let c = codes[i];
+    for (i, &c) in codes.iter().enumerate() {
         at = read_into(
             row,
             w,

@@ -1,5 +1,9 @@
 -- Laws of the loops that test and count: merge bytes, and lengths of words by slots, groups and rows.
-use mathlib.Core.Path.{◌≡◌, refl}
+use mathlib.Core.Path.{◌≡◌, refl, sym, ◌∙◌}
+use Rattle.std.specs.Prelude.{IsTrue, ◌↔◌}
+use Rattle.std.specs.List.{All}
+use Rattle.std.proofs.Math.Bool.{and_assoc}
+use borrow.Table.Steps.{cases}
 use mathlib.Core.Bool.{Bool, true, false, cond, ◌&&◌}
 use mathlib.Core.List.{List, [], ◌∷◌, ◌++◌}
 use Prim.Native.Nat.{ℕ, zero, suc, ◌+◌, ◌-◌, ◌*◌, ◌/◌, ◌≤◌, ◌<◌}
@@ -25,6 +29,30 @@ valid_step row i h = rw (drop-cons row i 0, add-one)
 pub valid_none : (row : List ℕ) (i : ℕ) → length row ≤ i → all_valid (drop i row) ≡ true
 unfolding all_valid
 valid_none row i h = rw (drop_of_length-le row h)
+
+pub valid_append : (xs ys : List ℕ) → all_valid (xs ++ ys) ≡ (all_valid xs && all_valid ys)
+unfolding all_valid
+valid_append [] ys = refl
+valid_append (x ∷ xs) ys = rw (valid_append xs ys) (sym (and_assoc (valid_merge x) (all_valid xs) (all_valid ys)))
+
+both : (a b : Bool) → (a && b) ≡ true → (a ≡ true) × (b ≡ true)
+both true b h = (refl, h)
+both false b h = cc
+
+valid_each : (ms : List ℕ) → all_valid ms ≡ true → All (λ m. valid_merge m ≡ true) ms
+unfolding all_valid
+valid_each [] h k d l = absurd (omega arith)
+valid_each (m ∷ ms) h zero d l = (both (valid_merge m) (all_valid ms) h).0
+valid_each (m ∷ ms) h (suc k) d l = valid_each ms (both (valid_merge m) (all_valid ms) h).1 k d (omega arith)
+
+valid_from : (ms : List ℕ) → All (λ m. valid_merge m ≡ true) ms → all_valid ms ≡ true
+unfolding all_valid
+valid_from [] h = refl
+valid_from (m ∷ ms) h = rw (h 0 0 (omega arith)) (valid_from ms (λ k d l. h (suc k) d (omega arith)))
+
+pub valid_all : (b : Bool) (ms : List ℕ) → IsTrue b ↔ All (λ m. valid_merge m ≡ true) ms → b ≡ all_valid ms
+valid_all true ms h = sym (valid_from ms (h.0 refl))
+valid_all false ms h = cases (all_valid ms) (λ t. h.1 (valid_each ms t) ∙ sym t) (λ f. sym f)
 
 pub valid_rows_step : (memory : List ℕ) (d r w : ℕ) → r < d
     → valid_rows (d - r) w (drop (r * stride w) memory) ≡ (all_valid (drop w (take (stride w) (drop (r * stride w) memory))) && valid_rows (d - (r + 1)) w (drop ((r + 1) * stride w) memory))

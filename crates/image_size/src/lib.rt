@@ -16,39 +16,29 @@ pub fn clear(row: &[u8], at: usize) -> bool
     requires { at ≤ length row.now }
     ensures { result ≡ true → FourClear row.now at }
 {
-    if row.len() - at < 4 {
-        return false;
+    match &row[at..] {
+        &[a, b, c, d, ..] => a | b | c | d == 0,
+        _ => false,
     }
-    row[at] | row[at + 1] | row[at + 2] | row[at + 3] == 0
 }
 
-// How many merge bytes are valid from one on: four that are 0, or one, or none.
-fn valid_run(row: &[u8], at: usize) -> usize
-    requires { at < length row.now }
-    ensures result_in_bounds { at + result ≤ length row.now }
-    ensures row_value { result ≡ 0 → all_valid (drop at row.now) ≡ false }
-    ensures row_value_2 { 0 < result → all_valid (drop at row.now) ≡ all_valid (drop (at + result) row.now) }
+// Whether up to four merge bytes are valid. Mostly all four are 0, which is tested at once.
+fn are_valid(merges: &[u8]) -> bool
+    requires { length merges.now ≤ 4 }
+    ensures { result ≡ all_valid merges.now }
 {
-    if clear(row, at) {
-        return 4;
-    }
-    if group::is_valid(row[at]) {
-        return 1;
-    }
-    0
+    clear(merges, 0) || merges.iter().all(|&merge| group::is_valid(merge))
 }
 
 // Whether the merge bytes of a row of w slots are valid.
 fn row_valid(row: &[u8], w: usize) -> bool
+    requires { w ≤ length row.now }
     ensures { result ≡ all_valid (drop w row.now) }
 {
-    let mut i = w;
-    while i < row.len() {
-        let n = valid_run(row, i);
-        if n == 0 {
+    for four in row[w..].chunks(4) {
+        if !are_valid(four) {
             return false;
         }
-        i += n;
     }
     true
 }
@@ -71,16 +61,14 @@ pub fn table_size(row: &[u8], w: usize) -> usize
     requires { w + w / 8 ≤ length row.now }
     ensures { result ≤ 128 }
 {
-    let mut n = 0usize;
-    for i in 0..w / 32 {
-        if !clear(row, w + 4 * i) {
-            n += 1;
-            if n == 8 {
-                return 128;
-            }
-        }
+    match row[w..w + w / 8]
+        .chunks(4)
+        .filter(|four| !clear(four, 0))
+        .nth(7)
+    {
+        Some(_) => 128,
+        None => 0,
     }
-    0
 }
 
 // The number of words of the counters of four groups, from group g on.
@@ -94,8 +82,8 @@ fn groups_size(row: &[u8], w: usize, g: usize, sizes: &[u8]) -> usize
         return 32;
     }
     let mut n = 0;
-    for i in 0..4 {
-        n += size_at(sizes, row[w + g + i]);
+    for &merge in &row[w + g..w + g + 4] {
+        n += size_at(sizes, merge);
     }
     n
 }

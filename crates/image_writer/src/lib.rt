@@ -1,18 +1,20 @@
 // Writing an image. Each function that writes takes the position of its first word and gives the position after its last.
 #![tactic(auto)]
 
-ghost use Rattle.std.specs.Prelude.{◌≡◌, ◌++◌, ◌+◌, ◌*◌, ◌/◌, ◌<◌, ◌≤◌, length, drop};
+ghost use Rattle.std.specs.Prelude.{◌≡◌, ◌++◌, ◌+◌, ◌*◌, ◌/◌, ◌<◌, ◌≤◌, length, drop, map};
 ghost use Rattle.std.proofs.lemmas.List.Edits.{sets};
 ghost use Rattle.group_codes.specs.Pack.{layouts_of};
 ghost use Rattle.geometry.specs.Geometry.{largest_width, RowsIn};
-ghost use Rattle.image_format.specs.Image.{groups_words, layout_at, four_words, row_words, rows_words, image};
+ghost use Rattle.image_format.specs.Image as spec;
+ghost use Rattle.image_format.specs.Image.{count_kind, groups_words, layout_at, four_words, row_words, rows_words, image};
 ghost use Rattle.image_format.specs.Tables.{Codes, Writes};
-ghost use Rattle.image_writer.specs.Writer.{Room, GroupsRoom, RowRoom, count_words, clear_words};
+ghost use Rattle.image_writer.specs.Writer.{Room, GroupsRoom, RowRoom, clear_words};
 
 use image_counters::put_any;
 use image_format::{code_at, log_width, word};
 use image_size::clear;
 use meter_memory::{load, row_at};
+use word::Kind;
 
 // The words of the counters of four groups, from group g on.
 fn put_groups(
@@ -54,14 +56,13 @@ fn layout_at(row: &[u8], w: usize, g: usize, codes: &[u8]) -> u32
     )
 }
 
-// The words of n slots that are not merged, from count byte `at` on.
-fn put_counts(words: &mut [u32], p: usize, row: &[u8], at: usize, n: usize)
-    requires fact_1 { p + n ≤ length words.old }
-    requires fact_2 { at + n ≤ length row.now }
-    ensures { words.new ≡ sets words.old p (count_words n at row.now) }
+// The words of slots that are not merged, by their count bytes.
+fn put_counts(words: &mut [u32], p: usize, counts: &[u8])
+    requires { p + length counts.now ≤ length words.old }
+    ensures { words.new ≡ sets words.old p (map (spec.word count_kind) counts.now) }
 {
-    for i in 0..n {
-        words[p + i] = image_format::count_word(row[at + i]);
+    for (i, &count) in counts.iter().enumerate() {
+        words[p + i] = image_format::count_word(count);
     }
 }
 
@@ -71,8 +72,8 @@ fn put_clear(words: &mut [u32], p: usize, row: &[u8], g: usize)
     requires fact_2 { p + 33 ≤ length words.old }
     ensures { words.new ≡ sets words.old p (clear_words g row.now) }
 {
-    words[p] = word(image_format::LAYOUT, 0);
-    put_counts(words, p + 1, row, 8 * g, 32);
+    words[p] = word(Kind::Layout, 0);
+    put_counts(words, p + 1, &row[8 * g..8 * g + 32]);
 }
 
 // The words of 32 slots, from group g on, by group.
@@ -92,7 +93,7 @@ fn put_mixed(
     ensures value { result ≡ p + length (four_words w row.now g) }
     ensures words_after { words.new ≡ sets words.old p (four_words w row.now g) }
 {
-    words[p] = word(image_format::LAYOUT, layout_at(row, w, g, codes));
+    words[p] = word(Kind::Layout, layout_at(row, w, g, codes));
     put_groups(words, p + 1, row, w, g, codes, fields)
 }
 
@@ -166,7 +167,7 @@ pub fn put_image(words: &mut [u32], memory: &[u8], d: usize, w: usize, codes: &[
     requires fact_3 { Writes codes.now fields.now }
     ensures { words.new ≡ image d w memory.now ++ drop (length (image d w memory.now)) words.old }
 {
-    words[0] = word(word::HEAD, log_width(w) * 16 + d as u32);
+    words[0] = word(Kind::Head, log_width(w) * 16 + d as u32);
     let end = put_rows(words, 1, memory, d, w, codes, fields);
-    words[end] = word(word::END, (end % word::PAYLOADS) as u32);
+    words[end] = word(Kind::End, (end % word::PAYLOADS) as u32);
 }

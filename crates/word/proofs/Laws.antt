@@ -6,7 +6,7 @@ use Prim.Native.Nat.{ℕ, ◌+◌, ◌/◌, ◌^◌, ◌<◌}
 use native.Mathlib.Omega.{arith}
 use lib.Dec.{eqb, ltb}
 use lib.ListN.{length, get_or}
-use borrow.Author.Tests.{ltb-true, eq-eqb, ne_eqb}
+use borrow.Author.Tests.{ltb-true, eq-eqb}
 use Rattle.word.specs.Step.{Step}
 use Rattle.answer.specs.Numbers.{bad_word}
 use Rattle.word.specs.Word.{go, stop, is_due, next, tested}
@@ -24,10 +24,6 @@ due_in words p kind e = ltb-true p (length words) (both (ltb p (length words)) (
 pub turn : (s t : Step) (f : ℕ → Step) → s ≡ t → s.status ≡ 0 → next t f ≡ f s.position
 unfolding next
 turn s t f e h = rw (← e, eq-eqb s.status 0 h)
-
-pub halt : (s t : Step) (f : ℕ → Step) → s ≡ t → (s.status ≡ 0 → ⊥) → next t f ≡ s
-unfolding next
-halt s t f e h = rw (← e, ne_eqb s.status 0 h)
 
 -- a word that is not due, whatever the test of its payload
 pub not_due : (words : List ℕ) (p kind : ℕ) (holds : Bool) (line : ℕ) → is_due words p kind ≡ false → tested words p kind holds line ≡ stop bad_word p

@@ -42,10 +42,6 @@ impl Kind {
     }
 }
 
-pub const HEAD: u32 = 1;
-
-pub const END: u32 = 4;
-
 // How many payloads there are. A number of words counts by its remainder by this.
 pub const PAYLOADS: usize = 1 << 28;
 

@@ -1,15 +1,10 @@
 use mathlib.Core.Path.{◌≡◌}
-use mathlib.Core.Bool.{true}
-use Prim.Native.Nat.{◌+◌, ◌-◌, ◌≤◌, ◌<◌}
+use Prim.Native.Nat.{◌+◌, ◌-◌, ◌≤◌}
 use lib.ListN.{length, take, drop}
 use Rattle.image_format.specs.Fields.{slots_fields, group_fields, Told}
-use Rattle.image_format.specs.Image.{is_first}
 use Rattle.image_format.specs.Write.{slots_size, group_size}
 use Rattle.image_format.proofs.describe.Given as goal
 
 abbrev pub invariant-loop-k : goal.invariant-loop-k
-invariant-loop-k l = (l.k ≤ 8) × (l.k < 8 → is_first l.merge l.k ≡ true) × (l.i + slots_size (8 - l.k) l.k l.merge ≡ group_size l.merge) × (length l.t ≡ length l.initial.t)
+invariant-loop-k l = (l.k ≤ 8) × (l.i + slots_size (8 - l.k) l.k l.merge ≡ group_size l.merge) × (length l.t ≡ length l.initial.t)
     × (take l.at l.t ≡ take l.at l.initial.t) × (drop l.i (group_fields l.merge) ≡ slots_fields (8 - l.k) l.k l.merge) × Told (group_fields l.merge) l.i l.t l.at
-
-abbrev pub decreases-loop-k : goal.decreases-loop-k
-decreases-loop-k l = 8 - l.k

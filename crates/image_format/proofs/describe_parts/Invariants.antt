@@ -8,6 +8,3 @@ use Rattle.image_format.proofs.describe_parts.Given as goal
 abbrev pub invariant-loop-left : goal.invariant-loop-left
 invariant-loop-left l = (l.j + l.left ≡ l.i + l.n) × (length l.t ≡ length l.initial.t) × (l.b ≤ 24) × (take l.at l.t ≡ take l.at l.initial.t)
     × ((fs rest : List Field) → drop l.i fs ≡ part_fields l.n l.place l.bits ++ rest → Told fs l.i l.initial.t l.at → (drop l.j fs ≡ part_fields l.left l.place l.b ++ rest) × Told fs l.j l.t l.at)
-
-abbrev pub decreases-loop-left : goal.decreases-loop-left
-decreases-loop-left l = l.left

@@ -6,7 +6,7 @@ use native.Mathlib.Omega.{arith}
 use lib.ListN.{drop}
 use Rattle.geometry.specs.Geometry.{stride}
 use Rattle.image_format.specs.Write.{all_valid, valid_rows}
-use Rattle.geometry.proofs.Widths.{one_row}
+use Rattle.geometry.proofs.Widths.{one_row, stride_is}
 use Rattle.image_size.proofs.Laws.{valid_rows_step, valid_rows_none}
 use Rattle.image_size.proofs.rows_valid.Goals as goal
 
@@ -16,6 +16,9 @@ loop-r-init c = let a = c.args in
 
 pub row_at-requires : goal.row_at-requires
 row_at-requires c = one_row _ _ _ c.requires c.loop-r-test.true
+
+pub row_valid-requires : goal.row_valid-requires
+row_valid-requires c = omega (arith, c.row_at.ensures.result_len, stride_is c.args.w)
 
 pub returns-then-not-row_valid : goal.returns-then-not-row_valid
 returns-then-not-row_valid c = let l = c.loop-r in
