@@ -1,15 +1,9 @@
-use mathlib.Core.Path.{sym, ap, ◌∙◌}
-use Prim.Native.Nat.{ℕ, ◌-◌}
+use mathlib.Core.Path.{sym, ◌∙◌}
+use Prim.Native.Nat.{◌-◌}
 use native.Mathlib.Omega.{arith}
-use native.Mathlib.Nat.{sub-zero}
 use Rattle.word.proofs.Results.{next_ok, next_handed_on}
-use Rattle.image_format.specs.Read.{check_fours}
 use Rattle.image_checker.proofs.Laws.{check_fours_step, check_fours_none}
 use Rattle.image_checker.proofs.check_fours.Goals as goal
-
-pub loop-init : goal.loop-init
-loop-init c = let a = c.args in
-    (omega arith, ap (λ (x : ℕ). check_fours x a.words.now a.p) (sub-zero a.n))
 
 pub returns-in_err-at : goal.returns-in_err-at
 returns-in_err-at c = let l = c.loop in

@@ -1,4 +1,4 @@
-use mathlib.Core.Path.{◌≡◌, refl, sym, ap, ◌∙◌}
+use mathlib.Core.Path.{◌≡◌, sym, ap, ◌∙◌}
 use Prim.Native.Nat.{ℕ}
 use native.Mathlib.Omega.{arith}
 use borrow.Author.Rules.{rules}
@@ -11,15 +11,6 @@ use Rattle.image_format.specs.Read.{check_slots}
 use Rattle.image_checker.proofs.Laws.{check_groups_step, check_groups_none}
 use Rattle.image_checker.proofs.check_groups.Goals as goal
 use Rattle.image_checker.proofs.check_groups.Goals.{After-check_any}
-
-pub loop-c-init : goal.loop-c-init
-loop-c-init c = (omega arith, refl)
-
-pub merge_of-requires : goal.merge_of-requires
-merge_of-requires c = record { fact_1 = c.requires.fact_1 c.loop-c.c-index; fact_2 = c.requires.fact_2.0 }
-
-pub check_any-requires : goal.check_any-requires
-check_any-requires c = record { fact_1 = c.requires.fact_1 c.loop-c.c-index; fact_2 = c.merge_of.ensures; fact_3 = c.requires.fact_2.1 }
 
 -- the words checked are those of the loop's group
 module _ (c : After-check_any) where

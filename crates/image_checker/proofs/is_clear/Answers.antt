@@ -1,15 +1,8 @@
 use mathlib.Core.Path.{sym, ◌∙◌}
-use mathlib.Core.Bool.{true≢false}
 use native.Mathlib.Omega.{arith}
 use Rattle.image_format.specs.Image.{layout_kind}
 use Rattle.image_checker.proofs.Plain.{clear_checks, same_word}
 use Rattle.image_checker.proofs.is_clear.Goals as goal
-
-pub returns-then-p-words : goal.returns-then-p-words
-returns-then-p-words c = λ e. absurd (true≢false (sym e))
-
-pub returns-then-differing_bits-ne0 : goal.returns-then-differing_bits-ne0
-returns-then-differing_bits-ne0 c = λ e. absurd (true≢false (sym e))
 
 pub returns : goal.returns
 returns c = λ e.

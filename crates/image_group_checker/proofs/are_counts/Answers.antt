@@ -1,5 +1,3 @@
-use mathlib.Core.Path.{sym}
-use mathlib.Core.Bool.{true≢false}
 use Prim.Native.Nat.{◌+◌, ◌-◌}
 use native.Mathlib.Omega.{arith}
 use borrow.Author.Tests.{ltb-true}
@@ -7,15 +5,6 @@ use lib.ListN.{get_or, take, drop, length-take, length-drop}
 use Rattle.image_group_checker.proofs.Laws.{up_to, part_at}
 use Rattle.image_group_checker.proofs.Bits.{or_le, same_bits}
 use Rattle.image_group_checker.proofs.are_counts.Goals as goal
-
-pub returns-then-words-n : goal.returns-then-words-n
-returns-then-words-n c = λ e. absurd (true≢false (sym e))
-
-pub returns-then-words-n-2 : goal.returns-then-words-n-2
-returns-then-words-n-2 c = λ e. absurd (true≢false (sym e))
-
-pub loop-w-init : goal.loop-w-init
-loop-w-init c = λ j h. absurd (omega arith)
 
 pub loop-w-preserved : goal.loop-w-preserved
 loop-w-preserved c = let l = c.loop-w in

@@ -1,5 +1,4 @@
 use mathlib.Core.Path.{◌≡◌, sym, ap, ◌∙◌}
-use mathlib.Core.Bool.{true≢false}
 use mathlib.Core.List.{[], ◌∷◌, ◌++◌}
 use mathlib.Core.Logic.{⊎_elim}
 use Prim.Native.Nat.{ℕ, ◌+◌, ◌-◌, ◌*◌, ◌/◌, ◌%◌, ◌^◌, ◌≤◌}
@@ -11,15 +10,6 @@ use Rattle.image_group_checker.proofs.Laws.{up_to, part_length, part_taken}
 use Rattle.image_group_checker.proofs.Bits.{or_le}
 use Rattle.image_group_checker.proofs.Fields.{sound_described}
 use Rattle.image_group_checker.proofs.are_sound.Goals as goal
-
-pub returns-then-words-lt8 : goal.returns-then-words-lt8
-returns-then-words-lt8 c = λ e. absurd (true≢false (sym e))
-
-pub returns-then-words-p : goal.returns-then-words-p
-returns-then-words-p c = λ e. absurd (true≢false (sym e))
-
-pub returns-then-fields-c : goal.returns-then-fields-c
-returns-then-fields-c c = λ e. absurd (true≢false (sym e))
 
 pub loop-w-preserved : goal.loop-w-preserved
 loop-w-preserved c = let l = c.loop-w in

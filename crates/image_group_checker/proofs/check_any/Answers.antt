@@ -1,12 +1,10 @@
 use mathlib.Core.Path.{◌≡◌, sym, ap, ◌∙◌}
 use Prim.Native.Nat.{ℕ, ◌+◌, ◌*◌, ◌≤◌}
-use native.Mathlib.Omega.{arith}
 use lib.ListN.{length, get_or}
 use Rattle.group_codes.specs.Pack.{code_merge}
 use Rattle.word.specs.Word.{go}
 use Rattle.image_format.specs.Write.{group_size}
 use Rattle.image_format.specs.Read.{check_slots}
-use Rattle.image_format.proofs.Fields.{size_most}
 use Rattle.image_group_checker.proofs.check_any.Goals as goal
 use Rattle.image_group_checker.proofs.check_any.Goals.{Then-are_sound}
 
@@ -18,15 +16,6 @@ module _ (c : Then-are_sound) where
 
   size_is : get_or c.args.fields.now (17 * c.args.c) 0 ≡ group_size (code_merge c.args.c)
   size_is = (c.requires.fact_3 c.args.c sound.1).0
-
-pub bounds-fields-c : goal.bounds-fields-c
-bounds-fields-c c = omega (arith, (sound (goal.at.bounds-fields-c c).Then-are_sound).1)
-
-pub overflow_cast-result : goal.overflow_cast-result
-overflow_cast-result c = omega (arith, size_is (goal.at.overflow_cast-result c).Then-are_sound, size_most (code_merge c.args.c))
-
-pub overflow_add-result : goal.overflow_add-result
-overflow_add-result c = omega (arith, (sound (goal.at.overflow_add-result c).Then-are_sound).0, size_is (goal.at.overflow_add-result c).Then-are_sound, size_most (code_merge c.args.c))
 
 pub returns-then-are_sound : goal.returns-then-are_sound
 returns-then-are_sound c = let a = c.args in
