@@ -3,7 +3,8 @@ use mathlib.Core.Path.{◌≡◌, refl, sym}
 use Prim.Native.Nat.{ℕ, ◌<◌}
 use native.Mathlib.Omega.{arith}
 use lib.Dec.{leb}
-use Rattle.std.specs.Prelude.{Result, Ok, Err, IsErrAnd}
+use mathlib.Core.Bool.{true, false, true≢false}
+use Rattle.std.specs.Prelude.{Result, Ok, Err, IsErrAnd, is_err}
 use Rattle.std.proofs.lemmas.Result.{err_from_is_err_and}
 use Rattle.std.specs.Ordering.{partial_le}
 use Rattle.answer.specs.contracts.RefusalPartialOrd.TheImpl.{partial_cmp-value}
@@ -69,3 +70,14 @@ err_is r x h = let p = err_from_is_err_and r h in rw (p.1, p.2)
 pub handed_on : (A : Type 0) {B : Type 0} (r : Result B Refusal) (x : Refusal) (n : ℕ) → IsErrAnd r (λ y. y ≡ x) → status {A = A} (Err x) ≡ n → status r ≡ n
 unfolding status
 handed_on A r x n h e = rw (err_is r x h) e
+
+-- whether a result is a refusal, and its status
+pub some_status : {A : Type 0} (r : Result A Refusal) → is_err r ≡ true → status r ≡ 0 → ⊥
+unfolding status
+some_status (Ok v) e z = absurd (true≢false (sym e))
+some_status (Err x) e z = no_number x z
+
+pub no_status : {A : Type 0} (r : Result A Refusal) → is_err r ≡ false → status r ≡ 0
+unfolding status
+no_status (Ok v) e = refl
+no_status (Err x) e = absurd (true≢false e)

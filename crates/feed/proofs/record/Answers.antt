@@ -5,10 +5,11 @@ use Rattle.feed_records.specs.Openings as opening
 use Rattle.feed_records.specs.Words.{opened}
 use Rattle.feed.proofs.Laws.{record_good, record_bad}
 use mathlib.Core.Path.{◌≡◌, refl, sym, ap, ◌∙◌}
-use Prim.Native.Nat.{ℕ}
 use lib.ListN.{length}
 use Rattle.geometry.specs.Checks.{bad_shape}
 use Rattle.feed.specs.Record.{opened_outcome, recorded}
+use Rattle.answer.specs.Refusals.{number, status}
+use Rattle.answer.proofs.Refusals.{ok_status, no_number}
 use Rattle.feed.proofs.Cases.{carried, told}
 use Rattle.feed.proofs.record.Goals as goal
 use Rattle.feed.proofs.record.Goals.{After-first_word}
@@ -17,7 +18,7 @@ use Rattle.feed.proofs.record.Goals.{After-first_word}
 shape_good : (f : After-first_word) →
     let a = f.args in
     bad_shape a.d a.w (length a.memory.now) ≡ 0
-shape_good f = sym f.bad_shape-bad.ensures ∙ f.if-bad-ne0.false
+shape_good f = ok_status _ _ f.in_default.ensures
 
 key_good : (f : After-first_word) (o : Opening) →
     let a = f.args in
@@ -33,11 +34,12 @@ opened_is f o e =
     let a = f.args in
     record_good a.d a.w a.memory.now a.before a.words.now (shape_good f) ∙ ap (carried a.d a.w a.memory.now a.words.now) (sym e)
 
-pub returns-then-bad-ne0 : goal.returns-then-bad-ne0
-returns-then-bad-ne0 c = let a = c.args in
-    let s = c.bad_shape-bad in
-    let e = record_bad a.d a.w a.memory.now a.before a.words.now s.result (sym s.ensures) c.if-bad-ne0.true in
-    let r = all_of a.d a.w a.memory.now a.before a.words.now _ _ _ e refl refl in
+pub returns-in-Err : goal.returns-in-Err
+unfolding status
+returns-in-Err c = let a = c.args in
+    let x = c.in-Err.why in
+    let e = record_bad a.d a.w a.memory.now a.before a.words.now (number x) (sym c.in-Err.ensures) (no_number x) in
+    let r = all_of a.d a.w a.memory.now a.before a.words.now _ _ _ e c.refusal.ensures refl in
     record { value = r.0; memory_after = r.1.0; result_in_bounds = r.1.1 }
 
 pub update-requires : goal.update-requires
@@ -70,10 +72,10 @@ returns-in-Ok-End c = let a = c.args in
     let r = all_of a.d a.w a.memory.now a.before a.words.now _ _ _ e refl refl in
     record { value = r.0; memory_after = r.1.0; result_in_bounds = r.1.1 }
 
-pub returns-in-Err : goal.returns-in-Err
+pub returns-in-Err-first_word : goal.returns-in-Err-first_word
 unfolding carried opened_outcome
-returns-in-Err c = let a = c.args in
-    let n = c.number.ensures in
-    let e = opened_is (goal.at.returns-in-Err c).After-first_word (opening.Refused c.number.result) (ap (λ (s : ℕ). opening.Refused s) n ∙ c.in-Err.ensures) in
-    let r = all_of a.d a.w a.memory.now a.before a.words.now _ _ _ e refl refl in
+returns-in-Err-first_word c = let a = c.args in
+    let x = c.in-Err-first_word.why in
+    let e = opened_is (goal.at.returns-in-Err-first_word c).After-first_word (opening.Refused (number x)) c.in-Err-first_word.ensures in
+    let r = all_of a.d a.w a.memory.now a.before a.words.now _ _ _ e c.refusal-in-Err-first_word.ensures refl in
     record { value = r.0; memory_after = r.1.0; result_in_bounds = r.1.1 }

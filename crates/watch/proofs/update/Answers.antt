@@ -9,7 +9,7 @@ use Rattle.std.specs.Prelude.{Result, Ok, Err, ⊤, is_err}
 use Rattle.answer.specs.declared.Refusal.{Refusal}
 use Rattle.answer.specs.Refusals.{status}
 use Rattle.answer.specs.Answers.{answer_of, done}
-use Rattle.answer.proofs.Refusals.{ok_status, err_status, no_number}
+use Rattle.answer.proofs.Refusals.{ok_status, err_status, some_status, no_status}
 use Rattle.answer.proofs.Answers.{done_is, told_status, status_alone, done_handed}
 use Rattle.answer.specs.Order.{unless, earlier}
 use Rattle.answer.proofs.Order.{none_earlier}
@@ -43,22 +43,11 @@ own_line c =
     let a = c.args in
     c.check_content-content.ensures ∙ ap (λ (b : Bool). earlier (unless b invalid_content) (bad_threshold a.threshold)) c.usage_of-found.ensures.sound_value
 
--- what is refused has a status, and what is not has none
-refused : (r : Result ⊤ Refusal) → is_err r ≡ true → status r ≡ 0 → ⊥
-unfolding status
-refused (Ok v) e z = absurd (true≢false (sym e))
-refused (Err x) e z = no_number x z
-
-accepted : (r : Result ⊤ Refusal) → is_err r ≡ false → status r ≡ 0
-unfolding status
-accepted (Ok v) e = refl
-accepted (Err x) e = absurd (true≢false e)
-
 -- 5 and 11 have passed
 clean : (c : After-check_content-content) → is_err c.check_content-content.result ≡ false
     → let a = c.args in
     earlier (broken_list a.list.now) (bad_threshold a.threshold) ≡ 0
-clean c e = sym (own_line c) ∙ accepted c.check_content-content.result e
+clean c e = sym (own_line c) ∙ no_status c.check_content-content.result e
 
 pub usage_of-found-requires : goal.usage_of-found-requires
 usage_of-found-requires c = let a = c.args in
@@ -71,7 +60,7 @@ estimate_checked-asked-requires c = let a = c.args in
 pub returns-then-is_err : goal.returns-then-is_err
 returns-then-is_err c = let a = c.args in
     let content = c.check_content-content.result in
-    let p = watched_line a.d a.w a.memory.now a.list.now a.key.now a.amount a.threshold (passed (goal.at.returns-then-is_err c).In_ok-check_lines) (status content) _ (own_line (goal.at.returns-then-is_err c).After-check_content-content) (refused content (sym c.is_err.ensures.value ∙ c.if-is_err.true)) (sym (told_status c.estimate_checked-asked.result) ∙ ap (λ (x : Answer). x.status) c.estimate_checked-asked.ensures) in
+    let p = watched_line a.d a.w a.memory.now a.list.now a.key.now a.amount a.threshold (passed (goal.at.returns-then-is_err c).In_ok-check_lines) (status content) _ (own_line (goal.at.returns-then-is_err c).After-check_content-content) (some_status content (sym c.is_err.ensures.value ∙ c.if-is_err.true)) (sym (told_status c.estimate_checked-asked.result) ∙ ap (λ (x : Answer). x.status) c.estimate_checked-asked.ensures) in
     record { value = done_is c.first.result ∙ ap (λ (s : ℕ). answer_of s 0) (c.first.ensures ∙ ap (λ (s : ℕ). earlier s (status content)) (ap status c.and.ensures ∙ status_alone c.estimate_checked-asked.result _)) ∙ p.0; memory_after = p.1.0; list_after = p.1.1 }
 
 pub update_reading-requires : goal.update_reading-requires
