@@ -65,6 +65,7 @@ fn put_fields(words: &mut [u32], p: usize, g: Group, fields: &[u8], c: usize) ->
     let n = fields[at] as usize;
     let counts = g.counts;
     let x = Fields::of(counts);
+    // i is a word's number in the image and in both columns of the description: three slices zipped are no plainer.
     for i in 0..n {
         let part = x.bits_at(fields[at + 1 + i], fields[at + 9 + i]);
         words[p + i] = word(Kind::Count, part);

@@ -75,6 +75,7 @@ fn read_fields(words: &[u32], p: usize, fields: &[u8], c: usize) -> Fields
     let at = 17 * c;
     let n = fields[at] as usize;
     let mut x = Fields::none();
+    // i is a word's number in the image and in both columns of the description: three slices zipped are no plainer.
     for i in 0..n {
         x = x.put(
             fields[at + 1 + i],
@@ -136,12 +137,10 @@ fn read_into(
     ensures upper_bound { result ≤ p + 24 }
     ensures row_after { row.new ≡ with_group w row.old g (read_group merge words.now p) }
 {
-    if merge == 0 {
-        if are_counts(words, p, 8) {
-            read_counts(row, 8 * g, &words[p..p + 8]);
-            row[w + g] = 0;
-            return p + 8;
-        }
+    if merge == 0 && are_counts(words, p, 8) {
+        read_counts(row, 8 * g, &words[p..p + 8]);
+        row[w + g] = 0;
+        return p + 8;
     }
     let t = read_any(merge, words, p, fields, c);
     store(row, w, g, t.group);
