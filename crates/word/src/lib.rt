@@ -11,34 +11,24 @@ ghost use Rattle.word.specs.Word as spec;
 
 use answer::Refusal;
 
-// The kinds of words, of images and of feeds.
+// The kinds of words, of images and of feeds, each with its number in a word's top four bits.
 #[derive(Clone, Copy, Debug, PartialEq, Eq)]
 pub enum Kind {
-    Head,
-    Layout,
-    Count,
-    End,
-    Update,
-    Query,
-    Key,
-    Amount,
+    Head = 1,
+    Layout = 2,
+    Count = 3,
+    End = 4,
+    Update = 5,
+    Query = 6,
+    Key = 7,
+    Amount = 8,
 }
 
 impl Kind {
-    // Its number in a word's top four bits.
     pub fn code(self) -> u32
         ensures { result ≡ code self }
     {
-        match self {
-            Kind::Head => 1,
-            Kind::Layout => 2,
-            Kind::Count => 3,
-            Kind::End => 4,
-            Kind::Update => 5,
-            Kind::Query => 6,
-            Kind::Key => 7,
-            Kind::Amount => 8,
-        }
+        self as u32
     }
 }
 
