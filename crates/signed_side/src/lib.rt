@@ -1,5 +1,6 @@
 // Unmerged groups of a signed meter side by side: the count bytes of eight of them combined with those of a source at once. Of loops
-// of 64 turns with no test on the way the compiler makes vector code.
+// of 64 turns with no test on the way the compiler makes vector code: they count to 64, since it does not know that the slices are that long,
+// and what is bad stays a byte beside the sums.
 #![tactic(auto)]
 
 ghost use Rattle.std.specs.Prelude.{◌≡◌, ◌<◌, true, false, length, if◌then◌else◌};
@@ -106,13 +107,6 @@ pub fn combine(minus: bool, counts: &mut [u8], source: &[u8]) -> bool
     true
 }
 
-// What is bad as a byte that is looked at as a whole.
-fn flag(bad: bool) -> u8
-    ensures { result ≡ (if bad then 1 else 0) }
-{
-    if bad { 1 } else { 0 }
-}
-
 // Whether no slot of eight unmerged groups is minus zero, nor of a source's: then none of the groups is refused.
 pub fn clean(counts: &[u8], source: &[u8]) -> bool
     requires fact_1 { length counts.now ≡ 64 }
@@ -121,7 +115,7 @@ pub fn clean(counts: &[u8], source: &[u8]) -> bool
 {
     let mut bad = 0u8;
     for i in 0..64 {
-        bad = bad | flag(counts[i] == 128) | flag(source[i] == 128);
+        bad = bad | (counts[i] == 128) as u8 | (source[i] == 128) as u8;
     }
     bad == 0
 }
