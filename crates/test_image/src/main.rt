@@ -12,76 +12,42 @@ const BYTE: u8 = 0xaa;
 
 const WORD: u32 = 0xeeeeeeee;
 
-fn text(out: Stdout, s: &str) -> io::Result<()> {
-    print!(out; "{s}")
-}
-
-fn decimal(out: Stdout, n: u64) -> io::Result<()> {
-    print!(out; " {n}")
-}
-
-fn hex(out: Stdout, n: u64, digits: usize) -> io::Result<()> {
-    print!(out; " {n:0digits$x}")
-}
-
 fn answer(out: Stdout, a: Answer) -> io::Result<()> {
-    decimal(out, a.status as u64)?;
-    decimal(out, a.position)?;
-    decimal(out, a.value)
-}
-
-fn wide(word: u32) -> u64 {
-    word as u64
+    print!(out; " {} {} {}", a.status, a.position, a.value)
 }
 
 fn show_words(out: Stdout, words: &[u32]) -> io::Result<()> {
-    for i in 0..words.len() {
-        hex(out, wide(words[i]), 8)?;
+    for word in words {
+        print!(out; " {word:08x}")?;
     }
-    text(out, "\n")
-}
-
-fn wide_byte(byte: u8) -> u64 {
-    byte as u64
+    println!(out)
 }
 
 fn show_bytes(out: Stdout, memory: &[u8]) -> io::Result<()> {
-    for i in 0..memory.len() {
-        hex(out, wide_byte(memory[i]), 2)?;
+    for byte in memory {
+        print!(out; " {byte:02x}")?;
     }
-    text(out, "\n")
-}
-
-// Whether every byte is as it was before a read.
-fn kept(memory: &[u8]) -> bool {
-    for i in 0..memory.len() {
-        if memory[i] != BYTE {
-            return false;
-        }
-    }
-    true
+    println!(out)
 }
 
 // What a read answers, and what it leaves in a memory.
 fn read(out: Stdout, d: usize, w: usize, memory: &mut [u8], words: &[u32]) -> io::Result<()> {
     let a = image::read(d, w, memory, words);
-    text(out, "read")?;
+    print!(out; "read")?;
     answer(out, a)?;
     if a.status == 0 {
-        show_bytes(out, memory)?;
-        return Ok(());
+        return show_bytes(out, memory);
     }
-    if kept(memory) {
-        text(out, " kept\n")?;
-        return Ok(());
+    if memory.iter().all(|&byte| byte == BYTE) {
+        return println!(out; " kept");
     }
-    text(out, " changed\n")
+    println!(out; " changed")
 }
 
 // What a write answers, and what it leaves in the lent words.
 fn write(out: Stdout, d: usize, w: usize, memory: &[u8], words: &mut [u32]) -> io::Result<()> {
     let a = image::write(d, w, memory, words);
-    text(out, "write")?;
+    print!(out; "write")?;
     answer(out, a)?;
     show_words(out, words)
 }
@@ -123,36 +89,11 @@ fn faulty(
 
 // A group of one counter; one of a counter of level 2 and four of level 0; one of pairs and slots; one of slots.
 fn levels() -> [u8; 36] {
-    let mut memory = [0u8; 36];
-    memory[0] = 0x01;
-    memory[1] = 0x23;
-    memory[2] = 0x45;
-    memory[3] = 0x67;
-    memory[4] = 0x89;
-    memory[5] = 0xab;
-    memory[6] = 0xcd;
-    memory[7] = 0xef;
-    memory[8] = 0x78;
-    memory[9] = 0x56;
-    memory[10] = 0x34;
-    memory[11] = 0x12;
-    memory[12] = 0xff;
-    memory[13] = 0x01;
-    memory[14] = 0x02;
-    memory[15] = 0x03;
-    memory[16] = 0xfe;
-    memory[17] = 0xff;
-    memory[18] = 0x0a;
-    memory[19] = 0x0b;
-    memory[20] = 0x2c;
-    memory[21] = 0x01;
-    memory[22] = 0x0c;
-    memory[23] = 0x0d;
-    memory[31] = 0x07;
-    memory[32] = 0x7f;
-    memory[33] = 0x07;
-    memory[34] = 0x11;
-    memory
+    [
+        0x01, 0x23, 0x45, 0x67, 0x89, 0xab, 0xcd, 0xef, 0x78, 0x56, 0x34, 0x12, 0xff, 0x01, 0x02,
+        0x03, 0xfe, 0xff, 0x0a, 0x0b, 0x2c, 0x01, 0x0c, 0x0d, 0, 0, 0, 0, 0, 0, 0, 0x07, 0x7f,
+        0x07, 0x11, 0,
+    ]
 }
 
 fn writes(out: Stdout) -> io::Result<()> {
@@ -179,10 +120,8 @@ fn writes(out: Stdout) -> io::Result<()> {
 // Two rows of 64 slots, every group one counter.
 fn rows(out: Stdout) -> io::Result<()> {
     let mut memory = [0u8; 144];
-    for i in 0..8 {
-        memory[64 + i] = 0x7f;
-        memory[136 + i] = 0x7f;
-    }
+    memory[64..72].fill(0x7f);
+    memory[136..].fill(0x7f);
     memory[0] = 0x09;
     memory[72] = 0x05;
     let mut words = [WORD; 60];

@@ -1,36 +1,26 @@
 // A meter's calls run by the compiled code; what they print is compared with `stdout` beside src/.
 #![tactic(auto)]
 
+ghost use Rattle.std.specs.Prelude.{◌≤◌, length};
+
 use answer::Answer;
 use hash::Hash;
 use std::io;
 use std::io::Stdout;
 
-fn text(out: Stdout, s: &str) -> io::Result<()> {
-    print!(out; "{s}")
-}
-
-fn decimal(out: Stdout, n: u64) -> io::Result<()> {
-    print!(out; " {n}")
-}
-
 // An answer: status, position and value.
 fn show(out: Stdout, a: Answer) -> io::Result<()> {
-    decimal(out, a.status as u64)?;
-    decimal(out, a.position)?;
-    decimal(out, a.value)?;
-    text(out, "\n")
+    println!(out; " {} {} {}", a.status, a.position, a.value)
 }
 
 // All bytes of a memory, by their hash.
 fn digest(out: Stdout, memory: &[u8]) -> io::Result<()> {
-    let h = Hash::start().run(memory);
-    let state = h.state;
+    let state = Hash::start().run(memory).state;
     println!(out; "memory {state:08x}")
 }
 
 fn clear(out: Stdout, d: usize, w: usize, memory: &mut [u8]) -> io::Result<()> {
-    text(out, "clear")?;
+    print!(out; "clear")?;
     show(out, meter::clear(d, w, memory))?;
     digest(out, memory)
 }
@@ -43,23 +33,23 @@ fn update(
     key: &[u8],
     amount: u32,
 ) -> io::Result<()> {
-    text(out, "update")?;
+    print!(out; "update")?;
     show(out, meter::update(d, w, memory, key, amount))?;
     digest(out, memory)
 }
 
 fn estimate(out: Stdout, d: usize, w: usize, memory: &[u8], key: &[u8]) -> io::Result<()> {
-    text(out, "estimate")?;
+    print!(out; "estimate")?;
     show(out, meter::estimate(d, w, memory, key))
 }
 
 fn widest(out: Stdout, d: usize, w: usize, memory: &[u8]) -> io::Result<()> {
-    text(out, "widest")?;
+    print!(out; "widest")?;
     show(out, meter::widest(d, w, memory))
 }
 
 fn unite(out: Stdout, d: usize, w: usize, memory: &mut [u8], source: &[u8]) -> io::Result<()> {
-    text(out, "unite")?;
+    print!(out; "unite")?;
     show(out, meter::unite(d, w, memory, source))?;
     digest(out, memory)
 }
@@ -197,14 +187,11 @@ fn refused(out: Stdout) -> io::Result<()> {
 }
 
 // The same byte in places from..to.
-fn put(m: &mut [u8], from: usize, to: usize, byte: u8) {
-    let mut i = from;
-    while i < to {
-        if i < m.len() {
-            m[i] = byte;
-        }
-        i += 1;
-    }
+fn put(m: &mut [u8], from: usize, to: usize, byte: u8)
+    requires from_le_to { from ≤ to }
+    requires in_bounds { to ≤ length m.old }
+{
+    m[from..to].fill(byte);
 }
 
 fn full_row(out: Stdout, m: &mut [u8]) -> io::Result<()> {
