@@ -20,6 +20,7 @@ impl Fields {
     }
 
     // The bits of a group's count bytes.
+    #[tactic(auto, unfolding(crate::specs::Fields::fields_of))]
     pub fn of(counts: [u8; 8]) -> Fields
         ensures { result ≡ fields_of counts }
     {
@@ -29,6 +30,7 @@ impl Fields {
     }
 
     // The count bytes again.
+    #[tactic(auto, unfolding(crate::specs::Fields::counts_of))]
     pub fn counts(self) -> [u8; 8]
         ensures { result ≡ counts_of self }
     {

@@ -23,9 +23,7 @@ fn word(merges: &[u8]) -> u64
     requires { length merges.now ≡ 8 }
     ensures { result ≡ number merges.now }
 {
-    u64::from_le_bytes([
-        merges[0], merges[1], merges[2], merges[3], merges[4], merges[5], merges[6], merges[7],
-    ])
+    u64::from_le_bytes(merges.try_into().unwrap())
 }
 
 // Whether none of eight groups is merged on either side, by a word of merge bytes of each.

@@ -4,7 +4,8 @@
 ghost use Rattle.std.specs.Prelude.{◌≡◌, true};
 ghost use Rattle.geometry.specs.Geometry.{valid_width};
 
-use group::{Group, Outcome};
+use answer::Refusal;
+use group::Group;
 use hash::Hash;
 use std::io;
 use std::io::Stdout;
@@ -47,55 +48,60 @@ fn lands(out: Stdout, row: u8, key: &[u8], w: usize) -> io::Result<()>
 }
 
 // The status, the eight count bytes from the last slot to the first, and the merge byte.
-fn outcome(out: Stdout, o: Outcome) -> io::Result<()> {
-    let g = o.group;
-    let counts = g.counts;
-    decimal(out, o.status as u64)?;
-    hex(out, little_endian::number_of(counts), 16)?;
+fn outcome(out: Stdout, refusal: Option<Refusal>, g: Group) -> io::Result<()> {
+    decimal(out, status(refusal))?;
+    hex(out, little_endian::number_of(g.counts), 16)?;
     byte(out, g.merge)?;
     text(out, "\n")
 }
 
+fn status(refusal: Option<Refusal>) -> u64 {
+    match refusal {
+        None => 0,
+        Some(why) => why.number() as u64,
+    }
+}
+
 // An update as the meter makes it in one row: the group is the first of a row of 32 slots.
-fn update(g: Group, slot: usize, amount: u32) -> Outcome {
+fn update(g: Group, slot: usize, amount: u32) -> (Option<Refusal>, Group) {
     let mut row = [0u8; 36];
     meter_memory::store(&mut row, 32, 0, g);
-    let a = meter_row::update_one(&mut row, 32, slot % 8, amount);
-    Outcome {
-        status: a.status,
-        group: meter_memory::load(&row, 32, 0),
-    }
+    let found = meter_row::update_one(&mut row, 32, slot % 8, amount);
+    (found.status.err(), meter_memory::load(&row, 32, 0))
 }
 
 // The group's own call, and the row's beside it.
 fn add(out: Stdout, g: Group, slot: usize, amount: u32) -> io::Result<Group> {
-    let o = group::add(g, slot, amount);
+    let sum = group::add(g, slot, amount);
+    let after = sum.unwrap_or(g);
     text(out, "add")?;
-    outcome(out, o)?;
+    outcome(out, sum.err(), after)?;
+    let (refusal, in_row) = update(g, slot, amount);
     text(out, "row")?;
-    outcome(out, update(g, slot, amount))?;
-    Ok(o.group)
+    outcome(out, refusal, in_row)?;
+    Ok(after)
 }
 
 fn unite(out: Stdout, g: Group, source: Group) -> io::Result<Group> {
-    let o = group::unite(g, source);
+    let union = group::unite(g, source);
+    let after = union.unwrap_or(g);
     text(out, "unite")?;
-    outcome(out, o)?;
-    Ok(o.group)
+    outcome(out, union.err(), after)?;
+    Ok(after)
 }
 
 fn read(out: Stdout, g: Group, slot: usize) -> io::Result<()> {
     let c = group::counter(g, slot);
     text(out, "counter")?;
-    decimal(out, c.status as u64)?;
-    decimal(out, c.value)?;
-    decimal(out, c.level as u64)?;
+    decimal(out, status(c.err()))?;
+    decimal(out, c.map_or(0, |c| c.value))?;
+    decimal(out, c.map_or(0, |c| c.level) as u64)?;
     text(out, "\n")
 }
 
-fn answer(out: Stdout, a: answer::Answer) -> io::Result<()> {
-    decimal(out, a.status as u64)?;
-    decimal(out, a.value)?;
+fn answer(out: Stdout, figure: Result<u64, Refusal>) -> io::Result<()> {
+    decimal(out, status(figure.err()))?;
+    decimal(out, figure.unwrap_or(0))?;
     text(out, "\n")
 }
 
@@ -115,15 +121,12 @@ fn pack(out: Stdout, a: u8, b: u8, c: u8, d: u8) -> io::Result<()> {
 }
 
 fn unpack(out: Stdout, code: u32) -> io::Result<()> {
-    let u = group_codes::unpack(code);
-    let a = u.answer;
-    let m = u.merges;
+    let unpacked = group_codes::unpack(code);
     text(out, "unpack")?;
-    decimal(out, a.status as u64)?;
-    byte(out, m[0])?;
-    byte(out, m[1])?;
-    byte(out, m[2])?;
-    byte(out, m[3])?;
+    decimal(out, status(unpacked.err()))?;
+    for m in unpacked.unwrap_or([0; 4]) {
+        byte(out, m)?;
+    }
     text(out, "\n")
 }
 
