@@ -90,11 +90,10 @@ pub fn add(g: Group, slot: usize, minus: bool, magnitude: u32) -> Outcome
         minus,
         magnitude: magnitude as u64,
     };
-    let sum = add_in_place(word, g.merge, k, amount);
-    if sum.held {
+    if let Some(sum) = add_in_place(word, g.merge, k, amount) {
         return settled(Summed {
             over: false,
-            word: sum.word,
+            word: sum,
             merge: g.merge,
         });
     }

@@ -15,7 +15,6 @@ ghost use Rattle.signed_nodes.specs.Nodes as spec;
 use group_block::Summed;
 use group_layout::{is_merged, ones, slots};
 use signed_block::top;
-use signed_number::distance;
 
 // What is known of two blocks: their totals, raised, and of their union whether it is over and, where it is not, its count bytes as one
 // number and its merge bits.
@@ -69,7 +68,7 @@ pub fn held(level: u32, sum: u64) -> Summed
     ensures { Tells result (sum_spec.held level (sub_ℕ sum (spec.bias (level + 1)))) }
 {
     Summed {
-        over: distance(sum, bias(level + 1)) >= top(level),
+        over: sum.abs_diff(bias(level + 1)) >= top(level),
         word: sum_bits(level, sum),
         merge: ones(level),
     }
@@ -88,14 +87,8 @@ fn block_total(level: u32, sides: u64, word: u64, merge: u8) -> u64
     sides
 }
 
-// The first of two numbers, or the second.
-fn chosen(first: bool, a: u64, b: u64) -> u64
-    ensures { result ≡ cond first a b }
-{
-    if first { a } else { b }
-}
-
-fn chosen_bits(first: bool, a: u8, b: u8) -> u8
+// The first of two values, or the second.
+fn chosen<T: Copy>(first: bool, a: T, b: T) -> T
     ensures { result ≡ cond first a b }
 {
     if first { a } else { b }
@@ -125,11 +118,12 @@ pub fn formed(
         b,
         over: one & sum.over,
         word: chosen(one, sum.word, sides.word),
-        merge: chosen_bits(one, sum.merge, sides.merge),
+        merge: chosen(one, sum.merge, sides.merge),
     }
 }
 
-// The count bytes of two halves of this level side by side.
+// The count bytes of two halves of this level side by side. Of halves that are over, which group_block::beside_word and
+// group_layout::beside do not take, nothing is promised.
 fn beside_words(half: u32, left: u64, right: u64) -> u64
     requires { half ≤ 2 }
     ensures { left < cap half → right < cap half → result ≡ right * cap half + left }

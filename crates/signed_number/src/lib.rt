@@ -6,27 +6,21 @@ ghost use Rattle.std.specs.Bool.{beq};
 ghost use Rattle.std.proofs.Math.IntN.{sub_ℕ};
 ghost use Rattle.signed_number.specs.Number.{times_sign, integer, integer_of, signed_of};
 
-#[derive(Clone, Copy)]
+#[derive(Clone, Copy, Debug, PartialEq, Eq)]
 pub struct Signed {
     pub minus: bool,
     pub magnitude: u64,
 }
 
 // An amount by its sign and its magnitude.
-pub fn of_int(amount: i32) -> Signed
-    ensures value { result ≡ signed_of amount }
-    ensures magnitude_bound { result.magnitude ≤ 2 ^ 31 }
-{
-    let wide = amount as i64;
-    if wide < 0 {
-        return Signed {
-            minus: true,
-            magnitude: (-wide) as u64,
-        };
-    }
-    Signed {
-        minus: false,
-        magnitude: wide as u64,
+impl From<i32> for Signed {
+    ghost from_gives = { λ amount s. (s ≡ signed_of amount) × (s.magnitude ≤ 2 ^ 31) };
+
+    fn from(amount: i32) -> Self {
+        Signed {
+            minus: amount < 0,
+            magnitude: u64::from(amount.unsigned_abs()),
+        }
     }
 }
 
@@ -66,23 +60,13 @@ fn sum_sign(a: Signed, b: Signed) -> bool
     a.minus != (differ & less)
 }
 
-// By how much two magnitudes differ.
-pub fn distance(a: u64, b: u64) -> u64
-    ensures { result ≡ nat_abs (sub_ℕ a b) }
-{
-    if a < b {
-        return b - a;
-    }
-    a - b
-}
-
 // The magnitude of a sum. Both cases are computed, so that no branch is taken by signs, which are as good as random.
 fn sum_magnitude(a: Signed, b: Signed) -> u64
     requires { a.magnitude + b.magnitude < 2 ^ 64 }
     ensures { result ≡ cond (beq a.minus b.minus) (a.magnitude + b.magnitude) (nat_abs (sub_ℕ a.magnitude b.magnitude)) }
 {
     let sum = a.magnitude + b.magnitude;
-    let apart = distance(a.magnitude, b.magnitude);
+    let apart = a.magnitude.abs_diff(b.magnitude);
     if a.minus == b.minus {
         return sum;
     }

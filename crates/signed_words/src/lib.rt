@@ -2,7 +2,7 @@
 // every counter with the other sign, the counter of a slot, and an addition that its counter holds.
 #![tactic(auto)]
 
-ghost use Rattle.std.specs.Prelude.{◌≡◌, true, ◌+◌, ◌-◌, ◌<◌, ◌≤◌, ◌^◌, ltb, ◌+ℤ◌, nat_abs};
+ghost use Rattle.std.specs.Prelude.{◌≡◌, true, ◌+◌, ◌-◌, ◌<◌, ◌≤◌, ◌^◌, ltb, ◌+ℤ◌, nat_abs, is_some, IfSome};
 ghost use Rattle.group_layout.specs.Layout.{layout, valid, level_of};
 ghost use Rattle.group_block.specs.Block.{cap, number_of, all_clean, counter_value};
 ghost use Rattle.signed_number.specs.Number.{integer_of, signed_of};
@@ -79,7 +79,7 @@ pub fn sum_fits(minus: bool, word: u64, merge: u8, other_word: u64, other_merge:
 }
 
 // A counter's value and level.
-#[derive(Clone, Copy)]
+#[derive(Clone, Copy, Debug, PartialEq, Eq)]
 pub struct Counter {
     pub value: Signed,
     pub level: u32,
@@ -126,13 +126,6 @@ fn lowered(top: u64, raised: u64) -> u64
     raised - top
 }
 
-// A counter's bits after an addition that it holds; 0 elsewhere.
-#[derive(Clone, Copy)]
-struct Kept {
-    held: bool,
-    bits: u64,
-}
-
 // How much may be added to a raised value, or taken from it, if no more than `most` and no less than 1 is to be left.
 fn room(raised: u64, most: u64, minus: bool) -> u64
     requires fact_1 { 0 < raised }
@@ -153,52 +146,30 @@ fn moved(raised: u64, amount: Signed) -> u64
     }
 }
 
-// An amount added to a counter of a level, if the counter holds the sum. No branch is taken by signs, which are as good as random.
-fn add_to(level: u32, bits: u64, amount: Signed) -> Kept
+// An amount added to a counter of a level: the bits, if the counter holds the sum. No branch is taken by signs, which are as good as random.
+fn add_to(level: u32, bits: u64, amount: Signed) -> Option<u64>
     requires fact_1 { level ≤ 3 }
     requires fact_2 { bits < cap level }
-    ensures held_value { result.held ≡ ltb (nat_abs (sign_read level bits +ℤ integer_of amount)) (sign_spec.top level) }
-    ensures bits_value { result.held ≡ true → result.bits ≡ sign_bits level (sign_read level bits +ℤ integer_of amount) }
+    ensures held_value { is_some result ≡ ltb (nat_abs (sign_read level bits +ℤ integer_of amount)) (sign_spec.top level) }
+    ensures bits_value { IfSome result (λ b. b ≡ sign_bits level (sign_read level bits +ℤ integer_of amount)) }
 {
     let sign = top(level);
     let before = raised(sign, bits);
     if room(before, most(level), amount.minus) < amount.magnitude {
-        return Kept {
-            held: false,
-            bits: 0,
-        };
+        return None;
     }
-    Kept {
-        held: true,
-        bits: lowered(sign, moved(before, amount)),
-    }
+    Some(lowered(sign, moved(before, amount)))
 }
 
-// The count bytes, taken as one number, after an addition that its counter holds; 0 elsewhere.
-#[derive(Clone, Copy)]
-pub struct InPlace {
-    pub held: bool,
-    pub word: u64,
-}
-
-// An amount added to the counter that a slot is in, if the counter holds the sum. The layout stays.
-pub fn add_in_place(word: u64, merge: u8, slot: usize, amount: Signed) -> InPlace
+// An amount added to the counter that a slot is in: the count bytes, taken as one number, if the counter holds the sum. The layout stays.
+pub fn add_in_place(word: u64, merge: u8, slot: usize, amount: Signed) -> Option<u64>
     requires fact_1 { valid 3 merge ≡ true }
     requires fact_2 { slot < 8 }
     requires fact_3 { all_clean signed (layout 3 merge) word ≡ true }
-    ensures held_value { result.held ≡ spec.holds_at word merge slot (integer_of amount) }
-    ensures stays { result.held ≡ true → spec.Stays word merge slot (integer_of amount) result.word }
+    ensures held_value { is_some result ≡ spec.holds_at word merge slot (integer_of amount) }
+    ensures stays { IfSome result (spec.Stays word merge slot (integer_of amount)) }
 {
     let c = group_sums::counter_at(word, merge, slot);
-    let k = add_to(c.level, c.value, amount);
-    if !k.held {
-        return InPlace {
-            held: false,
-            word: 0,
-        };
-    }
-    InPlace {
-        held: true,
-        word: exchange(word, c.level, place(c.level, slot), c.value, k.bits),
-    }
+    let bits = add_to(c.level, c.value, amount)?;
+    Some(exchange(word, c.level, place(c.level, slot), c.value, bits))
 }

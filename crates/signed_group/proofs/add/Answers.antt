@@ -34,19 +34,19 @@ returns-then-status-ne0 c = let a = c.args in
     ∙ ap (λ (x : ℕ). unchanged x a.g) c.bad_group-status.ensures
     ∙ sym (added_refused a.g a.slot (integer a.minus a.magnitude) (λ z. c.if-status-ne0.true (c.bad_group-status.ensures ∙ z)))
 
-pub add_in_place-sum-requires : goal.add_in_place-sum-requires
-add_in_place-sum-requires c = record { fact_1 = (clean c).merges; fact_2 = omega arith; fact_3 = word_clean c }
+pub add_in_place-requires : goal.add_in_place-requires
+add_in_place-requires c = record { fact_1 = (clean c).merges; fact_2 = omega arith; fact_3 = word_clean c }
 
-pub returns-then-sum : goal.returns-then-sum
+pub returns-in-Some : goal.returns-in-Some
 unfolding decode
-returns-then-sum c = let a = c.args in
+returns-in-Some c = let a = c.args in
     c.settled.ensures
-    ∙ stored_is a.g _ (add (decode a.g) (a.slot % 8) (amount (goal.at.returns-then-sum c).After-number_of-word)) (rw (← c.number_of-word.ensures) (c.add_in_place-sum.ensures.stays c.if-sum.true)) refl
-    ∙ sym (added_settled a.g a.slot (amount (goal.at.returns-then-sum c).After-number_of-word) (good (goal.at.returns-then-sum c).After-number_of-word))
+    ∙ stored_is a.g _ (add (decode a.g) (a.slot % 8) (amount (goal.at.returns-in-Some c).After-number_of-word)) (rw (← c.number_of-word.ensures) c.in-Some.ensures.stays) refl
+    ∙ sym (added_settled a.g a.slot (amount (goal.at.returns-in-Some c).After-number_of-word) (good (goal.at.returns-in-Some c).After-number_of-word))
 
 pub add_widening-requires : goal.add_widening-requires
 unfolding cap
-add_widening-requires c = record { fact_1 = ((omega arith, (clean (goal.at.add_widening-requires c).After-number_of-word).merges), word_clean (goal.at.add_widening-requires c).After-number_of-word); fact_2 = omega arith; fact_3 = omega arith; fact_4 = sym c.add_in_place-sum.ensures.held_value ∙ c.if-sum.false }
+add_widening-requires c = record { fact_1 = ((omega arith, (clean (goal.at.add_widening-requires c).After-number_of-word).merges), word_clean (goal.at.add_widening-requires c).After-number_of-word); fact_2 = omega arith; fact_3 = omega arith; fact_4 = sym c.in_default.ensures.held_value }
 
 pub returns : goal.returns
 unfolding decode

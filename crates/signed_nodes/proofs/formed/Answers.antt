@@ -24,6 +24,6 @@ returns c = let sides = c.args.sides in
     record {
       first = c.block_total-a.ensures;
       second = c.block_total-b.ensures;
-      union = rw (c.chosen.ensures, c.chosen_bits.ensures)
+      union = rw (c.chosen.ensures, c.chosen-2.ensures)
           (chosen_tells n b.word b.merge b.other_word b.other_merge sides c.requires.fact_4 c.held-sum.result (rw sum at c.held-sum.ensures) _ one);
     }

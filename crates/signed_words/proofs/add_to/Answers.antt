@@ -1,5 +1,4 @@
 use mathlib.Core.Path.{◌≡◌, sym, ap, ◌∙◌}
-use mathlib.Core.Bool.{true≢false}
 use Prim.Native.Nat.{ℕ, ◌-◌, ◌^◌, ◌≤◌, ◌<◌}
 use native.Mathlib.Omega.{arith}
 use borrow.Author.Tests.{lt-ltb, le-ltb}
@@ -45,7 +44,7 @@ room-requires c = record { fact_1 = (is (goal.at.room-requires c).After-raised-b
 pub returns-then-room-amount : goal.returns-then-room-amount
 returns-then-room-amount c = let a = c.args.amount in
     let r = is (goal.at.returns-then-room-amount c).After-raised-before in
-    let over = no_room (n (goal.at.returns-then-room-amount c).After-raised-before) c.raised-before.result (v (goal.at.returns-then-room-amount c).After-raised-before) r.0 r.1 r.2 a.minus a.magnitude (rw (room_is (goal.at.returns-then-room-amount c).After-room) at c.if-room-amount.true) in record { held_value = sym (le-ltb (nat_abs (sum (goal.at.returns-then-room-amount c).After-raised-before)) (top (n (goal.at.returns-then-room-amount c).After-raised-before)) over); bits_value = λ y. absurd (true≢false (sym y)) }
+    let over = no_room (n (goal.at.returns-then-room-amount c).After-raised-before) c.raised-before.result (v (goal.at.returns-then-room-amount c).After-raised-before) r.0 r.1 r.2 a.minus a.magnitude (rw (room_is (goal.at.returns-then-room-amount c).After-room) at c.if-room-amount.true) in record { held_value = sym (le-ltb (nat_abs (sum (goal.at.returns-then-room-amount c).After-raised-before)) (top (n (goal.at.returns-then-room-amount c).After-raised-before)) over); bits_value = tt }
 
 -- the sum
 module _ (c : Else-room-amount) where
@@ -73,7 +72,7 @@ lowered-requires c = record { fact_1 = (moved c).1; fact_2 = omega (arith, c.top
 pub returns : goal.returns
 returns c = let r = moved (goal.at.returns c).After-moved in record {
   held_value = sym (lt-ltb (nat_abs (sum (goal.at.returns c).After-raised-before)) (top (n (goal.at.returns c).After-raised-before)) (holds (n (goal.at.returns c).After-raised-before) c.moved.result (sum (goal.at.returns c).After-raised-before) r.0 r.1 r.2));
-  bits_value = λ y.
+  bits_value =
       c.lowered.ensures
       ∙ ap (λ (t : ℕ). words.lowered t c.moved.result) c.top-sign.ensures
       ∙ lowered_is (n (goal.at.returns c).After-raised-before) c.moved.result (sum (goal.at.returns c).After-raised-before) r.0;

@@ -1,9 +1,0 @@
-use native.Mathlib.Omega.{arith}
-use borrow.Author.Tests.{lt-ltb, le-ltb}
-use Rattle.signed_number.proofs.distance.Goals as goal
-
-pub returns-then-a-b : goal.returns-then-a-b
-returns-then-a-b c = let a = c.args in rw (lt-ltb a.a a.b c.if-a-b.true) (omega arith)
-
-pub returns : goal.returns
-returns c = let a = c.args in rw (le-ltb a.a a.b c.if-a-b.false)
