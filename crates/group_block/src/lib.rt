@@ -28,36 +28,38 @@ pub struct Packed {
     pub merge: u8,
 }
 
-// A value of a counter, of one kind of meter.
-pub trait Figure: Copy {
+// A kind of meter, by the values of its counters.
+pub trait MeterKind {
+    type Figure: Copy;
+
     ghost kind: { Kind };
 
     // the value that a figure stands for, and the figure that is made of a value
-    ghost means: { Self → kind.Value };
+    ghost means: { Self.Figure → kind.Value };
 
-    ghost made: { kind.Value → Self };
+    ghost made: { kind.Value → Self.Figure };
 
     // The value of a counter of a level, by its bits.
-    fn read(level: u32, bits: u64) -> Self
+    fn read(level: u32, bits: u64) -> Self::Figure
         requires level_bound { level ≤ 3 }
         requires in_counter { bits < cap level }
         ensures { means result ≡ kind.read level bits };
 
     // The bits of a value in a counter of a level that holds it.
-    fn bits(self, level: u32) -> u64
+    fn bits(level: u32, value: Self::Figure) -> u64
         requires level_bound { level ≤ 3 }
-        requires held { kind.size (means self) < kind.bound level }
-        requires is_made { self ≡ made (means self) }
-        ensures { result ≡ kind.bits level (means self) };
+        requires held { kind.size (means value) < kind.bound level }
+        requires is_made { value ≡ made (means value) }
+        ensures { result ≡ kind.bits level (means value) };
 
     // Whether a counter of a level holds a value.
-    fn held_by(self, level: u32) -> bool
+    fn holds(level: u32, value: Self::Figure) -> bool
         requires { level ≤ 3 }
-        ensures { result ≡ ltb (kind.size (means self)) (kind.bound level) };
+        ensures { result ≡ ltb (kind.size (means value)) (kind.bound level) };
 
-    fn plus(self, other: Self) -> Self
-        requires { kind.size (means self) + kind.size (means other) < 2 ^ 64 }
-        ensures { result ≡ made (kind.plus (means self) (means other)) };
+    fn plus(a: Self::Figure, b: Self::Figure) -> Self::Figure
+        requires { kind.size (means a) + kind.size (means b) < 2 ^ 64 }
+        ensures { result ≡ made (kind.plus (means a) (means b)) };
 
     ghost laws: { Coded kind means made };
 }
@@ -121,8 +123,12 @@ fn holds(level: u32, value: u64) -> bool
     high_word(level, value) == 0
 }
 
-// A counter of an ordinary meter: a number, its own bits.
-impl Figure for u64 {
+// The ordinary meter: numbers, each its own bits.
+pub struct Ordinary;
+
+impl MeterKind for Ordinary {
+    type Figure = u64;
+
     ghost kind = { ordinary };
 
     ghost means = { λ v. v };
@@ -133,77 +139,82 @@ impl Figure for u64 {
         bits
     }
 
-    fn bits(self, level: u32) -> u64 {
-        self
+    fn bits(level: u32, value: u64) -> u64 {
+        value
     }
 
-    fn held_by(self, level: u32) -> bool {
-        holds(level, self)
+    fn holds(level: u32, value: u64) -> bool {
+        holds(level, value)
     }
 
-    fn plus(self, other: u64) -> u64 {
-        self + other
+    fn plus(a: u64, b: u64) -> u64 {
+        a + b
     }
 
     ghost laws = { ordinary_coded };
 }
 
 // The sum of a block's counters.
-pub fn total<F: Figure>(level: u32, word: u64, merge: u8) -> F
+pub fn total<M: MeterKind>(level: u32, word: u64, merge: u8) -> M::Figure
     requires { (level ≤ 3) × (word < cap level) }
-    ensures { F.means result ≡ spec.total (block_as F.kind level word merge) }
+    ensures { M.means result ≡ spec.total (block_as M.kind level word merge) }
 {
     if is_merged(level, merge) {
-        return F::read(level, word);
+        return M::read(level, word);
     }
     let half = level - 1;
     let left = left_half(half, word, merge);
     let right = right_half(half, word, merge);
-    let left_total: F = total(half, left.word, left.merge);
-    left_total.plus(total(half, right.word, right.merge))
+    M::plus(
+        total::<M>(half, left.word, left.merge),
+        total::<M>(half, right.word, right.merge),
+    )
 }
 
 // A sum stored in the one counter of a block, or the sum if the counter does not hold it.
-pub fn held<F: Figure>(level: u32, sum: F) -> Result<Packed, F>
+pub fn held<M: MeterKind>(level: u32, sum: M::Figure) -> Result<Packed, M::Figure>
     requires fact_1 { level ≤ 3 }
-    requires fact_2 { sum ≡ F.made (F.means sum) }
-    ensures { result ≡ summed_as F.kind F.made (sum_spec.held level (F.means sum)) }
+    requires fact_2 { sum ≡ M.made (M.means sum) }
+    ensures { result ≡ summed_as M.kind M.made (sum_spec.held level (M.means sum)) }
 {
-    if !sum.held_by(level) {
+    if !M::holds(level, sum) {
         return Err(sum);
     }
     Ok(Packed {
-        word: sum.bits(level),
+        word: M::bits(level, sum),
         merge: ones(level),
     })
 }
 
 // The total of what an addition or a union left.
-fn sum_total<F: Figure>(level: u32, s: Result<Packed, F>) -> F
+fn sum_total<M: MeterKind>(level: u32, s: Result<Packed, M::Figure>) -> M::Figure
     requires fact_1 { level ≤ 3 }
-    requires fact_2 { AptAs F.kind level s }
-    ensures { F.means result ≡ sum_total (sum_as F.kind F.means level s) }
+    requires fact_2 { AptAs M.kind level s }
+    ensures { M.means result ≡ sum_total (sum_as M.kind M.means level s) }
 {
     match s {
-        Ok(block) => total(level, block.word, block.merge),
+        Ok(block) => total::<M>(level, block.word, block.merge),
         Err(sum) => sum,
     }
 }
 
 // Two halves side by side or, where one is a sum, their sum as one counter.
-pub fn join<F: Figure>(
+pub fn join<M: MeterKind>(
     half: u32,
-    left: Result<Packed, F>,
-    right: Result<Packed, F>,
-) -> Result<Packed, F>
+    left: Result<Packed, M::Figure>,
+    right: Result<Packed, M::Figure>,
+) -> Result<Packed, M::Figure>
     requires fact_1 { half ≤ 2 }
-    requires fact_2 { AptAs F.kind half left }
-    requires fact_3 { AptAs F.kind half right }
-    requires fact_4 { F.kind.size (sum_total (sum_as F.kind F.means half left)) + F.kind.size (sum_total (sum_as F.kind F.means half right)) < 2 ^ 64 }
-    ensures { result ≡ summed_as F.kind F.made (sum_spec.join (sum_as F.kind F.means half left) (sum_as F.kind F.means half right)) }
+    requires fact_2 { AptAs M.kind half left }
+    requires fact_3 { AptAs M.kind half right }
+    requires fact_4 { M.kind.size (sum_total (sum_as M.kind M.means half left)) + M.kind.size (sum_total (sum_as M.kind M.means half right)) < 2 ^ 64 }
+    ensures { result ≡ summed_as M.kind M.made (sum_spec.join (sum_as M.kind M.means half left) (sum_as M.kind M.means half right)) }
 {
     let (Ok(l), Ok(r)) = (left, right) else {
-        return held(half + 1, sum_total(half, left).plus(sum_total(half, right)));
+        return held::<M>(
+            half + 1,
+            M::plus(sum_total::<M>(half, left), sum_total::<M>(half, right)),
+        );
     };
     Ok(Packed {
         word: beside_word(half, l.word, r.word),
@@ -212,76 +223,87 @@ pub fn join<F: Figure>(
 }
 
 // An amount added to the counter of a slot.
-pub fn add<F: Figure>(level: u32, word: u64, merge: u8, slot: usize, amount: F) -> Result<Packed, F>
+pub fn add<M: MeterKind>(
+    level: u32,
+    word: u64,
+    merge: u8,
+    slot: usize,
+    amount: M::Figure,
+) -> Result<Packed, M::Figure>
     requires level_bound { level ≤ 3 }
     requires sane { Sane level word merge }
-    requires clean { all_clean F.kind (layout level merge) word ≡ true }
-    requires room { spec.sizes (block_as F.kind level word merge) + F.kind.size (F.means amount) < 2 ^ 64 }
-    ensures { result ≡ summed_as F.kind F.made (sum_spec.add (block_as F.kind level word merge) slot (F.means amount)) }
+    requires clean { all_clean M.kind (layout level merge) word ≡ true }
+    requires room { spec.sizes (block_as M.kind level word merge) + M.kind.size (M.means amount) < 2 ^ 64 }
+    ensures { result ≡ summed_as M.kind M.made (sum_spec.add (block_as M.kind level word merge) slot (M.means amount)) }
 {
     if is_merged(level, merge) {
-        return held(level, F::read(level, word).plus(amount));
+        return held::<M>(level, M::plus(M::read(level, word), amount));
     }
     let half = level - 1;
     let left = left_half(half, word, merge);
     let right = right_half(half, word, merge);
     let size = slots(half) as usize;
     if slot < size {
-        return join(
+        return join::<M>(
             half,
-            add(half, left.word, left.merge, slot, amount),
+            add::<M>(half, left.word, left.merge, slot, amount),
             Ok(right),
         );
     }
-    join(
+    join::<M>(
         half,
         Ok(left),
-        add(half, right.word, right.merge, slot - size, amount),
+        add::<M>(half, right.word, right.merge, slot - size, amount),
     )
 }
 
 // Two blocks united.
-pub fn unite<F: Figure>(
+pub fn unite<M: MeterKind>(
     level: u32,
     word: u64,
     merge: u8,
     other_word: u64,
     other_merge: u8,
-) -> Result<Packed, F>
+) -> Result<Packed, M::Figure>
     requires level_bound { level ≤ 3 }
     requires sane { Sane level word merge }
-    requires clean { all_clean F.kind (layout level merge) word ≡ true }
+    requires clean { all_clean M.kind (layout level merge) word ≡ true }
     requires other_sane { Sane level other_word other_merge }
-    requires other_clean { all_clean F.kind (layout level other_merge) other_word ≡ true }
-    requires room { spec.sizes (block_as F.kind level word merge) + spec.sizes (block_as F.kind level other_word other_merge) < 2 ^ 64 }
-    ensures { result ≡ summed_as F.kind F.made (sum_spec.unite (block_as F.kind level word merge) (block_as F.kind level other_word other_merge)) }
+    requires other_clean { all_clean M.kind (layout level other_merge) other_word ≡ true }
+    requires room { spec.sizes (block_as M.kind level word merge) + spec.sizes (block_as M.kind level other_word other_merge) < 2 ^ 64 }
+    ensures { result ≡ summed_as M.kind M.made (sum_spec.unite (block_as M.kind level word merge) (block_as M.kind level other_word other_merge)) }
 {
     if is_merged(level, merge) {
-        return held(
+        return held::<M>(
             level,
-            F::read(level, word).plus(total(level, other_word, other_merge)),
+            M::plus(
+                M::read(level, word),
+                total::<M>(level, other_word, other_merge),
+            ),
         );
     }
     if is_merged(level, other_merge) {
-        let sum: F = total(level, word, merge);
-        return held(level, sum.plus(F::read(level, other_word)));
+        return held::<M>(
+            level,
+            M::plus(total::<M>(level, word, merge), M::read(level, other_word)),
+        );
     }
     let half = level - 1;
     let left = left_half(half, word, merge);
     let right = right_half(half, word, merge);
     let other_left = left_half(half, other_word, other_merge);
     let other_right = right_half(half, other_word, other_merge);
-    let united = unite(
+    let united = unite::<M>(
         half,
         left.word,
         left.merge,
         other_left.word,
         other_left.merge,
     );
-    join(
+    join::<M>(
         half,
         united,
-        unite(
+        unite::<M>(
             half,
             right.word,
             right.merge,

@@ -11,7 +11,7 @@ ghost use Rattle.group_block.specs.Passed.{summed};
 ghost use Rattle.group_block.specs.Sum as sum_spec;
 ghost use Rattle.group_sums.specs.Sums as spec;
 
-use group_block::{Counter, Packed};
+use group_block::{Counter, Ordinary, Packed};
 use group_levels::{formed, level_at, most, place, put, twins, value_at};
 
 // The counter that a slot is in.
@@ -100,7 +100,7 @@ pub fn add_widening(word: u64, merge: u8, level: u32, slot: usize, amount: u32) 
     if let Some(wider) = widened(word, merge, level, slot, amount) {
         return wider;
     }
-    group_block::add(3, word, merge, slot, amount as u64).unwrap()
+    group_block::add::<Ordinary>(3, word, merge, slot, amount as u64).unwrap()
 }
 
 // Whether the sum of all counters of two groups is below 2 ^ 64. It is where neither group is one counter.
@@ -110,8 +110,8 @@ pub fn sum_fits(word: u64, merge: u8, other_word: u64, other_merge: u8) -> bool
     if ((merge | other_merge) >> 3) & 1 == 0 {
         return true;
     }
-    let room = u64::MAX - group_block::total::<u64>(3, word, merge);
-    group_block::total::<u64>(3, other_word, other_merge) <= room
+    let room = u64::MAX - group_block::total::<Ordinary>(3, word, merge);
+    group_block::total::<Ordinary>(3, other_word, other_merge) <= room
 }
 
 // The count bytes, taken as one number, with another value in the counter that a slot is in.

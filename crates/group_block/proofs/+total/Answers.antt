@@ -26,29 +26,29 @@ here g {t} c = record { apart = is_apart g (goal.at.After-right_half-right g t c
 pub returns-then-is_merged : goal.returns-then-is_merged
 unfolding total_of
 returns-then-is_merged g t c = let a = c.args in
-    rw (block_merged_of g.F.Figure.kind a.level a.word a.merge (sym c.is_merged.ensures ∙ c.if-is_merged.true)) c.read.ensures
+    rw (block_merged_of g.M.MeterKind.kind a.level a.word a.merge (sym c.is_merged.ensures ∙ c.if-is_merged.true)) c.read.ensures
 
 pub overflow_sub-half : goal.overflow_sub-half
 overflow_sub-half g t c = omega (arith, above g c)
 
-pub total-left_total-requires : goal.total-left_total-requires
-total-left_total-requires g t c κs within = (omega (arith, above g (goal.at.total-left_total-requires g t c).Else-is_merged), (within, (omega arith, (words_in (here g c) c.requires.1).0)))
-
 pub total-requires : goal.total-requires
-total-requires g t c κs within = (omega (arith, above g (goal.at.total-requires g t c).Else-is_merged), (within, (omega arith, (words_in (here g (goal.at.total-requires g t c).After-right_half-right) c.requires.1).1)))
+total-requires g t c κs within = (omega (arith, above g (goal.at.total-requires g t c).Else-is_merged), (within.0, (within.1, (omega arith, (words_in (here g c) c.requires.1).0))))
+
+pub total-requires-2 : goal.total-requires-2
+total-requires-2 g t c κs within = (omega (arith, above g (goal.at.total-requires-2 g t c).Else-is_merged), (within.0, (within.1, (omega arith, (words_in (here g (goal.at.total-requires-2 g t c).After-right_half-right) c.requires.1).1))))
 
 pub plus-requires : goal.plus-requires
 plus-requires g t c =
-    let d = g.met.F.Figure.laws in
+    let d = g.met.M.MeterKind.laws in
     let i = totals_in (here g (goal.at.plus-requires g t c).After-right_half-right) d c.requires.1 in
     let n = c.args.level - 1 in
-    rw (c.total-left_total.ensures, c.total.ensures) (omega (arith, i.0, i.1, d.codes.bound_le n, cap_below n (omega arith)))
+    rw (c.total.ensures, c.total-2.ensures) (omega (arith, i.0, i.1, d.codes.bound_le n, cap_below n (omega arith)))
 
 pub returns : goal.returns
 returns g t c =
-    let f = g.F.Figure in
-    let d = g.met.F.Figure.laws in
+    let f = g.M.MeterKind in
+    let d = g.met.M.MeterKind.laws in
     ap f.means c.plus.ensures
     ∙ d.means_made _
-    ∙ ap₂ f.kind.plus c.total-left_total.ensures c.total.ensures
+    ∙ ap₂ f.kind.plus c.total.ensures c.total-2.ensures
     ∙ total_apart (here g (goal.at.returns g t c).After-right_half-right) d

@@ -7,10 +7,10 @@ use Rattle.group_block.specs.Sum.{held}
 use Rattle.group_block.specs.Passed.{summed_as}
 use Rattle.group_block.proofs.held.Goals as goal
 
-pub returns-then-not-held_by : goal.returns-then-not-held_by
+pub returns-then-not-holds : goal.returns-then-not-holds
 unfolding held summed_as
-returns-then-not-held_by g c = rw (← c.held_by.ensures, c.if-not-held_by.true) (ap Err c.requires.fact_2)
+returns-then-not-holds g c = rw (← c.holds.ensures, c.if-not-holds.true) (ap Err c.requires.fact_2)
 
 pub returns : goal.returns
 unfolding held summed_as number_of shape marks
-returns g c = rw (← c.held_by.ensures, c.if-not-held_by.false) (ap₂ (λ (w m : ℕ). Ok (record { word = w; merge = m })) c.bits.ensures c.ones.ensures)
+returns g c = rw (← c.holds.ensures, c.if-not-holds.false) (ap₂ (λ (w m : ℕ). Ok (record { word = w; merge = m })) c.bits.ensures c.ones.ensures)

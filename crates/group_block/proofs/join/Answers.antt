@@ -10,8 +10,8 @@ use Rattle.group_block.proofs.join.Goals.{in_default-via-in-Ok+in_default, in_de
 
 pub returns-in_default : goal.returns-in_default
 returns-in_default g c =
-    let f = g.F.Figure in
-    let d = g.met.F.Figure.laws in
+    let f = g.M.MeterKind in
+    let d = g.met.M.MeterKind.laws in
     let a = c.args in
     let sum = ap f.means c.plus.ensures ∙ d.means_made _ ∙ ap₂ f.kind.plus c.sum_total.ensures c.sum_total-in_default.ensures in
     c.held.ensures
@@ -29,7 +29,7 @@ beside-requires-clause-fact_3 g c = valid_in c.args.half c.in-Ok-Ok.r.merge (rw 
 
 pub returns : goal.returns
 returns g c =
-    let d = g.met.F.Figure.laws in
+    let d = g.met.M.MeterKind.laws in
     let a = c.args in
     let s = c.in-Ok-Ok in
     ap₂ (λ (w m : ℕ). Ok (record { word = w; merge = m })) c.beside_word.ensures c.beside.ensures
