@@ -1,4 +1,4 @@
 pub mod Numbers
 pub mod Order
-pub mod Answers
 pub mod Refusals
+pub mod Answers

@@ -3,9 +3,9 @@
 
 ghost use Rattle.std.specs.Prelude.{◌≡◌};
 ghost use Rattle.answer.specs.Answers as spec;
-ghost use Rattle.answer.specs.Answers.{answer_of};
+ghost use Rattle.answer.specs.Answers.{answer_of, told, done};
 ghost use Rattle.answer.specs.Numbers.{order};
-ghost use Rattle.answer.specs.Refusals.{number};
+ghost use Rattle.answer.specs.Refusals.{number, status};
 ghost use Rattle.answer.specs.Order.{place_in};
 ghost use Rattle.answer.specs.Order as order_spec;
 
@@ -55,7 +55,7 @@ const ORDER: [u8; 13] = [
 ];
 
 // Why a call is refused. The refusals stand in checking order.
-#[derive(Clone, Copy, Debug, PartialEq, Eq)]
+#[derive(Clone, Copy, Debug, PartialEq, Eq, PartialOrd, Ord)]
 pub enum Refusal {
     InvalidDepth,
     InvalidWidth,
@@ -140,6 +140,31 @@ pub fn answer_of(status: u8, value: u64) -> Answer
     refused(status)
 }
 
+// The answer by the result of a call: its figure, or 0 where it has none.
+impl From<Result<u64, Refusal>> for Answer {
+    ghost from_gives = { λ r a. a ≡ told r };
+
+    #[tactic(auto, unfolding(crate::specs::Answers::told))]
+    fn from(result_of: Result<u64, Refusal>) -> Answer {
+        match result_of {
+            Ok(value) => accepted(value),
+            Err(r) => refused(r.number()),
+        }
+    }
+}
+
+impl From<Result<(), Refusal>> for Answer {
+    ghost from_gives = { λ r a. a ≡ done r };
+
+    #[tactic(auto, unfolding(crate::specs::Answers::done))]
+    fn from(result_of: Result<(), Refusal>) -> Answer {
+        match result_of {
+            Ok(()) => accepted(0),
+            Err(why) => refused(why.number()),
+        }
+    }
+}
+
 // Where a number stands in the list, from 0 on.
 fn place(status: u8) -> usize
     ensures { result ≡ place_in order status }
@@ -164,6 +189,19 @@ pub fn earlier(a: u8, b: u8) -> u8
         return a;
     }
     if place(a) <= place(b) { a } else { b }
+}
+
+// Of two results the one whose refusal comes first in checking order.
+pub fn first(a: Result<(), Refusal>, b: Result<(), Refusal>) -> Result<(), Refusal>
+    ensures { status result ≡ order_spec.earlier (status a) (status b) }
+{
+    let Err(x) = a else {
+        return b;
+    };
+    let Err(y) = b else {
+        return a;
+    };
+    if x <= y { a } else { b }
 }
 
 // An answer as a host takes it: place and figure written where it wants them, and the number.

@@ -4,6 +4,8 @@
 ghost use Rattle.std.specs.Prelude.{◌≡◌};
 ghost use Rattle.group_codes.specs.Pack.{packed, unpacked};
 
+use answer::Answer;
+
 #[unsafe(no_mangle)]
 pub extern "C" fn meter_pack(
     m0: u8,
@@ -17,7 +19,11 @@ pub extern "C" fn meter_pack(
     ensures place_after { place.new ≡ (packed m0 m1 m2 m3).position }
     ensures figure_after { figure.new ≡ (packed m0 m1 m2 m3).value }
 {
-    answer::give(group_codes::pack(m0, m1, m2, m3), place, figure)
+    answer::give(
+        Answer::from(group_codes::pack(m0, m1, m2, m3)),
+        place,
+        figure,
+    )
 }
 
 #[unsafe(no_mangle)]
@@ -32,8 +38,14 @@ pub extern "C" fn meter_unpack(
     ensures figure_after { figure.new ≡ (unpacked code).answer.value }
     ensures merges_after { merges.new ≡ (unpacked code).merges }
 {
-    let u = group_codes::unpack(code);
-    let bytes = u.merges;
-    *merges = bytes;
-    answer::give(u.answer, place, figure)
+    match group_codes::unpack(code) {
+        Ok(unpacked) => {
+            *merges = unpacked;
+            answer::give(answer::accepted(0), place, figure)
+        }
+        Err(why) => {
+            *merges = [0; 4];
+            answer::give(answer::refused(why.number()), place, figure)
+        }
+    }
 }

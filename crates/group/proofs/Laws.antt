@@ -25,8 +25,7 @@ use Rattle.group_block.proofs.Laws.{all_clean_lem, word_lt_of, word_block, word_
 use Rattle.group_block.proofs.Adding.{add_total, add_sound, unite_total, unite_sound}
 use Rattle.group_slots.proofs.Places.{add_in_place}
 use Rattle.group.specs.declared.Group.{Group}
-use Rattle.group.specs.declared.Kept.{Kept}
-use Rattle.group.specs.declared.Outcome.{Outcome}
+use Rattle.group.specs.Results.{Outcome}
 use Rattle.group.specs.Group.{decode, encode, settle, unchanged, reading, read, added, holds, united_groups}
 use Rattle.group.specs.Stored.{stored}
 use Rattle.answer.specs.Numbers.{invalid_content, counter_full}
@@ -136,17 +135,12 @@ module _ (g : Group) (slot amount : ℕ) where
   not_held v h = ltb-false _ _ (sym (holds_valid v) ∙ h)
 
   -- where it does, the addition is accepted and the layout stays
-  added_held : holds g slot amount ≡ true → added g slot amount ≡ record { status = 0; group = record { counts = (added g slot amount).group.counts; merge = g.merge } }
+  pub added_held : holds g slot amount ≡ true → added g slot amount ≡ record { status = 0; group = record { counts = (added g slot amount).group.counts; merge = g.merge } }
   unfolding holds added settle encode decode
   added_held h =
       let v = (and-eq-true_iff (valid 3 g.merge) _).0 h in
       let s = add_in_place (decode g) (slot % 8) amount (ltb-true _ _ v.1) in
       rw (v.0, s.1, s.2, marks_block 3 (number g.counts) g.merge v.0)
-
-  pub added_kept : (r : Kept) → r.held ≡ true → r.held ≡ holds g slot amount → r.counts ≡ cond r.held (added g slot amount).group.counts g.counts
-      → added g slot amount ≡ record { status = 0; group = record { counts = r.counts; merge = g.merge } }
-  added_kept r t h e =
-      added_held (sym h ∙ t) ∙ ap (λ (l : List ℕ). record { status = 0; group = record { counts = l; merge = g.merge } }) (sym (rw t at e))
 
   -- and the counter has the amount more
   pub read_held : number g.counts < cap 3 → holds g slot amount ≡ true → (read (added g slot amount).group slot).value ≡ (counter_at (decode g) (slot % 8)).value + amount

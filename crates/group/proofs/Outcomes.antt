@@ -12,7 +12,7 @@ use Rattle.group_block.specs.Kind.{Kind}
 use Rattle.group_block.specs.Sum.{SumOf, Sum, fits, over, add, unite}
 use Rattle.group.specs.declared.Group.{Group}
 use Rattle.answer.specs.Numbers.{invalid_content}
-use Rattle.group.specs.declared.Reading.{Reading}
+use Rattle.group.specs.Results.{Reading}
 use Rattle.group.specs.Group.{decode, encode, settle, unchanged, read, reading, added, united_groups}
 use Rattle.group.proofs.Laws.{encode_valid}
 

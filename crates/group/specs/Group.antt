@@ -11,8 +11,8 @@ use Rattle.group_block.specs.Sum.{SumOf, fits, over}
 use Rattle.group_block.specs.Sum as sum
 use Rattle.answer.specs.declared.Answer.{Answer}
 use Rattle.group.specs.declared.Group.{Group}
-use Rattle.group.specs.declared.Reading.{Reading}
-use Rattle.group.specs.declared.Outcome.{Outcome}
+use Rattle.group.specs.Results.{Reading}
+use Rattle.group.specs.Results.{Outcome}
 use Rattle.answer.specs.Answers.{accepted, refused}
 use Rattle.answer.specs.Numbers.{invalid_content, counter_full}
 

@@ -1,11 +1,12 @@
 -- Layout codes of groups: packing and unpacking are inverse, and the codes are exactly the numbers below 26 and below 456,976.
 use mathlib.Core.Path.{◌≡◌, refl, sym, ap, ◌∙◌}
 use mathlib.Core.Bool.{Bool, true, false, cond, ◌&&◌}
-use Prim.Native.Nat.{ℕ, zero, suc, ◌+◌, ◌*◌, ◌/◌, ◌%◌, ◌<◌}
+use Prim.Native.Nat.{ℕ, zero, suc, ◌+◌, ◌*◌, ◌/◌, ◌%◌, ◌≤◌, ◌<◌}
 use mathlib.Core.List.{List, [], ◌∷◌}
 use native.Mathlib.Nat.{mod-eq_of_lt}
 use native.Mathlib.Omega.{arith}
-use borrow.Author.Tests.{lt-ltb}
+use native.Mathlib.Decide.{dec_lt}
+use borrow.Author.Tests.{lt-ltb, le-ltb}
 use lib.Dec.{ltb}
 use lib.ListN.{length, get_or, length-map, get_or-map}
 use Rattle.group_layout.specs.Layout.{layout, valid, bit, ones, marks}
@@ -13,10 +14,15 @@ use Rattle.group_layout.specs.Code.{layouts, merged_code, code, uncode}
 use Rattle.group_layout.proofs.Laws.{layout_marks, marks_layout, valid_marks}
 use Rattle.group_layout.proofs.Codes.{code_lt, uncode_code, code_uncode}
 use Rattle.group.specs.Group.{valid_merge}
+use Rattle.std.specs.Prelude.{Result, Ok, Err}
+use Rattle.std.specs.Result.{IsOk}
+use Rattle.answer.specs.declared.Refusal.{Refusal}
+use Rattle.answer.specs.Refusals.{number}
+use Rattle.answer.proofs.Refusals.{positive}
+use Rattle.answer.specs.Answers as answers
 use Rattle.answer.specs.Answers.{accepted, refused}
 use Rattle.answer.specs.Numbers.{invalid_content, bad_payload}
-use Rattle.group_codes.specs.declared.Unpacked.{Unpacked}
-use Rattle.group_codes.specs.Pack.{layouts_of, merge_code, code_merge, code_of_four, four_code, packed, four_merges, unpacked}
+use Rattle.group_codes.specs.Pack.{Unpacked, layouts_of, merge_code, code_merge, code_of_four, four_code, packed, four_merges, unpacked, unpacked_of}
 use Rattle.group_codes.specs.Codes.{code_of, is_code, four_of, codes_of, merges_of}
 
 -- how many numbers below n pass a test
@@ -156,3 +162,47 @@ four_small a b c d p q r s (suc zero) = q
 four_small a b c d p q r s (suc (suc zero)) = r
 four_small a b c d p q r s (suc (suc (suc zero))) = s
 four_small a b c d p q r s (suc (suc (suc (suc i)))) = omega arith
+
+-- What follows for a caller from the result of unpacking a code: below 456,976 it has the merge bytes, else it is refused.
+pub record IsUnpacked (c : ℕ) (merges : List ℕ) : Type 0 where
+  pub below : c < layouts_of 4
+  pub accepted : (unpacked c).answer.status ≡ 0
+  pub merges_are : merges ≡ (unpacked c).merges
+
+pub unpacked_ok : (c : ℕ) (merges : List ℕ) → unpacked_of (Ok merges) ≡ unpacked c → IsUnpacked c merges
+unfolding unpacked
+unpacked_ok c merges e =
+    let a = ap (λ (u : Unpacked). u.answer.status) e in
+    elim (dec_lt c (layouts_of 4)) [
+      | yes h ↦ record { below = h; accepted = sym a; merges_are = ap (λ (u : Unpacked). u.merges) e }
+      | no h ↦ absurd (let z : 0 ≡ bad_payload = rw (le-ltb c (layouts_of 4) (omega arith)) at a in omega arith)
+    ]
+
+pub record IsBadCode (c : ℕ) (r : Refusal) : Type 0 where
+  pub past : layouts_of 4 ≤ c
+  pub refused : number r ≡ (unpacked c).answer.status
+  pub answer_is : answers.refused (number r) ≡ (unpacked c).answer
+  pub merges_are : (unpacked c).merges ≡ 0 ∷ 0 ∷ 0 ∷ 0 ∷ []
+
+pub unpacked_err : (c : ℕ) (r : Refusal) → unpacked_of (Err r) ≡ unpacked c → IsBadCode c r
+unfolding unpacked
+unpacked_err c r e =
+    let a = ap (λ (u : Unpacked). u.answer.status) e in
+    elim (dec_lt c (layouts_of 4)) [
+      | yes h ↦ absurd (let z : number r ≡ 0 = rw (lt-ltb c (layouts_of 4) h) at a in omega (arith, positive r))
+      | no h ↦ record {
+        past = omega arith;
+        refused = a;
+        answer_is = ap (λ (u : Unpacked). u.answer) e;
+        merges_are = sym (ap (λ (u : Unpacked). u.merges) e);
+      }
+    ]
+
+-- a code of four groups is not refused
+pub unpacks : (c : ℕ) (r : Result (List ℕ) Refusal) → c < layouts_of 4 → unpacked_of r ≡ unpacked c → IsOk r
+unpacks c (Ok merges) h e = refl
+unpacks c (Err r) h e = absurd (omega (arith, (unpacked_err c r e).past))
+
+-- the last merge byte that a code of one group is unpacked to
+pub last_unpacked : (c : ℕ) (merges : List ℕ) → c < layouts_of 1 → unpacked_of (Ok merges) ≡ unpacked c → get_or merges 3 0 ≡ code_merge c
+last_unpacked c merges h e = ap (λ (u : Unpacked). get_or u.merges 3 0) e ∙ last_merge c h

@@ -2,7 +2,7 @@
 use Rattle.std.specs.Prelude.{ℕ, ◌≡◌, List, [], ◌∷◌}
 use Rattle.answer.specs.declared.Answer.{Answer}
 use Rattle.group.specs.declared.Group.{Group}
-use Rattle.group.specs.declared.Outcome.{Outcome}
+use Rattle.group.specs.Results.{Outcome}
 use Rattle.answer.specs.Answers.{accepted, refused}
 use Rattle.answer.specs.Numbers.{invalid_content, counter_full}
 use Rattle.group.specs.Group.{unchanged, added, united_groups}

@@ -1,12 +1,13 @@
 -- Layout codes of a group and of four groups. Document 01, 'Layout codes'. Cited by contracts.
-use Rattle.std.specs.Prelude.{ℕ, ◌+◌, ◌*◌, ◌/◌, ◌%◌, ◌^◌, cond, ◌&&◌, List, [], ◌∷◌, ltb}
+use Rattle.std.specs.Prelude.{ℕ, Result, Ok, Err, ◌+◌, ◌*◌, ◌/◌, ◌%◌, ◌^◌, cond, ◌&&◌, List, [], ◌∷◌, ltb}
 use Rattle.group_layout.specs.Layout.{marks, layout}
 use Rattle.group_layout.specs.Code.{code, uncode}
 use Rattle.answer.specs.declared.Answer.{Answer}
 use Rattle.group.specs.Group.{valid_merge}
+use Rattle.answer.specs.declared.Refusal.{Refusal}
+use Rattle.answer.specs.Refusals.{number}
 use Rattle.answer.specs.Answers.{accepted, refused}
 use Rattle.answer.specs.Numbers.{invalid_content, bad_payload}
-use Rattle.group_codes.specs.declared.Unpacked.{Unpacked}
 
 -- how many layouts n groups in a row have: 26, 676, 17,576, 456,976
 abbrev pub layouts_of : ℕ → ℕ
@@ -38,6 +39,15 @@ unfoldable pub four_merges : ℕ → List ℕ
 four_merges c =
     code_merge (c / layouts_of 3) ∷ code_merge (c / layouts_of 2 % layouts_of 1) ∷ code_merge (c / layouts_of 1 % layouts_of 1) ∷ code_merge (c % layouts_of 1) ∷ []
 
+pub record Unpacked : Type 0 where
+  pub answer : Answer
+  pub merges : List ℕ
+
 unfoldable pub unpacked : ℕ → Unpacked
 unpacked c =
     cond (ltb c (layouts_of 4)) (record { answer = accepted 0; merges = four_merges c }) (record { answer = refused bad_payload; merges = 0 ∷ 0 ∷ 0 ∷ 0 ∷ [] })
+
+-- what is unpacked of a result
+abbrev pub unpacked_of : Result (List ℕ) Refusal → Unpacked
+unpacked_of (Ok merges) = record { answer = accepted 0; merges = merges }
+unpacked_of (Err r) = record { answer = refused (number r); merges = 0 ∷ 0 ∷ 0 ∷ 0 ∷ [] }

@@ -3,10 +3,11 @@
 
 ghost use Rattle.std.specs.Prelude.{◌≡◌, ◌&&◌};
 ghost use Rattle.group.specs.Group.{valid_merge};
-ghost use Rattle.group_codes.specs.Pack.{group_code, packed, unpacked};
+ghost use Rattle.answer.specs.Answers.{told};
+ghost use Rattle.group_codes.specs.Pack.{group_code, packed, unpacked, unpacked_of};
 ghost use Rattle.group_codes.specs.Codes.{code_of, four_of, codes_of, AllCodes};
 
-use answer::Answer;
+use answer::Refusal;
 
 // How many layouts a group has, and two, three and four groups in a row.
 pub const LAYOUTS: u32 = 26;
@@ -17,66 +18,49 @@ const THREE_LAYOUTS: u32 = LAYOUTS * TWO_LAYOUTS;
 
 pub const FOUR_LAYOUTS: u32 = LAYOUTS * THREE_LAYOUTS;
 
-// The merge bytes of four groups; all 0 if refused.
-#[derive(Clone, Copy)]
-pub struct Unpacked {
-    pub answer: Answer,
-    pub merges: [u8; 4],
-}
-
 // The layout code of a group.
-pub fn code(merge: u8) -> Answer
-    ensures { result ≡ group_code merge }
+#[tactic(auto, unfolding(answer::specs::Answers::told, answer::specs::Refusals::number, crate::specs::Pack::group_code))]
+pub fn code(merge: u8) -> Result<u64, Refusal>
+    ensures { told result ≡ group_code merge }
 {
     if !group::is_valid(merge) {
-        return answer::refused(answer::INVALID_CONTENT);
+        return Err(Refusal::InvalidContent);
     }
-    answer::accepted(group_layout::code(3, merge) as u64)
+    Ok(group_layout::code(3, merge) as u64)
 }
 
 fn four_valid(a: u8, b: u8, c: u8, d: u8) -> bool
     ensures { result ≡ (valid_merge a && valid_merge b && valid_merge c && valid_merge d) }
 {
-    if group::is_valid(a) {
-        if group::is_valid(b) {
-            if group::is_valid(c) {
-                return group::is_valid(d);
-            }
-        }
-    }
-    false
+    group::is_valid(a) && group::is_valid(b) && group::is_valid(c) && group::is_valid(d)
 }
 
 // The layout code of four groups in a row.
-pub fn pack(a: u8, b: u8, c: u8, d: u8) -> Answer
-    ensures { result ≡ packed a b c d }
+#[tactic(auto, unfolding(answer::specs::Answers::told, answer::specs::Refusals::number, crate::specs::Pack::packed, crate::specs::Pack::four_code))]
+pub fn pack(a: u8, b: u8, c: u8, d: u8) -> Result<u64, Refusal>
+    ensures { told result ≡ packed a b c d }
 {
     if !four_valid(a, b, c, d) {
-        return answer::refused(answer::INVALID_CONTENT);
+        return Err(Refusal::InvalidContent);
     }
     let high = group_layout::code(3, a) * THREE_LAYOUTS + group_layout::code(3, b) * TWO_LAYOUTS;
     let three = high + group_layout::code(3, c) * LAYOUTS;
-    answer::accepted((three + group_layout::code(3, d)) as u64)
+    Ok((three + group_layout::code(3, d)) as u64)
 }
 
 // The merge bytes of the four groups that a layout code stands for.
-pub fn unpack(code: u32) -> Unpacked
-    ensures { result ≡ unpacked code }
+#[tactic(auto, unfolding(answer::specs::Refusals::number, group_layout::specs::Code::layouts, crate::specs::Pack::unpacked, crate::specs::Pack::four_merges))]
+pub fn unpack(code: u32) -> Result<[u8; 4], Refusal>
+    ensures { unpacked_of result ≡ unpacked code }
 {
     if FOUR_LAYOUTS <= code {
-        return Unpacked {
-            answer: answer::refused(answer::BAD_PAYLOAD),
-            merges: [0; 4],
-        };
+        return Err(Refusal::BadPayload);
     }
     let a = group_layout::unpack(3, code / THREE_LAYOUTS);
     let b = group_layout::unpack(3, code / TWO_LAYOUTS % LAYOUTS);
     let c = group_layout::unpack(3, code / LAYOUTS % LAYOUTS);
     let d = group_layout::unpack(3, code % LAYOUTS);
-    Unpacked {
-        answer: answer::accepted(0),
-        merges: [a, b, c, d],
-    }
+    Ok([a, b, c, d])
 }
 
 // Groups one by one, for tables of codes.
@@ -92,6 +76,7 @@ pub fn code_of(merge: u8) -> u8
 }
 
 // The layout code of four groups by these codes, or 0 if one is invalid.
+#[tactic(auto, unfolding(crate::specs::Codes::four_of))]
 pub fn four_code(a: u8, b: u8, c: u8, d: u8) -> u32
     ensures { result ≡ four_of a b c d }
 {
@@ -99,27 +84,19 @@ pub fn four_code(a: u8, b: u8, c: u8, d: u8) -> u32
     let x = b as u32;
     let y = c as u32;
     let z = d as u32;
-    if w < LAYOUTS {
-        if x < LAYOUTS {
-            if y < LAYOUTS {
-                if z < LAYOUTS {
-                    return w * THREE_LAYOUTS + x * TWO_LAYOUTS + y * LAYOUTS + z;
-                }
-            }
-        }
+    if w < LAYOUTS && x < LAYOUTS && y < LAYOUTS && z < LAYOUTS {
+        return w * THREE_LAYOUTS + x * TWO_LAYOUTS + y * LAYOUTS + z;
     }
     0
 }
 
 // The codes of the four groups that a layout code stands for; all 0 where it stands for none.
+#[tactic(auto, unfolding(crate::specs::Codes::codes_of))]
 pub fn codes_of(code: u32) -> [u8; 4]
     ensures value { result ≡ codes_of code }
     ensures all_codes { AllCodes result }
 {
-    if code == 0 {
-        return [0; 4];
-    }
-    if code >= FOUR_LAYOUTS {
+    if code == 0 || code >= FOUR_LAYOUTS {
         return [0; 4];
     }
     [

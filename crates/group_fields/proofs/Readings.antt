@@ -18,7 +18,7 @@ use Rattle.group_block.specs.Block.{cap, counter_at}
 use Rattle.group_slots.proofs.Slots as slots
 use Rattle.group_slots.proofs.Slots.{level_of, level_is, level_le, value_lt}
 use Rattle.group.specs.declared.Group.{Group}
-use Rattle.group.specs.declared.Reading.{Reading}
+use Rattle.group.specs.Results.{Reading}
 use Rattle.group.specs.Group.{valid_merge, decode, read, reading, changed}
 use Rattle.answer.specs.Numbers.{invalid_content}
 use Rattle.group.proofs.Laws.{Eight, number_in}

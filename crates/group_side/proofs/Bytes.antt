@@ -1,5 +1,5 @@
 -- Laws of bytes tested and added side by side.
-use Rattle.std.proofs.Common.{◌≡◌, ℕ, zero, suc, ◌+◌, ◌/◌, ◌%◌, ◌<◌, ◌≤◌, Bool, true, false, not, ◌&&◌, ◌||◌, eqb, ltb, List, [], ◌∷◌, length, get_or, take, drop, sym, refl, ap, ◌∙◌, ap₂, true≢false, add-one, arith, drop_of_length-le, drop-cons, ltb-true, le-ltb, lt-ltb, eq-eqb, ne_eqb, eqb-true}
+use Rattle.std.proofs.Common.{◌≡◌, ℕ, zero, suc, ◌+◌, ◌/◌, ◌%◌, ◌<◌, ◌≤◌, Bool, true, false, not, ◌&&◌, ◌||◌, eqb, ltb, List, [], ◌∷◌, length, get_or, take, drop, sym, refl, ap, ◌∙◌, ap₂, fold, true≢false, add-one, arith, drop_of_length-le, drop-cons, ltb-true, le-ltb, lt-ltb, eq-eqb, ne_eqb, eqb-true}
 use mathlib.Core.Bool.{and_assoc, or_assoc, and-true, or-false, and-eq-true_iff}
 use native.Mathlib.Decide.{dec_lt}
 use borrow.Author.Tests.{not-true}
@@ -24,16 +24,15 @@ not_both true q = refl
 not_both false q = refl
 
 -- merge bytes taken together, one by one
-module _ (ms : List ℕ) (i any : ℕ) where
-  pub any_turn : i < length ms → (not (eqb (bit_or any (get_or ms i 0)) 0) || any_merged (drop (i + 1) ms)) ≡ (not (eqb any 0) || any_merged (drop i ms))
-  unfolding any_merged
-  any_turn h =
-      rw (drop-cons ms i 0 h, add-one i, or_zero any (get_or ms i 0), not_both (eqb any 0) (eqb (get_or ms i 0) 0))
-      (or_assoc (not (eqb any 0)) (not (eqb (get_or ms i 0) 0)) (any_merged (drop (suc i) ms)))
+any_from : (ms : List ℕ) (any : ℕ) → not (eqb (fold (λ (a m : ℕ). bit_or a m) any ms) 0) ≡ (not (eqb any 0) || any_merged ms)
+unfolding any_merged
+any_from [] any = sym (or-false (not (eqb any 0)))
+any_from (m ∷ ms) any =
+    any_from ms (bit_or any m)
+    ∙ rw (or_zero any m, not_both (eqb any 0) (eqb m 0)) (or_assoc (not (eqb any 0)) (not (eqb m 0)) (any_merged ms))
 
-  pub any_end : length ms ≤ i → (not (eqb any 0) || any_merged (drop i ms)) ≡ not (eqb any 0)
-  unfolding any_merged
-  any_end h = rw (drop_of_length-le ms h) (or-false (not (eqb any 0)))
+pub any_fold : (ms : List ℕ) → not (eqb (fold (λ (a m : ℕ). bit_or a m) 0 ms) 0) ≡ any_merged ms
+any_fold ms = any_from ms 0
 
 -- none merged: each byte is 0
 pub none_merged_lem : (ms : List ℕ) → any_merged ms ≡ false → (i : ℕ) → get_or ms i 0 ≡ 0

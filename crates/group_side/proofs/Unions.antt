@@ -1,5 +1,5 @@
 -- Unions of unmerged groups: accepted, and made byte by byte where no sum of two bytes passes 255.
-use Rattle.std.proofs.Common.{◌≡◌, ℕ, zero, suc, ◌+◌, ◌-◌, ◌*◌, ◌/◌, ◌%◌, ◌^◌, ◌<◌, ◌≤◌, true, ltb, List, [], ◌∷◌, ◌++◌, length, take, drop, sym, refl, ap, ◌∙◌, ap₂, arith, length-drop, length-take-le, ltb-true}
+use Rattle.std.proofs.Common.{◌≡◌, ℕ, zero, suc, ◌+◌, ◌*◌, ◌/◌, ◌%◌, ◌^◌, ◌<◌, ◌≤◌, true, ltb, List, [], ◌∷◌, ◌++◌, length, take, drop, sym, refl, ap, ◌∙◌, ap₂, arith, length-drop, length-take-le, ltb-true}
 use mathlib.Core.Bool.{and-eq-true_iff}
 use Rattle.little_endian.specs.Bytes.{number, bytes}
 use Rattle.little_endian.proofs.Bytes.{bytes_number}
@@ -10,7 +10,7 @@ use Rattle.group_block.proofs.Codes.{ordinary_codes}
 use Rattle.group_block.proofs.Laws.{fill_fits}
 use Rattle.group_block.proofs.Adding.{total_lt}
 use Rattle.group.specs.declared.Group.{Group}
-use Rattle.group.specs.declared.Outcome.{Outcome}
+use Rattle.group.specs.Results.{Outcome}
 use Rattle.group.specs.Group.{decode, united_groups, valid_merge}
 use Rattle.group.specs.Stored.{stored}
 use Rattle.group.proofs.Laws.{Eight, number_in, united_stored, united_fits}

@@ -15,19 +15,16 @@ use std::num::wrapping_add_u8;
 pub fn any_merged(merges: &[u8]) -> bool
     ensures { result ≡ any_merged merges.now }
 {
-    let mut any = 0u8;
-    for i in 0..merges.len() {
-        any = any | merges[i];
-    }
-    any != 0
+    merges.iter().fold(0, |any, m| any | *m) != 0
 }
 
 // Eight merge bytes as one word of 64 bits.
+#[tactic(auto, using(little_endian::proofs::Bytes::number_eight))]
 fn word(merges: &[u8]) -> u64
     requires { length merges.now ≡ 8 }
     ensures { result ≡ number merges.now }
 {
-    little_endian::number_of([
+    u64::from_le_bytes([
         merges[0], merges[1], merges[2], merges[3], merges[4], merges[5], merges[6], merges[7],
     ])
 }
@@ -76,9 +73,7 @@ pub fn put(counts: &mut [u8], bytes: [u8; 64])
     requires { length counts.old ≡ 64 }
     ensures { counts.new ≡ bytes }
 {
-    for i in 0..64 {
-        counts[i] = bytes[i];
-    }
+    counts.copy_from_slice(&bytes);
 }
 
 // Eight unmerged groups united with those of a source, if each union is unmerged again: no sum of two bytes passes 255.
@@ -108,6 +103,6 @@ fn unmerged(counts: [u8; 8]) -> Group
 pub fn unite_unmerged(counts: [u8; 8], source: [u8; 8]) -> Group
     ensures { result ≡ (united_groups (spec.unmerged counts) (spec.unmerged source)).group }
 {
-    let o = group::unite(unmerged(counts), unmerged(source));
-    o.group
+    let target = unmerged(counts);
+    group::unite(target, unmerged(source)).unwrap_or(target)
 }

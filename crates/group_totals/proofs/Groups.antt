@@ -15,8 +15,8 @@ use Rattle.group_block.specs.Block.{cap, shape, number_of, counter_at}
 use Rattle.group_block_laws.specs.Counts.{Adds}
 use Rattle.answer.specs.declared.Answer.{Answer}
 use Rattle.group.specs.declared.Group.{Group}
-use Rattle.group.specs.declared.Outcome.{Outcome}
-use Rattle.group.specs.declared.Reading.{Reading}
+use Rattle.group.specs.Results.{Outcome}
+use Rattle.group.specs.Results.{Reading}
 use Rattle.answer.specs.Answers.{accepted}
 use Rattle.group.specs.Group.{encode, read, reading, settle, added, united_groups, widest_of}
 use Rattle.group.proofs.Laws.{decode_encode, encode_valid}

@@ -13,7 +13,7 @@ use borrow.Author.Tests.{eq-eqb, ne_eqb}
 use lib.Dec.{eqb}
 use lib.Pow.{pow_mono, pow-lt}
 use Rattle.group.specs.declared.Group.{Group}
-use Rattle.group.specs.declared.Reading.{Reading}
+use Rattle.group.specs.Results.{Reading}
 use Rattle.group.specs.Group.{read}
 use Rattle.geometry.specs.Geometry.{largest_log, valid_width}
 use Rattle.geometry.proofs.Widths.{width_is}

@@ -8,7 +8,7 @@ use native.Mathlib.Omega.{arith}
 use borrow.Author.Tests.{eq-eqb}
 use lib.ListN.{length, get_or, take, drop}
 use lib.Seq.{sets, drop-cons, take_all}
-use Rattle.group.specs.declared.Reading.{Reading}
+use Rattle.group.specs.Results.{Reading}
 use Rattle.group.specs.Group.{read}
 use Rattle.group.proofs.Laws.{Eight}
 use Rattle.group_fields.proofs.Readings.{plain_reading}

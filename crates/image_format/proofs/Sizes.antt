@@ -7,7 +7,7 @@ use native.Mathlib.Omega.{arith}
 use borrow.Author.Tests.{eq-eqb}
 use lib.ListN.{replicate}
 use Rattle.group.specs.declared.Group.{Group}
-use Rattle.group.specs.declared.Reading.{Reading}
+use Rattle.group.specs.Results.{Reading}
 use Rattle.group.specs.Group.{valid_merge, read}
 use Rattle.group.proofs.Changing.{zero_good}
 use Rattle.group_fields.proofs.Readings.{none_merged_lem, level_most, level_by_merge, invalid_reading, plain_reading}

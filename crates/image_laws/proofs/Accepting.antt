@@ -11,7 +11,7 @@ use lib.Arith.{digits_lt, digits_div, digits_mod}
 use lib.ListN.{drop, replicate}
 use lib.Pow.{pow-add, pow_mono}
 use Rattle.group.specs.declared.Group.{Group}
-use Rattle.group.specs.declared.Reading.{Reading}
+use Rattle.group.specs.Results.{Reading}
 use Rattle.group.specs.Group.{valid_merge, read, changed}
 use Rattle.group.proofs.Changing.{Good, good_changed, zero_good}
 use Rattle.group_fields.proofs.Readings.{level_most, changed_at, changed_before}

@@ -13,7 +13,7 @@ use lib.Seq.{get_or-take, get_or-drop, get_or-append-add, get_or-set_same, get_o
 use Rattle.laws.proofs.Lists.{Bytes}
 use Rattle.group.specs.declared.Group.{Group}
 use Rattle.group.specs.Group.{valid_merge}
-use Rattle.group_codes.specs.declared.Unpacked.{Unpacked}
+use Rattle.group_codes.specs.Pack.{Unpacked}
 use Rattle.group_codes.specs.Pack.{layouts_of, four_code, packed, unpacked}
 use Rattle.group_codes.proofs.Packing.{unpack_pack}
 use Rattle.group.proofs.Changing.{Good}

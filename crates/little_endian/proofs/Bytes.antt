@@ -2,11 +2,12 @@
 use mathlib.Core.Path.{◌≡◌, refl, sym, ap, ◌∙◌}
 use Prim.Native.Nat.{ℕ, zero, suc, ◌+◌, ◌*◌, ◌/◌, ◌%◌, ◌^◌, ◌<◌}
 use mathlib.Core.List.{List, [], ◌∷◌}
-use native.Mathlib.Nat.{div-lt_iff_lt-mul, mul_comm}
+use native.Mathlib.Nat.{div-lt_iff_lt-mul, div-div-eq-div-mul, mul_comm}
 use native.Mathlib.Omega.{arith}
 use lib.ListN.{length, get_or, drop, drop_of_length-le}
 use lib.Pow.{pow-add}
 use lib.Seq.{drop-cons}
+use Rattle.std.specs.Int.{w64, from_le_bytes, to_le_bytes}
 use Rattle.laws.proofs.Lists.{Bytes}
 use Rattle.little_endian.specs.Bytes.{number, bytes}
 
@@ -54,8 +55,13 @@ unfolding bytes
 bytes_length zero v = refl
 bytes_length (suc n) v = ap suc (bytes_length n (v / 256))
 
+-- the library's words for the same, at eight bytes
+pub bytes_eight : (v : ℕ) → to_le_bytes w64 v ≡ bytes 8 v
+unfolding bytes
+bytes_eight v = simp div-div-eq-div-mul
+
 -- n elements of a list from the i-th
-unfoldable pub elements : ℕ → ℕ → List ℕ → List ℕ
+elements : ℕ → ℕ → List ℕ → List ℕ
 elements zero i xs = []
 elements (suc n) i xs = get_or xs i 0 ∷ elements n (suc i) xs
 
@@ -64,5 +70,6 @@ unfolding elements
 elements_are zero i xs h = sym (drop_of_length-le xs {i = i} (omega arith))
 elements_are (suc n) i xs h = rw (drop-cons xs i 0 (omega arith)) (ap (λ (l : List ℕ). get_or xs i 0 ∷ l) (elements_are n (suc i) xs (omega arith)))
 
-pub number_eight : (xs : List ℕ) → length xs ≡ 8 → number (elements 8 0 xs) ≡ number xs
-number_eight xs h = ap number (elements_are 8 0 xs (sym h))
+pub number_eight : (xs : List ℕ) → length xs ≡ 8 → from_le_bytes w64 xs ≡ number xs
+unfolding number elements
+number_eight xs h = omega (arith, ap number (elements_are 8 0 xs (sym h)))

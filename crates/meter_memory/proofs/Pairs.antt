@@ -6,7 +6,7 @@ use native.Mathlib.Decide.{dec_lt}
 use native.Mathlib.Omega.{arith}
 use lib.ListN.{length, get_or}
 use Rattle.group.specs.declared.Group.{Group}
-use Rattle.group.specs.declared.Outcome.{Outcome}
+use Rattle.group.specs.Results.{Outcome}
 use Rattle.meter_memory.specs.Rows.{group_at, with_group}
 use Rattle.meter_memory.specs.Pairs.{paired_at, pair_groups}
 use Rattle.meter_memory.proofs.Groups.{length_with, group_same, group_other, eight_at}

@@ -8,7 +8,7 @@ use lib.ListN.{length, get_or, take, drop, set, length-set}
 use Rattle.answer.specs.Order.{earlier, earliest}
 use Rattle.geometry.specs.Geometry.{stride}
 use Rattle.group.specs.declared.Group.{Group}
-use Rattle.group.specs.declared.Outcome.{Outcome}
+use Rattle.group.specs.Results.{Outcome}
 use Rattle.meter_memory.specs.Rows.{row_of, map_rows, of_rows}
 use Rattle.meter_memory.proofs.Lists.{filled_more, rows_from, rows_end}
 use Rattle.meter_memory.proofs.Gather.{status_turn, status_end}

@@ -13,7 +13,7 @@ use Rattle.answer.proofs.Order.{none_earlier}
 use Rattle.geometry.specs.Geometry.{valid_width, stride, size, RowsIn}
 use Rattle.geometry.proofs.Widths.{stride_is, slot_in, group_in, one_row}
 use Rattle.group.specs.declared.Group.{Group}
-use Rattle.group.specs.declared.Outcome.{Outcome}
+use Rattle.group.specs.Results.{Outcome}
 use Rattle.meter_memory.specs.Rows.{row_of, map_rows, of_rows, of_groups, group_at, with_group}
 use Rattle.meter_memory.specs.Pairs.{paired_at, pair_status, pairs_status, pair_row, row_status_by, row_paired_by}
 use Rattle.meter_memory.proofs.Lists.{row_length}

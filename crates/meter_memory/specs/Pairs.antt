@@ -2,7 +2,7 @@
 -- source's.
 use Rattle.std.specs.Prelude.{ℕ, zero, suc, ◌+◌, ◌/◌, List}
 use Rattle.group.specs.declared.Group.{Group}
-use Rattle.group.specs.declared.Outcome.{Outcome}
+use Rattle.group.specs.Results.{Outcome}
 use Rattle.answer.specs.Order.{earliest}
 use Rattle.meter_memory.specs.Rows.{row_of, group_at, with_group, of_groups}
 

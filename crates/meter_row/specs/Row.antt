@@ -1,7 +1,7 @@
 -- What a meter's calls but a union do in one row of w slots. Document 01, 'Where a key lands' and 'Updating, asking, uniting'. Cited by contracts.
 use Rattle.std.specs.Prelude.{ℕ, ◌/◌, List}
-use Rattle.group.specs.declared.Outcome.{Outcome}
-use Rattle.group.specs.declared.Reading.{Reading}
+use Rattle.group.specs.Results.{Outcome}
+use Rattle.group.specs.Results.{Reading}
 use Rattle.group.specs.Group.{read, added, widest_of}
 use Rattle.meter_keys.specs.Keys.{key_slot}
 use Rattle.answer.specs.Order.{earliest}

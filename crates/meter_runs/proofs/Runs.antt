@@ -11,7 +11,7 @@ use lib.ListN.{length, get_or, take, drop, length-append, length-drop, take-appe
 use lib.Seq.{length-take-le, take_at, drop_at, drop-drop, get_or-take, get_or-drop, take-take}
 use Rattle.laws.proofs.Lists.{drop_take}
 use Rattle.group.specs.declared.Group.{Group}
-use Rattle.group.specs.declared.Outcome.{Outcome}
+use Rattle.group.specs.Results.{Outcome}
 use Rattle.group_side.specs.Side.{any_merged, unmerged, part}
 use Rattle.group_side.proofs.Bytes.{none_merged_lem}
 use Rattle.group_side.proofs.Parts.{part_next}

@@ -1,7 +1,7 @@
 -- Runs of groups in a row of w slots: n of them, the first of which is group g. The code's own terms.
 use Rattle.std.specs.Prelude.{◌≡◌, ℕ, ◌+◌, ◌*◌, ◌≤◌, ◌<◌, Bool, not, ◌&&◌, List, length, take, drop}
 use Rattle.group.specs.declared.Group.{Group}
-use Rattle.group.specs.declared.Outcome.{Outcome}
+use Rattle.group.specs.Results.{Outcome}
 use Rattle.group_side.specs.Side.{any_merged}
 use Rattle.answer.specs.Order.{earliest}
 use Rattle.meter_memory.specs.Rows.{of_groups}

@@ -1,6 +1,6 @@
 -- What a union does in one row of w slots. Document 01, 'Updating, asking, uniting'. Cited by contracts.
 use Rattle.std.specs.Prelude.{ℕ, List}
-use Rattle.group.specs.declared.Outcome.{Outcome}
+use Rattle.group.specs.Results.{Outcome}
 use Rattle.group.specs.Group.{united_groups}
 use Rattle.meter_memory.specs.Pairs.{paired_at, pair_status, pairs_status, pair_groups, pair_row, row_status_by, row_paired_by}
 

@@ -13,7 +13,7 @@ use Rattle.hash.specs.Hash.{basis}
 use Rattle.geometry.specs.Geometry.{stride, RowsIn}
 use Rattle.geometry.specs.Checks.{bad_length}
 use Rattle.geometry.proofs.Widths.{slot_in}
-use Rattle.group.specs.declared.Outcome.{Outcome}
+use Rattle.group.specs.Results.{Outcome}
 use Rattle.meter_memory.specs.Rows.{row_of, map_rows, of_rows, group_at}
 use Rattle.meter_memory.specs.Pairs.{paired_at}
 use Rattle.meter_memory.proofs.Groups.{eight_at}

@@ -17,7 +17,7 @@ use Rattle.answer.specs.Numbers.{invalid_content, counter_full, minus_zero}
 use Rattle.answer.specs.Order.{first_of, unless}
 use Rattle.answer.proofs.Order.{earlier_none, none_earlier, none_first}
 use Rattle.group.specs.declared.Group.{Group}
-use Rattle.group.specs.declared.Outcome.{Outcome}
+use Rattle.group.specs.Results.{Outcome}
 use Rattle.group.specs.Group.{encode, unchanged, settle}
 use Rattle.group.specs.Stored.{stored}
 use Rattle.group.proofs.Laws.{decode_encode_of, encode_valid, number_encode, settle_summed, settle_past, fits_of, over_of_lem}

@@ -13,7 +13,7 @@ use Rattle.group_block.specs.Block.{BlockOf, cap, Fits}
 use Rattle.group_block.specs.Sum.{SumOf, fits, over, add, unite}
 use Rattle.group_block.proofs.Adding.{Sound, add_sound}
 use Rattle.group.specs.declared.Group.{Group}
-use Rattle.group.specs.declared.Outcome.{Outcome}
+use Rattle.group.specs.Results.{Outcome}
 use Rattle.group.specs.Group.{encode, unchanged, settle}
 use Rattle.group.proofs.Outcomes.{settle_eight}
 use Rattle.signed_block.specs.Signed.{signed, times_block}

@@ -7,7 +7,7 @@ use Rattle.group_block.specs.Sum as sum
 use Rattle.answer.specs.Numbers.{invalid_content, minus_zero}
 use Rattle.answer.specs.Order.{unless, first_of, earlier}
 use Rattle.group.specs.declared.Group.{Group}
-use Rattle.group.specs.declared.Outcome.{Outcome}
+use Rattle.group.specs.Results.{Outcome}
 use Rattle.group.specs.Group.{unchanged, settle}
 use Rattle.signed_number.specs.Number.{signed_of}
 use Rattle.signed_block.specs.Signed.{signed, times_block}

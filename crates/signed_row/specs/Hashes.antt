@@ -3,7 +3,7 @@ use Rattle.std.specs.Prelude.{ℕ, ◌/◌, ◌<◌, ◌≡◌, cond, List, eqb,
 use Rattle.answer.specs.Order.{earliest}
 use Rattle.hash.specs.Hash.{slot_of, sign_of}
 use Rattle.group.specs.declared.Group.{Group}
-use Rattle.group.specs.declared.Outcome.{Outcome}
+use Rattle.group.specs.Results.{Outcome}
 use Rattle.signed_group.specs.declared.Reading.{Reading}
 use Rattle.signed_group.specs.Group.{read}
 use Rattle.signed_number.specs.Number.{times_sign, integer_of}

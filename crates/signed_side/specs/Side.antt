@@ -1,6 +1,6 @@
 -- Unmerged groups of a signed meter side by side, by their count bytes. The code's own terms: no call of the product cites them.
 use Rattle.std.specs.Prelude.{◌≡◌, ℕ, ◌+◌, ◌-◌, ◌%◌, ◌<◌, Bool, cond, List, ℤ, pos, negsuc, ◌+ℤ◌, ◌≢◌, nat_lt, slice_index, unsigned_abs}
-use Rattle.group.specs.declared.Outcome.{Outcome}
+use Rattle.group.specs.Results.{Outcome}
 use Rattle.group_side.specs.Side.{unmerged, part}
 use Rattle.signed_number.specs.Number.{times_sign}
 use Rattle.signed_block.specs.Signed.{top, sign_bits, sign_read}

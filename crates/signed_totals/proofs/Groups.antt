@@ -16,7 +16,7 @@ use Rattle.group_block_laws.proofs.Counting.{clear_counts, Plus, off_counts, add
 use Rattle.group_block_laws.proofs.Least.{unite_stays_of}
 use Rattle.answer.specs.Order.{earlier}
 use Rattle.group.specs.declared.Group.{Group}
-use Rattle.group.specs.declared.Outcome.{Outcome}
+use Rattle.group.specs.Results.{Outcome}
 use Rattle.group.specs.Group.{encode, settle}
 use Rattle.group.proofs.Laws.{number_encode}
 use Rattle.signed_number.specs.Number.{times_sign, signed_of}

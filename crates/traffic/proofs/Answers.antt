@@ -9,7 +9,7 @@ use borrow.Author.Tests.{eq-eqb, le-leb}
 use lib.ListN.{length}
 use lib.Pow.{pow_pos, shl-shr}
 use Rattle.group.specs.declared.Group.{Group}
-use Rattle.group.specs.declared.Reading.{Reading}
+use Rattle.group.specs.Results.{Reading}
 use Rattle.answer.specs.Answers.{accepted, answer_of}
 use Rattle.group_block.specs.Block.{cap}
 use Rattle.hash.specs.Hash.{basis}

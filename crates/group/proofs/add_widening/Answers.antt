@@ -2,7 +2,10 @@ use mathlib.Core.Path.{◌≡◌, sym, ap, ◌∙◌}
 use mathlib.Core.Bool.{true, false}
 use Prim.Native.Nat.{ℕ, ◌+◌, ◌%◌, ◌^◌, ◌≤◌, ◌<◌}
 use native.Mathlib.Omega.{arith}
-use Rattle.little_endian.specs.Bytes.{number}
+use Rattle.little_endian.specs.Bytes as bytes_spec
+use Rattle.answer.specs.Refusals.{number}
+use Rattle.group.specs.declared.Group.{Group}
+use Rattle.group.specs.Stored.{stored}
 use Rattle.group_layout.specs.Layout.{valid}
 use Rattle.group_block.specs.Block.{cap, total, counter_at}
 use Rattle.group_slots.proofs.Slots.{level_block, whole_total}
@@ -16,7 +19,7 @@ is_sane : (c : Else-not-is_valid) → valid 3 c.args.g.merge ≡ true
 is_sane c = sym c.is_valid.ensures ∙ c.if-not-is_valid.false
 
 module _ (l : After-level_at-level) where
-  number_in : number l.args.g.counts < cap 3
+  number_in : bytes_spec.number l.args.g.counts < cap 3
   unfolding cap
   number_in = rw (← l.number_of-word.ensures) (omega arith)
 
@@ -34,26 +37,25 @@ module _ (l : After-level_at-level) where
   whole_full e =
       let b = decode l.args.g in
       let k = l.args.slot % 8 in
-      let level : (counter_at b k).level ≡ 3 = level_block 3 (number l.args.g.counts) l.args.g.merge k ∙ sym l.level_at-level.ensures.value ∙ e in
+      let level : (counter_at b k).level ≡ 3 = level_block 3 (bytes_spec.number l.args.g.counts) l.args.g.merge k ∙ sym l.level_at-level.ensures.value ∙ e in
       omega (arith, not_held l.args.g l.args.slot l.args.amount (is_sane (goal.at.After-level_at-level l).Else-not-is_valid) l.requires, ap cap level, cap_three, whole_total b k level)
 
 pub returns-then-not-is_valid : goal.returns-then-not-is_valid
-returns-then-not-is_valid c = let a = c.args in
-    c.unchanged.ensures ∙ sym (added_invalid a.g a.slot a.amount (sym c.is_valid.ensures ∙ c.if-not-is_valid.true))
-
-pub level_at-level-requires : goal.level_at-level-requires
-level_at-level-requires c = record { fact_1 = is_sane (goal.at.level_at-level-requires c).Else-not-is_valid; fact_2 = omega arith }
+unfolding number
+returns-then-not-is_valid c = let a = c.args in sym (added_invalid a.g a.slot a.amount (sym c.is_valid.ensures ∙ c.if-not-is_valid.true))
 
 pub returns-then-level-eq3 : goal.returns-then-level-eq3
+unfolding number
 returns-then-level-eq3 c = let a = c.args in
-    c.unchanged-then-level-eq3.ensures ∙ sym (added_full a.g a.slot a.amount (number_in (goal.at.returns-then-level-eq3 c).After-level_at-level) (is_sane (goal.at.returns-then-level-eq3 c).Else-not-is_valid) (whole_full (goal.at.returns-then-level-eq3 c).After-level_at-level c.if-level-eq3.true))
+    let l = (goal.at.returns-then-level-eq3 c).After-level_at-level in
+    sym (added_full a.g a.slot a.amount (number_in l) (is_sane (goal.at.returns-then-level-eq3 c).Else-not-is_valid) (whole_full l c.if-level-eq3.true))
 
-pub add_widening-requires : goal.add_widening-requires
-add_widening-requires c = record { fact_1 = is_sane (goal.at.add_widening-requires c).Else-not-is_valid; fact_2 = omega arith; fact_3 = c.level_at-level.ensures.value; fact_4 = omega (arith, c.level_at-level.ensures.upper_bound, c.if-level-eq3.false); fact_5 = not_holds (goal.at.add_widening-requires c).After-level_at-level }
+pub add_widening-requires-clause-fact_5 : goal.add_widening-requires-clause-fact_5
+add_widening-requires-clause-fact_5 c = not_holds (goal.at.add_widening-requires-clause-fact_5 c).After-level_at-level
 
 pub returns : goal.returns
-unfolding decode
+unfolding decode stored
 returns c = let a = c.args in
-    c.settled.ensures
+    ap (λ (h : Group). record { status = 0; group = h }) c.settled.ensures
     ∙ added_summed a.g a.slot a.amount c.add_widening.result (is_sane (goal.at.returns c).Else-not-is_valid) c.add_widening.ensures.over_value
     (rw (← c.number_of-word.ensures) c.add_widening.ensures.value)

@@ -1,16 +1,9 @@
-use Rattle.std.proofs.Common.{◌-◌, sym, refl, ◌∙◌, arith}
-use Rattle.group_side.proofs.Bytes.{any_turn, any_end}
+use Rattle.std.proofs.Common.{◌≡◌, ℕ, fold}
+use lib.Bits.{bit_or}
+use borrow.Author.Rules.{rules}
+use Rattle.group_side.proofs.Bytes.{any_fold}
 use Rattle.group_side.proofs.any_merged.Goals as goal
 
-pub loop-i-init : goal.loop-i-init
-loop-i-init c = (omega arith, refl, refl)
-
-pub loop-i-preserved : goal.loop-i-preserved
-loop-i-preserved c = let l = c.loop-i in
-    let s = c.args.merges.now in
-    (omega arith, refl, any_turn s l.i l.any (omega arith) ∙ l.invariant.2)
-
 pub returns : goal.returns
-returns c = let l = c.loop-i in
-    let s = c.args.merges.now in
-    sym (any_end s l.i l.any (omega arith)) ∙ l.invariant.2
+returns c = let e : c.fold.result ≡ fold (λ (a m : ℕ). bit_or a m) 0 c.args.merges.now = search rules in
+    rw e (any_fold c.args.merges.now)

@@ -1,4 +1,4 @@
-use Rattle.std.proofs.Common.{◌-◌, replicate, sym, refl, ◌∙◌, arith, take_all}
+use Rattle.std.proofs.Common.{replicate, sym, refl, ◌∙◌, arith, take_all}
 use lib.ListN.{length-replicate}
 use Rattle.laws.proofs.Lists.{copy_more, copy_all}
 use Rattle.group_side.specs.Side.{wrapped_sums}

@@ -1,4 +1,4 @@
-use Rattle.std.proofs.Common.{◌≡◌, ◌-◌, ◌≤◌, ◌&&◌, eqb, ◌++◌, take, drop}
+use Rattle.std.proofs.Common.{◌≡◌, ◌≤◌, ◌&&◌, eqb, ◌++◌, take, drop}
 use Rattle.group_side.specs.Side.{fit, wrapped_sums}
 use Rattle.group_side.proofs.sums_of.Given as goal
 

@@ -3,7 +3,7 @@ use Prim.Native.Nat.{ℕ, ◌+◌, ◌-◌}
 use native.Mathlib.Omega.{arith}
 use lib.Pow.{pow_pos}
 use lib.Seq.{sets}
-use Rattle.group.specs.declared.Reading.{Reading}
+use Rattle.group.specs.Results.{Reading}
 use Rattle.image_format.specs.Image.{level_at, slot_words, group_words}
 use Rattle.image_format.specs.Write.{slot_size, group_size}
 use Rattle.image_format.proofs.Laws.{size_first, sizes_none, slot_some}

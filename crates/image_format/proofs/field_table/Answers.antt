@@ -2,7 +2,7 @@ use mathlib.Core.Path.{◌≡◌, ap, ◌∙◌}
 use native.Mathlib.Omega.{arith}
 use borrow.Author.Rules.{rules}
 use lib.ListN.{get_or}
-use Rattle.group_codes.specs.declared.Unpacked.{Unpacked}
+use Rattle.group_codes.specs.Pack.{Unpacked}
 use Rattle.group_codes.specs.Pack.{code_merge}
 use Rattle.group_codes.proofs.Packing.{last_merge}
 use Rattle.image_format.proofs.Tables.{fields_more}

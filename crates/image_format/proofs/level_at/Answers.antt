@@ -1,7 +1,7 @@
 use mathlib.Core.Path.{ap}
 use lib.ListN.{replicate}
 use Rattle.image_format.specs.Image.{level_at}
-use Rattle.group.specs.declared.Reading.{Reading}
+use Rattle.group.specs.Results.{Reading}
 use Rattle.group_fields.proofs.Readings.{level_most}
 use Rattle.image_format.proofs.level_at.Goals as goal
 

@@ -2,7 +2,7 @@ use mathlib.Core.Path.{sym, ap, ◌∙◌}
 use Prim.Native.Nat.{ℕ}
 use native.Mathlib.Omega.{arith}
 use lib.ListN.{get_or}
-use Rattle.group_codes.specs.declared.Unpacked.{Unpacked}
+use Rattle.group_codes.specs.Pack.{Unpacked}
 use Rattle.group_codes.specs.Pack.{code_merge}
 use Rattle.group_codes.proofs.Packing.{last_merge, merge_none}
 use Rattle.image_layouts.proofs.merge_of.Goals as goal

@@ -1,7 +1,7 @@
 use mathlib.Core.Path.{◌≡◌, ap, ap₂, ◌∙◌}
 use mathlib.Core.List.{List}
 use Prim.Native.Nat.{ℕ, ◌<◌}
-use Rattle.group.specs.declared.Reading.{Reading}
+use Rattle.group.specs.Results.{Reading}
 use Rattle.answer.specs.Answers.{answer_of}
 use lib.ListN.{get_or}
 use Rattle.meter_keys.specs.Keys.{key_slot}

@@ -3,8 +3,8 @@ use Prim.Native.Nat.{◌/◌}
 use native.Mathlib.Omega.{arith}
 use borrow.Author.Tests.{ne_eqb}
 use Rattle.group.specs.declared.Group.{Group}
-use Rattle.group.specs.declared.Outcome.{Outcome}
-use Rattle.group.specs.declared.Reading.{Reading}
+use Rattle.group.specs.Results.{Outcome}
+use Rattle.group.specs.Results.{Reading}
 use Rattle.group.specs.Group.{read, added}
 use Rattle.group.proofs.Laws.{added_kept}
 use Rattle.meter_memory.specs.Rows.{with_group}

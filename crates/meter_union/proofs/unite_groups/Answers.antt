@@ -1,7 +1,7 @@
 use mathlib.Core.Path.{refl, sym, ap, ◌∙◌}
 use Prim.Native.Nat.{ℕ, ◌+◌, ◌-◌}
 use native.Mathlib.Omega.{arith}
-use Rattle.group.specs.declared.Outcome.{Outcome}
+use Rattle.group.specs.Results.{Outcome}
 use Rattle.meter_union.specs.Union.{unite_groups}
 use Rattle.meter_memory.specs.Rows.{with_group}
 use Rattle.group.specs.Group.{united_groups}

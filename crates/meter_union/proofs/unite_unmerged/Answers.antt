@@ -2,7 +2,7 @@ use mathlib.Core.Path.{◌≡◌, refl, sym, ap, ◌∙◌}
 use Prim.Native.Nat.{ℕ, ◌+◌, ◌-◌}
 use native.Mathlib.Omega.{arith}
 use Rattle.group.specs.declared.Group.{Group}
-use Rattle.group.specs.declared.Outcome.{Outcome}
+use Rattle.group.specs.Results.{Outcome}
 use Rattle.meter_memory.specs.Rows.{with_group}
 use Rattle.meter_union.specs.Union.{united_at, unite_groups}
 use Rattle.meter_runs.proofs.Runs.{row_none, source_none, paired_none}

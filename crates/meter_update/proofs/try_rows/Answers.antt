@@ -8,8 +8,8 @@ use mir.Syntax.{w64}
 use mathlib.Core.List.{List}
 use lib.ListN.{get_or, set}
 use Rattle.group.specs.declared.Group.{Group}
-use Rattle.group.specs.declared.Outcome.{Outcome}
-use Rattle.group.specs.declared.Reading.{Reading}
+use Rattle.group.specs.Results.{Outcome}
+use Rattle.group.specs.Results.{Reading}
 use Rattle.group.specs.Group.{read, added}
 use Rattle.group.proofs.Laws.{added_kept}
 use Rattle.geometry.specs.Geometry.{stride}

@@ -3,7 +3,7 @@ use Prim.Native.Nat.{ℕ, ◌-◌, ◌*◌, ◌^◌, ◌<◌}
 use mathlib.Core.List.{List}
 use lib.ListN.{get_or, drop}
 use Rattle.group.specs.declared.Group.{Group}
-use Rattle.group.specs.declared.Outcome.{Outcome}
+use Rattle.group.specs.Results.{Outcome}
 use Rattle.geometry.specs.Geometry.{stride}
 use Rattle.meter_memory.specs.Rows.{row_of, of_rows, least_or}
 use Rattle.meter_row.specs.Row.{added_in}

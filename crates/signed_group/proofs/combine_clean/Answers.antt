@@ -5,7 +5,7 @@ use native.Mathlib.Omega.{arith}
 use Rattle.group_layout.specs.Layout.{layout}
 use Rattle.group_block.specs.Block.{BlockOf, cap, all_clean}
 use Rattle.group_block.specs.Sum.{unite}
-use Rattle.group.specs.declared.Outcome.{Outcome}
+use Rattle.group.specs.Results.{Outcome}
 use Rattle.signed_block.specs.Signed.{signed, times_block}
 use Rattle.signed_block.specs.Passed.{signed_summed, signed_block}
 use Rattle.signed_words.proofs.Totals.{turned_clean, turned_block}

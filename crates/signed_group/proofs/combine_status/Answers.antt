@@ -4,7 +4,7 @@ use native.Mathlib.Omega.{arith}
 use borrow.Author.Tests.{ltb-true, ltb-false}
 use Rattle.little_endian.specs.Bytes.{number}
 use Rattle.group_block.specs.Block.{cap}
-use Rattle.group.specs.declared.Outcome.{Outcome}
+use Rattle.group.specs.Results.{Outcome}
 use Rattle.signed_words.specs.Words.{sum_fits}
 use Rattle.signed_group.specs.Group.{bad_pair, decode}
 use Rattle.signed_group.proofs.Laws.{combined_refused, status_fits, status_full}

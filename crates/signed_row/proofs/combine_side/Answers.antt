@@ -1,6 +1,6 @@
 use mathlib.Core.Path.{sym, ap, ◌∙◌}
 use Prim.Native.Nat.{◌*◌}
-use Rattle.group.specs.declared.Outcome.{Outcome}
+use Rattle.group.specs.Results.{Outcome}
 use Rattle.meter_memory.proofs.Lists.{lent}
 use Rattle.meter_runs.proofs.Runs.{side_back}
 use Rattle.signed_group.specs.Group.{combined}

@@ -2,7 +2,7 @@ use mathlib.Core.List.{List}
 use Prim.Native.Nat.{ℕ}
 use lib.ListN.{get_or}
 use lib.IntN.{ℤ}
-use Rattle.group.specs.declared.Outcome.{Outcome}
+use Rattle.group.specs.Results.{Outcome}
 use Rattle.meter_memory.proofs.Tried.{Tried}
 use Rattle.signed_number.specs.Number.{integer}
 use Rattle.signed_row.specs.Hashes.{added_by}
