@@ -27,7 +27,7 @@ use Rattle.group_layout.specs.Layout.{layout, level_of}
 use Rattle.signed_number.specs.Number.{times_sign, integer_of, signed_of}
 use Rattle.signed_number.proofs.Integers.{integer_of_lem}
 use Rattle.signed_median.specs.Median.{median}
-use Rattle.signed_group.specs.declared.Reading.{Reading}
+use Rattle.signed_group.specs.Results.{Reading}
 use Rattle.signed_group.specs.Group.{combined}
 use Rattle.signed_totals.proofs.Groups as group
 use Rattle.signed_row.specs.Row.{read_row, read_status, row_figure, source_status}

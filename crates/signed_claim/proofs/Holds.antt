@@ -5,7 +5,7 @@ use mathlib.Core.List.{List}
 use lib.ListN.{length}
 use Rattle.geometry.specs.Geometry.{size}
 use Rattle.meter_memory.specs.Rows.{row_of, group_at}
-use Rattle.signed_group.specs.declared.Reading.{Reading}
+use Rattle.signed_group.specs.Results.{Reading}
 use Rattle.signed_group.specs.Group.{read}
 use Rattle.signed_totals.proofs.Groups as group
 use Rattle.signed_claim.specs.Traffic.{Pair, block_total}

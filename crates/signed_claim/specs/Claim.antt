@@ -5,7 +5,7 @@ use Rattle.geometry.specs.Geometry.{valid_depth, valid_width}
 use Rattle.meter_keys.specs.Keys.{key_slot, key_sign}
 use Rattle.meter_memory.specs.Rows.{row_of, group_at}
 use Rattle.signed_number.specs.Number.{times_sign, integer_of, signed_of}
-use Rattle.signed_group.specs.declared.Reading.{Reading}
+use Rattle.signed_group.specs.Results.{Reading}
 use Rattle.signed_group.specs.Group.{read}
 use Rattle.signed_median.specs.Median.{median}
 use Rattle.signed.specs.Signed.{estimated, signed_answer}

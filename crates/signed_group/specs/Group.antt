@@ -11,7 +11,7 @@ use Rattle.group.specs.Results.{Outcome}
 use Rattle.group.specs.Group.{unchanged, settle}
 use Rattle.signed_number.specs.Number.{signed_of}
 use Rattle.signed_block.specs.Signed.{signed, times_block}
-use Rattle.signed_group.specs.declared.Reading.{Reading}
+use Rattle.signed_group.specs.Results.{Reading}
 
 -- the block of level 3 that a group stands for
 unfoldable pub decode : Group → BlockOf signed 3

@@ -4,7 +4,7 @@ use Rattle.answer.specs.Order.{earliest}
 use Rattle.hash.specs.Hash.{slot_of, sign_of}
 use Rattle.group.specs.declared.Group.{Group}
 use Rattle.group.specs.Results.{Outcome}
-use Rattle.signed_group.specs.declared.Reading.{Reading}
+use Rattle.signed_group.specs.Results.{Reading}
 use Rattle.signed_group.specs.Group.{read}
 use Rattle.signed_number.specs.Number.{times_sign, integer_of}
 use Rattle.geometry.specs.Geometry.{stride}

@@ -1,7 +1,7 @@
 -- What a signed meter's calls do in one row of w slots. Document 02, request 3. Cited by contracts and theorems.
 use Rattle.std.specs.Prelude.{ℕ, ◌/◌, Bool, List, ℤ}
 use Rattle.group.specs.Results.{Outcome}
-use Rattle.signed_group.specs.declared.Reading.{Reading}
+use Rattle.signed_group.specs.Results.{Reading}
 use Rattle.signed_group.specs.Group.{read, added, combined}
 use Rattle.signed_number.specs.Number.{times_sign, integer_of}
 use Rattle.meter_keys.specs.Keys.{key_slot, key_sign}

@@ -2,56 +2,73 @@
 // taken away.
 #![tactic(auto)]
 
-ghost use Rattle.std.specs.Prelude.{◌≡◌, Bool, true, cond, ◌/◌, ◌<◌, ◌^◌, length};
+ghost use Rattle.std.specs.Prelude.{◌≡◌, Bool, true, cond, ◌/◌, ◌<◌, ◌^◌, length, IfOk};
+ghost use Rattle.answer.specs.Refusals.{status};
 ghost use Rattle.geometry.specs.Geometry.{valid_width};
 ghost use Rattle.geometry.specs.Geometry as geometry;
 ghost use Rattle.meter_memory.specs.Rows.{group_at};
 ghost use Rattle.meter_memory.specs.Pairs.{pairs_status, pair_groups, pair_row};
 ghost use Rattle.meter_runs.specs.Runs.{InRows, run_status, RunTaken};
+ghost use Rattle.group.specs.Results.{outcome_of};
 ghost use Rattle.signed_number.specs.Number.{integer};
 ghost use Rattle.signed_group.specs.Group.{read, combined};
+ghost use Rattle.signed_group.specs.Results.{reading_of};
 ghost use Rattle.signed_row.specs.Row.{added_in};
 
-use answer::earlier;
-use group::Outcome;
+use answer::{Refusal, first};
+use group::Group;
 use meter_memory::{load, store};
 use meter_runs::eight_unmerged;
-use signed_group::Reading;
+use signed_words::Counter;
 
 // The counter of a slot.
-pub fn read_row(row: &[u8], w: usize, slot: usize) -> Reading
+pub fn read_row(row: &[u8], w: usize, slot: usize) -> Result<Counter, Refusal>
     requires fact_1 { valid_width w ≡ true }
     requires fact_2 { length row.now ≡ geometry.stride w }
     requires fact_3 { slot < w }
-    ensures value { result ≡ read (group_at w row.now (slot / 8)) slot }
-    ensures magnitude_bound { result.value.magnitude < 2 ^ 63 }
+    ensures value { reading_of result ≡ read (group_at w row.now (slot / 8)) slot }
+    ensures magnitude_bound { IfOk result (λ c. c.value.magnitude < 2 ^ 63) }
 {
     signed_group::counter(load(row, w, slot / 8), slot)
 }
 
 // What an amount leaves in the group of a slot. Stores nothing.
-pub fn add_in_row(row: &[u8], w: usize, slot: usize, minus: bool, magnitude: u32) -> Outcome
+pub fn add_in_row(
+    row: &[u8],
+    w: usize,
+    slot: usize,
+    minus: bool,
+    magnitude: u32,
+) -> Result<Group, Refusal>
     requires fact_1 { valid_width w ≡ true }
     requires fact_2 { length row.now ≡ geometry.stride w }
     requires fact_3 { slot < w }
-    ensures { result ≡ added_in w row.now slot (integer minus magnitude) }
+    ensures { outcome_of (group_at w row.now (slot / 8)) result ≡ added_in w row.now slot (integer minus magnitude) }
 {
     signed_group::add(load(row, w, slot / 8), slot, minus, magnitude)
 }
 
-// Whether n groups of a row take those of a source row times a sign, the first of which is group `first`. Most answer 0.
-fn groups_status(minus: bool, row: &[u8], source: &[u8], w: usize, first: usize, n: usize) -> u8
-    requires { InRows w n first row.now source.now }
-    ensures { result ≡ run_status (combined minus) w source.now row.now n first }
+// Whether n groups of a row take those of a source row times a sign, the first of which is group `start`. Most do, and then nothing else is
+// looked at.
+fn groups_status(
+    minus: bool,
+    row: &[u8],
+    source: &[u8],
+    w: usize,
+    start: usize,
+    n: usize,
+) -> Result<(), Refusal>
+    requires { InRows w n start row.now source.now }
+    ensures { status result ≡ run_status (combined minus) w source.now row.now n start }
 {
-    let mut status = 0u8;
-    for g in first..first + n {
-        let s = signed_group::combine_status(minus, load(row, w, g), load(source, w, g));
-        if s != 0 {
-            status = earlier(status, s);
+    let mut taken = Ok(());
+    for g in start..start + n {
+        let next = signed_group::combine_status(minus, load(row, w, g), load(source, w, g));
+        if next.is_err() {
+            taken = first(taken, next);
         }
     }
-    status
+    taken
 }
 
 // Whether eight groups are unmerged in both rows and hold no minus zero, so that a row takes those of a source row with either sign.
@@ -68,20 +85,20 @@ fn clean_eight(row: &[u8], source: &[u8], w: usize, first: usize) -> bool
 }
 
 // Whether a row takes a source row times a sign. Only a row of 32 slots has groups left after its eights.
-pub fn combine_status(minus: bool, row: &[u8], source: &[u8], w: usize) -> u8
+pub fn combine_status(minus: bool, row: &[u8], source: &[u8], w: usize) -> Result<(), Refusal>
     requires fact_1 { valid_width w ≡ true }
     requires fact_2 { length row.now ≡ geometry.stride w }
     requires fact_3 { length source.now ≡ geometry.stride w }
-    ensures { result ≡ pairs_status (combined minus) w source.now row.now }
+    ensures { status result ≡ pairs_status (combined minus) w source.now row.now }
 {
-    let mut status = 0u8;
+    let mut taken = Ok(());
     for e in 0..w / 64 {
         if !clean_eight(row, source, w, 8 * e) {
-            status = earlier(status, groups_status(minus, row, source, w, 8 * e, 8));
+            taken = first(taken, groups_status(minus, row, source, w, 8 * e, 8));
         }
     }
-    earlier(
-        status,
+    first(
+        taken,
         groups_status(minus, row, source, w, w / 64 * 8, w / 8 % 8),
     )
 }

@@ -14,18 +14,15 @@ returns-then-target-source-ne0 c = λ e. absurd (true≢false (sym e))
 pub no_minus_zero-requires : goal.no_minus_zero-requires
 no_minus_zero-requires c = unmerged_valid
 
-pub returns-then-not-no_minus_zero : goal.returns-then-not-no_minus_zero
-returns-then-not-no_minus_zero c = λ e. absurd (true≢false (sym e))
+pub no_minus_zero-requires-then-no_minus_zero : goal.no_minus_zero-requires-then-no_minus_zero
+no_minus_zero-requires-then-no_minus_zero c = unmerged_valid
 
-pub no_minus_zero-requires-2 : goal.no_minus_zero-requires-2
-no_minus_zero-requires-2 c = unmerged_valid
-
-pub returns : goal.returns
-returns c = λ h.
+pub returns-then-no_minus_zero : goal.returns-then-no_minus_zero
+returns-then-no_minus_zero c = λ h.
     let a = c.args in
     let or = or_add_and a.target.merge a.source.merge in
     let none : a.target.merge ≡ 0 = omega (arith, and_le_r a.target.merge a.source.merge) in
     let none' : a.source.merge ≡ 0 = omega (arith, and_le_l a.target.merge a.source.merge) in
-    let first = ap (all_clean signed (layout 3 0)) (sym c.number_of.ensures) ∙ sym c.no_minus_zero.ensures ∙ c.if-not-no_minus_zero.false in
-    let second = ap (all_clean signed (layout 3 0)) (sym c.number_of-2.ensures) ∙ sym c.no_minus_zero-2.ensures ∙ h in
+    let first = ap (all_clean signed (layout 3 0)) (sym c.number_of.ensures) ∙ sym c.no_minus_zero.ensures ∙ c.if-no_minus_zero.true in
+    let second = ap (all_clean signed (layout 3 0)) (sym c.number_of-then-no_minus_zero.ensures) ∙ sym c.no_minus_zero-then-no_minus_zero.ensures ∙ h in
     clean_pair a.target a.source (unmerged_clean a.target none first) (unmerged_clean a.source none' second)

@@ -5,12 +5,12 @@ use native.Mathlib.Omega.{arith}
 use Rattle.group_layout.specs.Layout.{layout}
 use Rattle.group_block.specs.Block.{BlockOf, cap, all_clean}
 use Rattle.group_block.specs.Sum.{unite}
-use Rattle.group.specs.Results.{Outcome}
 use Rattle.signed_block.specs.Signed.{signed, times_block}
 use Rattle.signed_block.specs.Passed.{signed_summed, signed_block}
 use Rattle.signed_words.proofs.Totals.{turned_clean, turned_block}
 use Rattle.signed_group.specs.Group.{decode}
 use Rattle.signed_group.proofs.Laws.{Clean, pair_clean, combined_settled}
+use Rattle.signed_group.proofs.Results.{left_of}
 use Rattle.signed_group.proofs.combine_clean.Goals as goal
 use Rattle.signed_group.proofs.combine_clean.Goals.{After-number_of}
 
@@ -32,9 +32,9 @@ module _ (n : After-number_of) where
 pub times_sign-source_word-requires : goal.times_sign-source_word-requires
 times_sign-source_word-requires c = record { fact_1 = (clean c).1.merges; fact_2 = source_clean c }
 
-pub unite-requires : goal.unite-requires
+pub unite-united-requires : goal.unite-united-requires
 unfolding cap
-unite-requires c = let a = c.args in record { fact_1 = ((omega arith, (clean (goal.at.unite-requires c).After-number_of).0.merges), target_clean (goal.at.unite-requires c).After-number_of); fact_2 = ((omega arith, (clean (goal.at.unite-requires c).After-number_of).1.merges), rw c.times_sign-source_word.ensures (turned_clean _ c.number_of.result a.source.merge (source_in (goal.at.unite-requires c).After-number_of) (clean (goal.at.unite-requires c).After-number_of).1.merges)) }
+unite-united-requires c = let a = c.args in record { fact_1 = ((omega arith, (clean (goal.at.unite-united-requires c).After-number_of).0.merges), target_clean (goal.at.unite-united-requires c).After-number_of); fact_2 = ((omega arith, (clean (goal.at.unite-united-requires c).After-number_of).1.merges), rw c.times_sign-source_word.ensures (turned_clean _ c.number_of.result a.source.merge (source_in (goal.at.unite-united-requires c).After-number_of) (clean (goal.at.unite-united-requires c).After-number_of).1.merges)) }
 
 pub returns : goal.returns
 unfolding decode
@@ -43,8 +43,7 @@ returns c = let a = c.args in
     ap (λ (w : ℕ). signed_block 3 w a.source.merge) c.times_sign-source_word.ensures
     ∙ turned_block a.minus c.number_of.result a.source.merge (source_in (goal.at.returns c).After-number_of) (clean (goal.at.returns c).After-number_of).1.merges
     ∙ ap (λ (w : ℕ). times_block a.minus (signed_block 3 w a.source.merge)) c.number_of.ensures in
-    ap (λ (o : Outcome). o.group)
-    (c.outcome-o.ensures (unite (decode a.target) (times_block a.minus (decode a.source)))
-    (c.unite.ensures ∙ ap (λ (y : BlockOf signed 3). signed_summed (unite (signed_block 3 c.number_of-word.result a.target.merge) y)) source
-    ∙ ap (λ (w : ℕ). signed_summed (unite (signed_block 3 w a.target.merge) (times_block a.minus (decode a.source)))) c.number_of-word.ensures)
-    ∙ sym (combined_settled a.minus a.target a.source c.requires))
+    let o = c.outcome.ensures a.target (unite (decode a.target) (times_block a.minus (decode a.source)))
+    (c.unite-united.ensures ∙ ap (λ (y : BlockOf signed 3). signed_summed (unite (signed_block 3 c.number_of-word.result a.target.merge) y)) source
+    ∙ ap (λ (w : ℕ). signed_summed (unite (signed_block 3 w a.target.merge) (times_block a.minus (decode a.source)))) c.number_of-word.ensures) in
+    c.unwrap_or.ensures ∙ left_of a.target c.outcome.result _ (o ∙ sym (combined_settled a.minus a.target a.source c.requires))

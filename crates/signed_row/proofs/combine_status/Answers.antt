@@ -2,6 +2,7 @@ use mathlib.Core.Path.{◌≡◌, refl, sym, ap, ◌∙◌}
 use Prim.Native.Nat.{ℕ, ◌+◌, ◌-◌, ◌*◌, ◌/◌, ◌%◌}
 use native.Mathlib.Omega.{arith}
 use Rattle.answer.specs.Order.{earlier}
+use Rattle.answer.specs.Refusals.{status}
 use Rattle.answer.proofs.Order.{earlier_none}
 use Rattle.geometry.proofs.Widths.{stride_is}
 use Rattle.meter_memory.specs.Pairs.{pairs_status}
@@ -12,7 +13,7 @@ use Rattle.signed_row.proofs.combine_status.Goals as goal
 use Rattle.signed_row.proofs.combine_status.Goals.{then-not-clean_eight, else-not-clean_eight}
 
 pub loop-e-init : goal.loop-e-init
-unfolding earlier pairs_status run_status
+unfolding earlier pairs_status run_status status
 loop-e-init c = let a = c.args in
     (omega arith, refl, ap (λ (n : ℕ). run_status (combined a.minus) a.w a.source.now a.row.now n 0) (omega arith))
 
@@ -28,15 +29,15 @@ pub loop-e-preserved : goal.loop-e-preserved
 loop-e-preserved c = let a = c.args in
     let l = c.loop-e in
     let x = run_status (combined a.minus) a.w a.source.now a.row.now 8 (8 * l.e) in
-    let next : c.if-not-clean_eight.status ≡ earlier l.status x =
+    let next : (status c.if-not-clean_eight.taken) ≡ earlier (status l.taken) x =
     elim c.if-not-clean_eight.branch [
-      | then-not-clean_eight t ↦ t.status-is ∙ t.earlier-status.ensures ∙ ap (earlier l.status) t.groups_status.ensures
-      | else-not-clean_eight t ↦ t.status-is ∙ sym (ap (earlier l.status) (c.clean_eight.ensures t.if-not-clean_eight.false a.minus) ∙ earlier_none l.status)
+      | then-not-clean_eight t ↦ ap status t.taken-is ∙ t.first-taken.ensures ∙ ap (earlier (status l.taken)) t.groups_status.ensures
+      | else-not-clean_eight t ↦ ap status t.taken-is ∙ sym (ap (earlier (status l.taken)) (c.clean_eight.ensures t.if-not-clean_eight.false a.minus) ∙ earlier_none (status l.taken))
     ] in
     let at : 8 * (l.e + 1) ≡ 8 * l.e + 8 = omega arith in (
       omega arith,
       refl,
-      rw (next, at) (status_next (combined a.minus) a.w a.source.now (a.w / 8) (8 * l.e) 8 a.row.now l.status x (omega arith) refl ∙ l.invariant.2),
+      rw (next, at) (status_next (combined a.minus) a.w a.source.now (a.w / 8) (8 * l.e) 8 a.row.now (status l.taken) x (omega arith) refl ∙ l.invariant.2),
     )
 
 pub groups_status-requires-2 : goal.groups_status-requires-2
@@ -48,4 +49,4 @@ returns c = let a = c.args in
     let l = c.loop-e in
     let first : a.w / 64 * 8 ≡ 8 * l.e = omega arith in
     let n : a.w / 8 % 8 ≡ a.w / 8 - 8 * l.e = omega arith in
-    c.earlier.ensures ∙ ap (earlier l.status) c.groups_status-2.ensures ∙ rw (first, n) l.invariant.2
+    c.first.ensures ∙ ap (earlier (status l.taken)) c.groups_status-2.ensures ∙ rw (first, n) l.invariant.2

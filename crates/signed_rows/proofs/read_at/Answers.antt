@@ -7,7 +7,7 @@ use mir.Facts.{to_z-of_z}
 use Rattle.hash.specs.Hash.{sign_of}
 use Rattle.geometry.proofs.Widths.{wide}
 use Rattle.meter_memory.specs.Rows.{row_of, group_at}
-use Rattle.signed_group.specs.declared.Reading.{Reading}
+use Rattle.signed_group.specs.Results.{Reading}
 use Rattle.signed_group.specs.Group.{read}
 use Rattle.signed_number.specs.Number.{times_sign, integer_of}
 use Rattle.signed_row.specs.Hashes.{read_by}
