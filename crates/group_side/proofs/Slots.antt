@@ -1,5 +1,5 @@
 -- Unmerged blocks of any kind united slot by slot, where each slot holds its sum.
-use Rattle.std.proofs.Common.{Ok, ◌≡◌, ℕ, zero, suc, ◌+◌, ◌-◌, ◌*◌, ◌/◌, ◌%◌, ◌^◌, ◌<◌, true, false, eqb, List, [], ◌∷◌, length, get_or, take, drop, refl, ap, ◌∙◌, zero-mul, mul_left_comm, arith, length-drop, length-take-le, get_or-drop, get_or-take, pow-add, lt-ltb}
+use Rattle.std.proofs.Common.{Ok, ◌≡◌, ℕ, zero, suc, ◌+◌, ◌-◌, ◌*◌, ◌/◌, ◌%◌, ◌^◌, ◌<◌, true, eqb, List, [], ◌∷◌, length, get_or, take, drop, refl, ap, ◌∙◌, zero-mul, mul_left_comm, arith, length-drop, length-take-le, get_or-drop, get_or-take, pow-add, lt-ltb}
 use mathlib.Core.Bool.{or-true}
 use native.Mathlib.Nat.{zero-div, zero-mod}
 use lib.Arith.{digits_div, digits_mod}

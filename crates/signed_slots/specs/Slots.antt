@@ -1,6 +1,6 @@
 -- Unmerged slots of a signed group in the bytes of a number. The code's own terms.
 -- Of any number of bytes: o has a 1 and l has 127 in each.
-use Rattle.std.specs.Prelude.{ℕ, zero, suc, ◌+◌, ◌*◌, ◌/◌, ◌^◌, ◌≡◌, false, Ok}
+use Rattle.std.specs.Prelude.{ℕ, zero, suc, ◌+◌, ◌*◌, ◌/◌, ◌^◌, ◌≡◌, Ok}
 use Rattle.std.specs.Int.Bits.{bit_and, bit_or, bit_xor}
 use Rattle.group_block.specs.Sum.{unite}
 use Rattle.signed_block.specs.Passed.{signed_block, signed_summed}

@@ -1,5 +1,5 @@
 -- The sign bits of a signed group in its count bytes taken as one number, and whether a counter holds a sum. The code's own terms.
-use Rattle.std.specs.Prelude.{ℕ, ◌+◌, ◌-◌, ◌*◌, ◌/◌, ◌%◌, ◌≡◌, Bool, false, cond, ltb, eqb, ℤ, ◌+ℤ◌, nat_abs, Ok}
+use Rattle.std.specs.Prelude.{ℕ, ◌+◌, ◌-◌, ◌*◌, ◌/◌, ◌%◌, ◌≡◌, Bool, cond, ltb, eqb, ℤ, ◌+ℤ◌, nat_abs, Ok}
 use Rattle.group_layout.specs.Layout.{Layout, merged, halves, layout, level_of}
 use Rattle.group_block.specs.Block.{cap, counter_value, total}
 use Rattle.group_block.specs.Sum.{add}

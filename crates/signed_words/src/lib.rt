@@ -11,8 +11,8 @@ ghost use Rattle.signed_block.specs.Signed as sign_spec;
 ghost use Rattle.signed_block.specs.Passed.{signed_block};
 ghost use Rattle.signed_words.specs.Words as spec;
 
-use group_levels::{exchange, most, place};
 use group_block::total;
+use group_levels::{exchange, most, place};
 use signed_block::{SignedMeter, top, value};
 use signed_number::{Signed, plus};
 
