@@ -1,9 +1,10 @@
 -- Laws of refusals: they are declared in the list's order.
-use mathlib.Core.Path.{◌≡◌, refl}
-use Prim.Native.Nat.{◌<◌}
+use mathlib.Core.Path.{◌≡◌, refl, sym}
+use Prim.Native.Nat.{ℕ, ◌<◌}
 use native.Mathlib.Omega.{arith}
 use lib.Dec.{leb}
-use Rattle.std.specs.Prelude.{Result, Err}
+use Rattle.std.specs.Prelude.{Result, Ok, Err, IsErrAnd}
+use Rattle.std.proofs.lemmas.Result.{err_from_is_err_and}
 use Rattle.std.specs.Ordering.{partial_le}
 use Rattle.answer.specs.contracts.RefusalPartialOrd.TheImpl.{partial_cmp-value}
 use Rattle.answer.specs.declared.Refusal.{Refusal}
@@ -49,3 +50,22 @@ positive OtherMeter = omega arith
 pub no_refusal : {A : Type 0} (r : Result A Refusal) (x : Refusal) → status r ≡ 0 → r ≡ Err x → ⊥
 unfolding status
 no_refusal r x e is = absurd (omega (arith, positive x, rw is at e))
+
+pub ok_status : {A : Type 0} (v : A) (n : ℕ) → status (Ok v) ≡ n → n ≡ 0
+unfolding status
+ok_status v n e = sym e
+
+pub err_status : (A : Type 0) (x : Refusal) (n : ℕ) → status {A = A} (Err x) ≡ n → n ≡ 0 → ⊥
+unfolding status
+err_status A x n e z = absurd (omega (arith, positive x, e, z))
+
+pub no_number : (x : Refusal) → number x ≡ 0 → ⊥
+no_number x z = absurd (omega (arith, positive x, z))
+
+-- a refusal that is handed on by `?`
+pub err_is : {B : Type 0} (r : Result B Refusal) (x : Refusal) → IsErrAnd r (λ y. y ≡ x) → r ≡ Err x
+err_is r x h = let p = err_from_is_err_and r h in rw (p.1, p.2)
+
+pub handed_on : (A : Type 0) {B : Type 0} (r : Result B Refusal) (x : Refusal) (n : ℕ) → IsErrAnd r (λ y. y ≡ x) → status {A = A} (Err x) ≡ n → status r ≡ n
+unfolding status
+handed_on A r x n h e = rw (err_is r x h) e

@@ -5,6 +5,7 @@
 ghost use Rattle.std.specs.Prelude.{◌≡◌};
 ghost use Rattle.signed.specs.Signed.{cleared, updated, estimated, united, subtracted};
 
+use answer::{Answer, give};
 use signed::SignedAnswer;
 
 #[unsafe(no_mangle)]
@@ -20,7 +21,7 @@ pub extern "C" fn meter_signed_clear(
     ensures figure_after { figure.new ≡ (cleared d w memory.old).answer.value }
     ensures memory_after { memory.new ≡ (cleared d w memory.old).memory }
 {
-    answer::give(signed::clear(d, w, memory), place, figure)
+    give(Answer::from(signed::clear(d, w, memory)), place, figure)
 }
 
 #[unsafe(no_mangle)]
@@ -38,7 +39,11 @@ pub extern "C" fn meter_signed_update(
     ensures figure_after { figure.new ≡ (updated d w memory.old key.now amount).answer.value }
     ensures memory_after { memory.new ≡ (updated d w memory.old key.now amount).memory }
 {
-    answer::give(signed::update(d, w, memory, key, amount), place, figure)
+    give(
+        Answer::from(signed::update(d, w, memory, key, amount)),
+        place,
+        figure,
+    )
 }
 
 // An answer whose figure is an integer, as a host takes it.
@@ -66,7 +71,11 @@ pub extern "C" fn meter_signed_estimate(
     ensures place_after { place.new ≡ (estimated d w memory.now key.now).position }
     ensures figure_after { figure.new ≡ (estimated d w memory.now key.now).value }
 {
-    give_signed(signed::estimate(d, w, memory, key), place, figure)
+    give_signed(
+        SignedAnswer::from(signed::estimate(d, w, memory, key)),
+        place,
+        figure,
+    )
 }
 
 #[unsafe(no_mangle)]
@@ -83,7 +92,11 @@ pub extern "C" fn meter_signed_unite(
     ensures figure_after { figure.new ≡ (united d w memory.old source.now).answer.value }
     ensures memory_after { memory.new ≡ (united d w memory.old source.now).memory }
 {
-    answer::give(signed::unite(d, w, memory, source), place, figure)
+    give(
+        Answer::from(signed::unite(d, w, memory, source)),
+        place,
+        figure,
+    )
 }
 
 #[unsafe(no_mangle)]
@@ -100,5 +113,9 @@ pub extern "C" fn meter_signed_subtract(
     ensures figure_after { figure.new ≡ (subtracted d w memory.old source.now).answer.value }
     ensures memory_after { memory.new ≡ (subtracted d w memory.old source.now).memory }
 {
-    answer::give(signed::subtract(d, w, memory, source), place, figure)
+    give(
+        Answer::from(signed::subtract(d, w, memory, source)),
+        place,
+        figure,
+    )
 }

@@ -4,7 +4,7 @@ use Rattle.answer.specs.declared.Answer.{Answer}
 use Rattle.answer.specs.Answers.{accepted, refused_at}
 use Rattle.answer.specs.Order.{first_of}
 use Rattle.geometry.specs.Checks.{bad_depth, bad_width}
-use Rattle.word.specs.declared.Step.{Step}
+use Rattle.word.specs.Step.{Step}
 use Rattle.word.specs.Word.{head_kind, stop, next, payload, below}
 
 -- d is in the low four bits of the head's payload, log2 w in the next five

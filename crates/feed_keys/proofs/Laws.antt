@@ -11,6 +11,10 @@ use lib.Seq.{take-suc-set, take-take}
 use borrow.Author.Tests.{lt-ltb, eq-eqb}
 use lib.Pow.{mod-mod-pow}
 use lib.Bits.{bit_xor, xor_add_and, and_le_l, and_le_r}
+use Rattle.std.specs.Prelude.{Result, Ok, Err, IsErrAnd}
+use Rattle.word.specs.declared.Fault.{Fault}
+use Rattle.word.specs.Step.{step}
+use Rattle.word.proofs.Results.{number_above}
 use Rattle.word.specs.Word.{go, next, payload, is_due, tested}
 use Rattle.word.proofs.Laws.{turn}
 use Rattle.feed_keys.specs.Keys.{key_words, key_payload, key_word, check_key, key_byte, key_from, key_of}
@@ -25,6 +29,11 @@ key_step (suc k) n words p h = rw (sub-one (suc k))
 pub key_none : (k n : ℕ) (words : List ℕ) (p : ℕ) → k ≡ 0 → check_key k n words p ≡ go p
 unfolding check_key
 key_none k n words p e = rw e
+
+-- a fault handed on is no step that passes
+pub handed_status : (r : Result ℕ Fault) (f : Fault) → IsErrAnd r (λ x. x ≡ f) → (step r).status ≡ 0 → ⊥
+handed_status (Ok q) f h e = absurd h
+handed_status (Err x) f h e = omega (arith, number_above x.refusal)
 
 -- one byte more of a key
 pub key_more : (n : ℕ) (words : List ℕ) (i : ℕ) → key_from (suc n) words i ≡ key_from n words i ++ (key_byte words (i + n) ∷ [])

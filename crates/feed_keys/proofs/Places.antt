@@ -6,7 +6,7 @@ use native.Mathlib.Nat.{add-zero}
 use native.Mathlib.Omega.{arith}
 use lib.ListN.{length, take}
 use Rattle.answer.specs.Numbers.{bad_payload, bad_word}
-use Rattle.word.specs.declared.Step.{Step}
+use Rattle.word.specs.Step.{Step}
 use Rattle.word.specs.Word.{go, payload}
 use Rattle.word.proofs.Passed.{passed, tested_is}
 use Rattle.word.proofs.Places.{In, tested_in, next_in, tested_on, next_on, tested_status, next_status}

@@ -1,7 +1,7 @@
 -- The key words of a record. Document 01, 'Images and feeds'. Cited by contracts.
 use Rattle.std.specs.Prelude.{ℕ, zero, suc, ◌+◌, ◌-◌, ◌*◌, ◌/◌, ◌%◌, ◌^◌, Bool, ◌&&◌, List, [], ◌∷◌, eqb, ltb}
 use Rattle.answer.specs.Numbers.{bad_payload}
-use Rattle.word.specs.declared.Step.{Step}
+use Rattle.word.specs.Step.{Step}
 use Rattle.word.specs.Word.{go, next, payload, tested}
 
 -- the kind of a key word

@@ -14,7 +14,7 @@ use Rattle.answer.proofs.Answers.{finish_kept}
 use Rattle.geometry.specs.Checks.{bad_shape, bad_key}
 use Rattle.meter.specs.Meter.{updated, estimated}
 use Rattle.meter.proofs.Memory.{update_accepted}
-use Rattle.word.specs.declared.Step.{Step}
+use Rattle.word.specs.Step.{Step}
 use Rattle.word.specs.Word.{end_kind, next, payload, is_due, tested, below}
 use Rattle.word.proofs.Laws.{due_in, one_on}
 use Rattle.feed_lengths.specs.Lengths.{words_taken}

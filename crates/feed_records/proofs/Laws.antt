@@ -7,7 +7,7 @@ use native.Mathlib.Omega.{arith}
 use lib.Dec.{eqb}
 use borrow.Author.Tests.{eqb-true, ne_eqb}
 use Rattle.geometry.specs.Checks.{bad_key}
-use Rattle.word.specs.declared.Step.{Step}
+use Rattle.word.specs.Step.{Step}
 use Rattle.word.specs.Word.{end_kind, payload, is_due}
 use types.Run.{OneOf}
 use denote.Enum.Declared.{tag_of}

@@ -1,35 +1,15 @@
 -- Laws of decimal numbers and lines that the code's proofs use, and what decimal digits are worth.
-use mathlib.Core.Path.{◌≡◌, refl, sym, ap, ◌∙◌}
-use mathlib.Core.List.{List, [], ◌∷◌, ◌++◌, append_assoc}
+use mathlib.Core.Path.{◌≡◌, sym, ap, ◌∙◌}
+use mathlib.Core.List.{List, [], ◌∷◌, ◌++◌, append_assoc, append-nil}
 use Prim.Native.Nat.{ℕ, zero, suc, ◌+◌, ◌-◌, ◌*◌, ◌/◌, ◌%◌, ◌^◌, ◌≤◌, ◌<◌}
 use native.Mathlib.Nat.{div-lt_iff_lt-mul, pow-suc}
-use native.Mathlib.Numerals.{add-one, sub-one}
+use native.Mathlib.Numerals.{sub-one}
 use native.Mathlib.Omega.{arith}
 use native.Mathlib.Decide.{dec_lt}
 use borrow.Author.Tests.{lt-ltb, le-ltb}
-use lib.ListN.{length, get_or, take, drop, set}
-use lib.Seq.{take-suc, take-suc-set}
+use Rattle.std.specs.Fmt as fmt
+use Rattle.std.proofs.lemmas.Fmt.{decimal_digit, decimal_step}
 use Rattle.feed_text.specs.Text.{digits_before, decimal, number_after}
-
--- a turn of a copy behind the first bytes of a buffer
-pub append_turn : (out before s : List ℕ) (at i : ℕ) → at + i < length out → i < length s → take (at + i) out ≡ before ++ take i s
-    → take (at + (i + 1)) (set out (at + i) (get_or s i 0)) ≡ before ++ take (i + 1) s
-append_turn out before s at i h k e =
-    let n : at + (i + 1) ≡ suc (at + i) = omega arith in
-    rw (n, add-one)
-    (take-suc-set out (at + i) (get_or s i 0) h ∙ ap (λ (l : List ℕ). l ++ (get_or s i 0 ∷ [])) e ∙ append_assoc before (take i s) (get_or s i 0 ∷ [])
-    ∙ ap (λ (l : List ℕ). before ++ l) (sym (take-suc s i 0 k)))
-
--- a number of more than one digit, and the last digit of one
-pub digits_more : (k n : ℕ) (text : List ℕ) → 1 ≤ k → 10 ≤ n → digits_before k n text ≡ digits_before (k - 1) (n / 10) ((48 + n % 10) ∷ text)
-unfolding digits_before
-digits_more zero n text h l = absurd (omega arith)
-digits_more (suc k) n text h l = rw (le-ltb n 10 l, sub-one (suc k))
-
-pub digits_last : (k n : ℕ) (text : List ℕ) → 1 ≤ k → n < 10 → digits_before k n text ≡ (48 + n) ∷ text
-unfolding digits_before
-digits_last zero n text h l = absurd (omega arith)
-digits_last (suc k) n text h l = rw (lt-ltb n 10 l)
 
 -- the places that a number's digits need
 pub two_places : (k n : ℕ) → 10 ≤ n → n < 10 ^ k → 2 ≤ k
@@ -41,11 +21,21 @@ pub less_places : (k n : ℕ) → 1 ≤ k → n < 10 ^ k → n / 10 < 10 ^ (k - 
 less_places zero n h l = absurd (omega arith)
 less_places (suc k) n h l = rw (sub-one (suc k)) ((div-lt_iff_lt-mul {k = 10} {x = n} {y = 10 ^ k} (omega arith)).1 (omega (arith, pow-suc 10 k)))
 
--- what is put in front of the end of a list
-pub drop_set_at : (xs : List ℕ) (i x : ℕ) → i < length xs → drop i (set xs i x) ≡ x ∷ drop (suc i) xs
-drop_set_at [] i x h = absurd (omega arith)
-drop_set_at (y ∷ ys) zero x h = refl
-drop_set_at (y ∷ ys) (suc i) x h = drop_set_at ys i x (omega arith)
+-- the digits are those that the library prints
+printed_before : (k n : ℕ) (text : List ℕ) → n < 10 ^ k → n < 2 ^ 64 → 1 ≤ k → digits_before k n text ≡ fmt.decimal n ++ text
+unfolding digits_before
+printed_before zero n text h w p = absurd (omega arith)
+printed_before (suc k) n text h w p = elim (dec_lt n 10) [
+  | yes l ↦ rw (lt-ltb n 10 l, decimal_digit n l)
+  | no l ↦
+      let m : 10 ≤ n = omega arith in
+      let q = less_places (suc k) n (omega arith) h in
+      rw (le-ltb n 10 m, decimal_step n m w, append_assoc) (printed_before k (n / 10) ((48 + n % 10) ∷ text) (rw (sub-one (suc k)) at q) (omega arith) (omega (arith, two_places (suc k) n m h)))
+]
+
+pub printed : (n : ℕ) → n < 2 ^ 64 → fmt.decimal n ≡ decimal n
+unfolding decimal
+printed n h = sym (append-nil _) ∙ sym (printed_before 20 n [] (omega arith) h (omega arith))
 
 -- The digits of a number are worth that number.
 after_digits : (k n : ℕ) (text : List ℕ) → n < 10 ^ k → 1 ≤ k → number_after 0 (digits_before k n text) ≡ number_after n text

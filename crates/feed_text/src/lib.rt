@@ -12,6 +12,7 @@ pub use text::Text;
 use text::{begin, pair, single};
 
 // Each line begins with its word.
+#[tactic(auto, unfolding(crate::specs::Line::text))]
 pub fn text_of(l: Line) -> Text
     ensures result_value { content result ≡ spec.text l }
     ensures length_bound { result.length ≤ 64 }

@@ -1,20 +1,14 @@
 // Text of at most 64 bytes, put together by value.
-ghost use Rattle.std.specs.Prelude.{◌≡◌, ◌++◌, ◌+◌, ◌≤◌, ◌<◌, length};
+ghost use Rattle.std.specs.Prelude.{◌≡◌, ◌++◌, ◌+◌, ◌≤◌, length};
 ghost use Rattle.feed_text.specs.Text as spec;
 ghost use Rattle.feed_text.specs.Text.{content, newline};
-ghost use Rattle.feed_text.specs.Buffers.{digits_of};
+
+use itoa::Buffer;
 
 #[derive(Clone, Copy)]
 pub struct Text {
     pub bytes: [u8; 64],
     pub length: usize,
-}
-
-// A number's digits stand at the end, from `start` on.
-#[derive(Clone, Copy)]
-pub struct Digits {
-    pub bytes: [u8; 20],
-    pub start: usize,
 }
 
 // The text with more bytes at its end.
@@ -24,14 +18,9 @@ fn with_bytes(t: Text, s: &[u8]) -> Text
     ensures length_value { result.length ≡ t.length + length s.now }
 {
     let mut bytes = t.bytes;
-    let at = t.length;
-    for i in 0..s.len() {
-        bytes[at + i] = s[i];
-    }
-    Text {
-        bytes,
-        length: at + s.len(),
-    }
+    let length = t.length + s.len();
+    bytes[t.length..length].copy_from_slice(s);
+    Text { bytes, length }
 }
 
 pub fn begin(s: &[u8]) -> Text
@@ -48,40 +37,14 @@ pub fn begin(s: &[u8]) -> Text
     )
 }
 
-// The digit of a number below 10, in ASCII.
-fn digit(n: u64) -> u8
-    requires { n < 10 }
-    ensures { result ≡ 48 + n }
-{
-    (48 + n) as u8
-}
-
-fn decimal(n: u64) -> Digits
-    ensures result_value { digits_of result ≡ spec.decimal n }
-    ensures start_bound { (result.start ≤ 20) × (length result.bytes ≡ 20) }
-{
-    let mut bytes = [0u8; 20];
-    let mut start: usize = 20;
-    let mut rest = n;
-    while rest >= 10 {
-        start -= 1;
-        bytes[start] = digit(rest % 10);
-        rest /= 10;
-    }
-    start -= 1;
-    bytes[start] = digit(rest);
-    Digits { bytes, start }
-}
-
+#[tactic(auto, using(crate::proofs::Laws::printed))]
 fn with_number(t: Text, n: u64) -> Text
     requires { t.length + 20 ≤ 64 }
     ensures result_value { content result ≡ content t ++ spec.decimal n }
     ensures length_bound { result.length ≤ t.length + 20 }
 {
-    let d = decimal(n);
-    let bytes = d.bytes;
-    let start = d.start;
-    with_bytes(t, &bytes[start..])
+    let mut buffer = Buffer::new();
+    with_bytes(t, buffer.format(n).as_bytes())
 }
 
 // A word and a number.

@@ -4,14 +4,14 @@ use mathlib.Core.Bool.{Bool, true, false, true≢false, or-true, and-eq-true_iff
 use mathlib.Core.Logic.{⊎_elim}
 use mathlib.Core.List.{List, [], ◌∷◌}
 use Prim.Native.Nat.{ℕ, zero, suc, ◌+◌, ◌-◌, ◌*◌, ◌/◌, ◌%◌, ◌^◌, ◌≤◌, ◌<◌}
-use native.Mathlib.Nat.{mul_assoc, mul_comm, mul-one, pow-suc, mul-mod_left, mod_self, mul-le-mul, mul-le-mul_right, suc-mul}
+use native.Mathlib.Nat.{mul_assoc, mul_comm, mul-one, pow-suc, mul-mod_left, mul-le-mul, mul-le-mul_right, suc-mul}
 use native.Mathlib.Decide.{dec_lt}
 use native.Mathlib.Omega.{arith}
 use borrow.Author.Tests.{eqb-true, eq-eqb, leb-true}
-use lib.Arith.{bin_ind}
-use lib.Bits.{bit_and, and_step, and_self, and_mask}
+use lib.Count.{ones, ones_step}
 use lib.Dec.{eqb, leb}
 use lib.Pow.{pow-add, pow_mono, pow-lt}
+use Rattle.std.proofs.lemmas.Nat.{ones_le_self, zero_from_ones}
 use Rattle.laws.proofs.Tests.{or_cases}
 use Rattle.laws.proofs.Tests.{both_ways}
 use Rattle.geometry.specs.Geometry.{one_of_powers, valid_depth, largest_log, largest_width, valid_width, stride, size, RowIn, RowsIn}
@@ -77,23 +77,23 @@ wide w e =
       shares = rw shared (mul-mod_left (2 ^ (32 - k)) (2 ^ k));
     })
 
--- a number that shares no bit with its predecessor is a power of two
-one_bit : (w : ℕ) → 0 < w → bit_and w (w - 1) ≡ 0 → (k : ℕ) × (w ≡ 2 ^ k)
-one_bit = bin_ind (λ (w : ℕ). 0 < w → bit_and w (w - 1) ≡ 0 → (k : ℕ) × (w ≡ 2 ^ k)) (λ h e. absurd (omega arith)) step
-  where
-    step : (n : ℕ) → (0 < n / 2 → bit_and (n / 2) (n / 2 - 1) ≡ 0 → (k : ℕ) × (n / 2 ≡ 2 ^ k)) → 0 < n → bit_and n (n - 1) ≡ 0 → (k : ℕ) × (n ≡ 2 ^ k)
-    step n ih h e =
-        elim (dec_lt 0 (n % 2)) [
-          | yes odd ↦ (
-            0,
-            let same : (n - 1) / 2 ≡ n / 2 = omega arith in
-                omega (arith, and_step n (n - 1), ap (bit_and (n / 2)) same, and_self (n / 2)),
-          )
-          | no even ↦
-              let less : (n - 1) / 2 ≡ n / 2 - 1 = omega arith in
-              let r = ih (omega arith) (omega (arith, and_step n (n - 1), ap (bit_and (n / 2)) less)) in
-              (suc r.0, omega (arith, r.1))
-        ]
+-- a number with one bit set is a power of two, and a power of two has one
+one_bit : (d w : ℕ) → w ≤ d → ones w ≡ 1 → (k : ℕ) × (w ≡ 2 ^ k)
+one_bit zero w h e = absurd (omega (arith, ones_le_self w))
+one_bit (suc d) w h e =
+    elim (dec_lt 0 (w % 2)) [
+      | yes odd ↦ (0, omega (arith, zero_from_ones (w / 2) (omega (arith, ones_step w))))
+      | no even ↦
+          let r = one_bit d (w / 2) (omega (arith, ones_le_self w)) (omega (arith, ones_step w)) in
+          (suc r.0, omega (arith, r.1, pow-suc 2 r.0))
+    ]
+
+one_set : (k : ℕ) → ones (2 ^ k) ≡ 1
+one_set zero = omega (arith, ones_step 1, ones_le_self 0)
+one_set (suc k) =
+    let half : 2 ^ suc k / 2 ≡ 2 ^ k = omega (arith, pow-suc 2 k) in
+    let even : 2 ^ suc k % 2 ≡ 0 = omega (arith, pow-suc 2 k) in
+    omega (arith, ones_step (2 ^ suc k), ap ones half, one_set k)
 
 -- powers in order have exponents in order
 log_le : (j k : ℕ) → 2 ^ j ≤ 2 ^ k → j ≤ k
@@ -109,15 +109,15 @@ pub too_wide : (d w : ℕ) (later : List ℕ) → valid_depth d ≡ true → lar
 unfolding first_of
 too_wide d w later v h = rw (v, ← width_out w (λ l m. omega arith))
 
-pub width_test : (w : ℕ) → 32 ≤ w → w ≤ largest_width → eqb (bit_and w (w - 1)) 0 ≡ valid_width w
+pub width_test : (w : ℕ) → 32 ≤ w → w ≤ largest_width → eqb (ones w) 1 ≡ valid_width w
 width_test w l h =
-    both_ways (eqb (bit_and w (w - 1)) 0) (valid_width w)
+    both_ways (eqb (ones w) 1) (valid_width w)
     (λ e.
-    let r = one_bit w (omega arith) (eqb-true (bit_and w (w - 1)) 0 e) in
+    let r = one_bit w w (omega arith) (eqb-true (ones w) 1 e) in
     rw r.1 (is_width r.0 (log_le 5 r.0 (rw r.1 at l)) (log_le r.0 largest_log (rw r.1 at h))))
     (λ v.
     let r = width_is w v in
-    eq-eqb (bit_and w (w - 1)) 0 (rw (r.3, and_mask (2 ^ r.0) r.0) (mod_self (2 ^ r.0))))
+    eq-eqb (ones w) 1 (rw r.3 (one_set r.0)))
 
 pub stride_is : (w : ℕ) → stride w ≡ w + w / 8
 unfolding stride

@@ -1,5 +1,5 @@
 -- Lines 1 to 4 of document 01's list: the tests of a call's own arguments. Cited by contracts.
-use Rattle.std.specs.Prelude.{ℕ, Bool, ◌&&◌, [], ◌∷◌, leb, eqb}
+use Rattle.std.specs.Prelude.{ℕ, ◌&&◌, [], ◌∷◌, leb, eqb}
 use Rattle.answer.specs.Numbers.{invalid_depth, invalid_width, wrong_length, invalid_key_length}
 use Rattle.answer.specs.Order.{unless, first_of}
 use Rattle.geometry.specs.Geometry.{valid_depth, valid_width, size}

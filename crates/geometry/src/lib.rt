@@ -2,35 +2,30 @@
 #![tactic(auto)]
 
 ghost use Rattle.std.specs.Prelude.{◌≡◌, true};
+ghost use Rattle.answer.specs.Refusals.{status};
 ghost use Rattle.geometry.specs.Geometry.{valid_depth, valid_width};
 ghost use Rattle.geometry.specs.Geometry as geometry;
 ghost use Rattle.geometry.specs.Checks.{bad_key, bad_shape};
+
+use answer::Refusal;
 
 // The logarithm of the largest width of a row, 16,384.
 pub const LARGEST_LOG: u32 = 14;
 
 pub const MAX_WIDTH: usize = 1 << LARGEST_LOG;
 
+#[tactic(auto, unfolding(crate::specs::Geometry::valid_depth))]
 pub fn valid_depth(d: usize) -> bool
     ensures { result ≡ valid_depth d }
 {
-    if d < 1 {
-        return false;
-    }
-    d <= 8
+    (1..=8).contains(&d)
 }
 
-// Whether a width is a power of two in range: such a number shares no bit with its predecessor.
+// Whether a width is a power of two in range.
 pub fn valid_width(w: usize) -> bool
     ensures { result ≡ valid_width w }
 {
-    if w < 32 {
-        return false;
-    }
-    if MAX_WIDTH < w {
-        return false;
-    }
-    w & (w - 1) == 0
+    (32..=MAX_WIDTH).contains(&w) && w.is_power_of_two()
 }
 
 // The bytes of a row.
@@ -41,31 +36,29 @@ pub fn stride(w: usize) -> usize
     w + w / 8
 }
 
-// What is wrong with a depth, a width and the length of a memory, if anything.
-pub fn bad_shape(d: usize, w: usize, bytes: usize) -> u8
-    ensures { result ≡ bad_shape d w bytes }
+// Whether a depth, a width and the length of a memory are those of a meter.
+pub fn check_shape(d: usize, w: usize, bytes: usize) -> Result<(), Refusal>
+    ensures { status result ≡ bad_shape d w bytes }
 {
     if !valid_depth(d) {
-        return answer::INVALID_DEPTH;
+        return Err(Refusal::InvalidDepth);
     }
     if !valid_width(w) {
-        return answer::INVALID_WIDTH;
+        return Err(Refusal::InvalidWidth);
     }
     if bytes != d * stride(w) {
-        return answer::WRONG_LENGTH;
+        return Err(Refusal::WrongLength);
     }
-    0
+    Ok(())
 }
 
-// What is wrong with the length of a key, if anything.
-pub fn bad_key(bytes: usize) -> u8
-    ensures { result ≡ bad_key bytes }
+// Whether a key has a length that is taken.
+#[tactic(auto, unfolding(answer::specs::Refusals::status, answer::specs::Refusals::number))]
+pub fn check_key(bytes: usize) -> Result<(), Refusal>
+    ensures { status result ≡ bad_key bytes }
 {
-    if bytes < 1 {
-        return answer::INVALID_KEY_LENGTH;
+    if !(1..=64).contains(&bytes) {
+        return Err(Refusal::InvalidKeyLength);
     }
-    if 64 < bytes {
-        return answer::INVALID_KEY_LENGTH;
-    }
-    0
+    Ok(())
 }

@@ -32,8 +32,8 @@ impl Hash {
         ensures { result.state ≡ fnv self.state bytes.now }
     {
         let mut h = self;
-        for i in 0..bytes.len() {
-            h = h.step(bytes[i]);
+        for &byte in bytes {
+            h = h.step(byte);
         }
         h
     }

@@ -12,7 +12,7 @@ use Rattle.geometry.specs.Geometry.{stride, size}
 use Rattle.answer.specs.Order.{unless, first_of}
 use Rattle.geometry.specs.Checks.{bad_shape}
 use Rattle.geometry.proofs.Widths.{Wide, wide, shape_good}
-use Rattle.word.specs.declared.Step.{Step}
+use Rattle.word.specs.Step.{Step}
 use Rattle.image_format.specs.Image.{image}
 use Rattle.image_format.specs.Write.{valid_rows, write_status, finish_write, written}
 use Rattle.image_format.specs.Read.{checked, read_rows, read_answer, finish_read, taken}

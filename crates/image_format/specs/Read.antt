@@ -12,7 +12,7 @@ use Rattle.meter_memory.specs.Rows.{with_group}
 use Rattle.word.specs.Word.{head_kind, end_kind, go, stop, next, payload, tested, below}
 use Rattle.image_format.specs.Image.{layout_kind, count_kind, head_payload, word_count, level_at, is_first}
 use Rattle.image_format.specs.Write.{slot_size, group_size}
-use Rattle.word.specs.declared.Step.{Step}
+use Rattle.word.specs.Step.{Step}
 
 -- The head's bits 9 to 27 are 0; then 10.
 unfoldable pub check_head : ℕ → ℕ → List ℕ → Step

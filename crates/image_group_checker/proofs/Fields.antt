@@ -10,7 +10,7 @@ use lib.Bits.{bit_xor}
 use lib.Dec.{eqb}
 use lib.ListN.{length, get_or}
 use lib.Pow.{pow_pos, pow-add, pow_mono, split, shl-shr}
-use Rattle.word.specs.declared.Step.{Step}
+use Rattle.word.specs.Step.{Step}
 use Rattle.word.specs.Word.{go, next, payload, is_due, tested, below}
 use Rattle.image_format.specs.Image.{count_kind, word_count, level_at, is_first}
 use Rattle.image_format.specs.Write.{group_size}

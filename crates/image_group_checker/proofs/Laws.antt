@@ -2,9 +2,8 @@
 use mathlib.Core.Path.{◌≡◌}
 use mathlib.Core.Bool.{true, false}
 use mathlib.Core.List.{List}
-use Prim.Native.Nat.{ℕ, zero, suc, ◌+◌, ◌-◌, ◌*◌, ◌%◌, ◌^◌, ◌≤◌, ◌<◌}
+use Prim.Native.Nat.{ℕ, suc, ◌+◌, ◌-◌, ◌*◌, ◌%◌, ◌^◌, ◌≤◌, ◌<◌}
 use native.Mathlib.Nat.{one-mul}
-use native.Mathlib.Numerals.{sub-one}
 use native.Mathlib.Decide.{dec_lt}
 use native.Mathlib.Omega.{arith}
 use Rattle.word.specs.Word.{next, below}
@@ -17,10 +16,12 @@ pub up_to : {k j : ℕ} {A : Type 0} → j < k + 1 → (j < k → A) → (j ≡ 
 up_to {k} {j} h f g = elim (dec_lt j k) [ yes l ↦ f l | no l ↦ g (omega arith) ]
 
 -- the words of a counter
-pub check_parts_step : (n : ℕ) (words : List ℕ) (p limit : ℕ) → 0 < n → check_parts n words p limit ≡ next (below words p count_kind limit) (λ q. check_parts (n - 1) words q (2 ^ 24))
+pub check_parts_step : (n i : ℕ) (words : List ℕ) (p limit : ℕ) → i < n
+    → check_parts (n - i) words p limit ≡ next (below words p count_kind limit) (λ q. check_parts (n - (i + 1)) words q (2 ^ 24))
 unfolding check_parts
-check_parts_step zero words p limit h = absurd (omega arith)
-check_parts_step (suc n) words p limit h = rw (sub-one (suc n))
+check_parts_step n i words p limit h =
+    let e : n - i ≡ suc (n - (i + 1)) = omega arith in
+    rw e
 
 pub check_parts_none : (n : ℕ) (words : List ℕ) (p limit : ℕ) → n ≡ 0 → check_parts n words p limit ≡ record { status = 0; position = p }
 unfolding check_parts

@@ -6,8 +6,9 @@ ghost use Rattle.group_codes.specs.Pack.{layouts_of, code_merge};
 ghost use Rattle.image_format.specs.Read.{check_parts, check_slots};
 ghost use Rattle.image_format.specs.Tables.{Fields};
 ghost use Rattle.image_group_checker.specs.Checker.{Counts, Sound};
+ghost use Rattle.word.specs.Step.{step};
 
-use word::{Step, below, differing_bits, go};
+use word::{Fault, Kind, below, differing_bits};
 
 // Whether n words are there and each is a counter of one slot. They are gone through to the last.
 pub fn are_counts(words: &[u32], p: usize, n: usize) -> bool
@@ -21,51 +22,41 @@ pub fn are_counts(words: &[u32], p: usize, n: usize) -> bool
     }
     let mut bits: u32 = 0;
     for i in 0..n {
-        bits = bits | differing_bits(words[p + i], image_format::COUNT);
+        bits = bits | differing_bits(words[p + i], Kind::Count);
     }
     bits < 256
 }
 
 // The n words of a counter, the first of which has a limit of its own.
-fn check_parts(words: &[u32], p: usize, n: u32, limit: u32) -> Step
-    ensures { result ≡ check_parts n words.now p limit }
+fn check_parts(words: &[u32], p: usize, n: u32, limit: u32) -> Result<usize, Fault>
+    ensures { step result ≡ check_parts n words.now p limit }
 {
     let mut at = p;
-    let mut left = n;
     let mut most = limit;
-    while left > 0 {
-        let s = below(words, at, image_format::COUNT, most);
-        if s.status != 0 {
-            return s;
-        }
-        at = s.position;
-        left -= 1;
+    for _ in 0..n {
+        at = below(words, at, Kind::Count, most)?;
         most = 16777216;
     }
-    go(at)
+    Ok(at)
 }
 
 // The words of a group's counters.
-fn check_group(words: &[u32], p: usize, merge: u8) -> Step
-    ensures { result ≡ check_slots 8 0 merge words.now p }
+fn check_group(words: &[u32], p: usize, merge: u8) -> Result<usize, Fault>
+    ensures { step result ≡ check_slots 8 0 merge words.now p }
 {
     let mut at = p;
     let mut k = 0;
     while k < 8 {
         let level = image_format::level_at(merge, k);
-        let s = check_parts(
+        at = check_parts(
             words,
             at,
             image_format::word_count(level),
             1 << image_format::first_bits(level),
-        );
-        if s.status != 0 {
-            return s;
-        }
-        at = s.position;
+        )?;
         k += 1 << level;
     }
-    go(at)
+    Ok(at)
 }
 
 // Whether the words of a group's counters are sound, by the description of its layout. Eight words are looked at, whatever the group has,
@@ -87,20 +78,26 @@ fn are_sound(words: &[u32], p: usize, fields: &[u8], c: usize) -> bool
     let at = 17 * c + 9;
     let mut bits: u32 = 0;
     for i in 0..8 {
-        bits = bits | (differing_bits(words[p + i], image_format::COUNT) >> (fields[at + i] % 32));
+        bits = bits | (differing_bits(words[p + i], Kind::Count) >> (fields[at + i] % 32));
     }
     bits == 0
 }
 
 // The words of the counters of a group with layout code c.
-pub fn check_any(words: &[u32], p: usize, merge: u8, fields: &[u8], c: usize) -> Step
+pub fn check_any(
+    words: &[u32],
+    p: usize,
+    merge: u8,
+    fields: &[u8],
+    c: usize,
+) -> Result<usize, Fault>
     requires fact_1 { c < layouts_of 1 }
     requires fact_2 { merge ≡ code_merge c }
     requires fact_3 { Fields fields.now }
-    ensures { result ≡ check_slots 8 0 merge words.now p }
+    ensures { step result ≡ check_slots 8 0 merge words.now p }
 {
     if are_sound(words, p, fields, c) {
-        return go(p + fields[17 * c] as usize);
+        return Ok(p + fields[17 * c] as usize);
     }
     check_group(words, p, merge)
 }

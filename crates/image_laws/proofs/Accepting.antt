@@ -15,7 +15,7 @@ use Rattle.group.specs.Results.{Reading}
 use Rattle.group.specs.Group.{valid_merge, read, changed}
 use Rattle.group.proofs.Changing.{Good, good_changed, zero_good}
 use Rattle.group_fields.proofs.Readings.{level_most, changed_at, changed_before}
-use Rattle.word.specs.declared.Step.{Step}
+use Rattle.word.specs.Step.{Step}
 use Rattle.word.specs.Word.{go, payload, below}
 use Rattle.word.proofs.Passed.{passed, below_is}
 use Rattle.image_format.specs.Image.{word, count_kind, parts, word_count, level_at, is_first, slot_words, slots_words, group_words}

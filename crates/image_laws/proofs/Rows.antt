@@ -20,7 +20,7 @@ use Rattle.group.proofs.Changing.{Good}
 use Rattle.geometry.specs.Geometry.{stride}
 use Rattle.meter_memory.specs.Rows.{group_at, with_group}
 use Rattle.laws.proofs.Lists.{bytes_drop, bytes_take}
-use Rattle.word.specs.declared.Step.{Step}
+use Rattle.word.specs.Step.{Step}
 use Rattle.word.specs.Word.{go, next, payload}
 use Rattle.image_format.specs.Image.{word, layout_kind, layout_at, group_words, groups_words, four_words, row_words, rows_words}
 use Rattle.image_format.specs.Write.{all_valid, valid_rows, group_size}

@@ -18,7 +18,7 @@ use Rattle.answer.specs.Answers.{accepted, refused, Done}
 use Rattle.answer.specs.Numbers.{bad_payload, bad_word, other_meter}
 use Rattle.geometry.specs.Geometry.{largest_log}
 use Rattle.geometry.specs.Checks.{bad_shape}
-use Rattle.word.specs.declared.Step.{Step}
+use Rattle.word.specs.Step.{Step}
 use Rattle.word.specs.Word.{head_kind, end_kind, go, stop, next, payload, tested, below}
 use Rattle.image_format.specs.Image.{word, head_payload, rows_words, body, end_word, image}
 use Rattle.image_format.specs.Write.{valid_rows, Written, written}

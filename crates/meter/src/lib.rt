@@ -16,9 +16,7 @@ use meter_keys::{key_slots, row_slot};
 pub fn fill(memory: &mut [u8])
     ensures { memory.new ≡ replicate (length memory.old) 0 }
 {
-    for i in 0..memory.len() {
-        memory[i] = 0;
-    }
+    memory.fill(0);
 }
 
 // Clears a meter. Reads no byte of it.

@@ -22,6 +22,10 @@ pub hash_lt : (state r : ℕ) (key : List ℕ) → row_hash state r key < 2 ^ 32
 unfolding fnv fnv_step
 hash_lt state r key = fnv_lt (bit_xor state r * 16777619 % 2 ^ 32) key (mod-lt (bit_xor state r * 16777619) (omega arith))
 
+-- a width has its share of the hashes for each slot
+pub shares : (w : ℕ) → valid_width w ≡ true → 2 ^ 32 % w ≡ 0
+shares w v = (wide w v).shares
+
 pub key_in : (w : ℕ) (key : List ℕ) (r : ℕ) → valid_width w ≡ true → key_slot basis w key r < w
 unfolding key_slot
 key_in w key r v = slot_lt (row_hash basis r key) w (hash_lt basis r key) (wide w v).shares

@@ -4,15 +4,9 @@ use mathlib.Core.List.{List, [], ◌∷◌}
 use Prim.Native.Nat.{ℕ, zero, suc, ◌<◌}
 use native.Mathlib.Omega.{arith}
 use lib.ListN.{get_or}
-use Rattle.hash.specs.Hash.{fnv_step, fnv, row_hash, slot_of}
-use Rattle.meter_keys.specs.Keys.{key_slot}
+use Rattle.hash.specs.Hash.{fnv_step, fnv, row_hash}
 
--- the slot of a hash that took the row number and then the key
-pub lane_slot : (state w : ℕ) (key : List ℕ) (r : ℕ) {s x y : ℕ} → s ≡ slot_of x w → x ≡ fnv y key → y ≡ fnv_step state r → s ≡ key_slot state w key r
-unfolding key_slot fnv
-lane_slot state w key r e f g = e ∙ ap (λ (h : ℕ). slot_of h w) (f ∙ ap (λ (h : ℕ). fnv h key) g)
-
--- that hash
+-- the hash that took the row number and then the key
 pub lane_hash : (state : ℕ) (key : List ℕ) (r : ℕ) {x y : ℕ} → x ≡ fnv y key → y ≡ fnv_step state r → x ≡ row_hash state r key
 unfolding fnv
 lane_hash state key r f g = f ∙ ap (λ (h : ℕ). fnv h key) g

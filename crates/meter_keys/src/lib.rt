@@ -2,69 +2,14 @@
 #![tactic(auto)]
 
 ghost use Rattle.std.specs.Prelude.{◌≡◌, true, ℕ, ◌+◌, ◌<◌, ◌≤◌, get_or};
-ghost use Rattle.hash.specs.Hash.{fnv_step, fnv, row_hash};
+ghost use Rattle.hash.specs.Hash.{row_hash};
 ghost use Rattle.geometry.specs.Geometry.{valid_width};
 ghost use Rattle.meter_keys.specs.Keys.{key_slot};
 
 use hash::Hash;
 
-// The running hashes of four rows.
-#[derive(Clone, Copy)]
-struct Four {
-    a: Hash,
-    b: Hash,
-    c: Hash,
-    d: Hash,
-}
-
-impl Four {
-    // A hash advanced by the numbers of four rows.
-    fn rows(start: Hash, first: u8) -> Four
-        requires { first ≤ 4 }
-        ensures state_value { result.a.state ≡ fnv_step start.state first }
-        ensures state_value_2 { result.b.state ≡ fnv_step start.state (first + 1) }
-        ensures state_value_3 { result.c.state ≡ fnv_step start.state (first + 2) }
-        ensures state_value_4 { result.d.state ≡ fnv_step start.state (first + 3) }
-    {
-        Four {
-            a: start.step(first),
-            b: start.step(first + 1),
-            c: start.step(first + 2),
-            d: start.step(first + 3),
-        }
-    }
-
-    // Each hash advanced by a byte.
-    fn step(self, byte: u8) -> Four
-        ensures state_value { result.a.state ≡ fnv_step self.a.state byte }
-        ensures state_value_2 { result.b.state ≡ fnv_step self.b.state byte }
-        ensures state_value_3 { result.c.state ≡ fnv_step self.c.state byte }
-        ensures state_value_4 { result.d.state ≡ fnv_step self.d.state byte }
-    {
-        Four {
-            a: self.a.step(byte),
-            b: self.b.step(byte),
-            c: self.c.step(byte),
-            d: self.d.step(byte),
-        }
-    }
-
-    // Each hash advanced by a run of bytes.
-    fn run(self, bytes: &[u8]) -> Four
-        ensures state_value { result.a.state ≡ fnv self.a.state bytes.now }
-        ensures state_value_2 { result.b.state ≡ fnv self.b.state bytes.now }
-        ensures state_value_3 { result.c.state ≡ fnv self.c.state bytes.now }
-        ensures state_value_4 { result.d.state ≡ fnv self.d.state bytes.now }
-    {
-        let mut h = self;
-        for i in 0..bytes.len() {
-            h = h.step(bytes[i]);
-        }
-        h
-    }
-}
-
 // The slot of a key in row r, by a hash that goes on from `start`.
+#[tactic(auto, using(crate::proofs::Landing::shares))]
 pub fn row_slot(start: Hash, w: usize, key: &[u8], r: u8) -> usize
     requires { valid_width w ≡ true }
     ensures value { result ≡ key_slot start.state w key.now r }
@@ -74,18 +19,43 @@ pub fn row_slot(start: Hash, w: usize, key: &[u8], r: u8) -> usize
     hash::scaled(h.state, w)
 }
 
+// The hashes of a key in four rows. As numbers of 32 bits side by side the compiler would advance them in a vector register, which is slower:
+// SSE2 has no product of four of them.
+fn four_hashes(start: Hash, key: &[u8], first: u8) -> [usize; 4]
+    requires { first ≤ 4 }
+    ensures { (r : ℕ) → r < 4 → get_or result r 0 ≡ row_hash start.state (first + r) key.now }
+{
+    let mut a = start.step(first);
+    let mut b = start.step(first + 1);
+    let mut c = start.step(first + 2);
+    let mut d = start.step(first + 3);
+    for &byte in key {
+        a = a.step(byte);
+        b = b.step(byte);
+        c = c.step(byte);
+        d = d.step(byte);
+    }
+    [
+        a.state as usize,
+        b.state as usize,
+        c.state as usize,
+        d.state as usize,
+    ]
+}
+
 // The slots of a key in four rows.
+#[tactic(auto, using(crate::proofs::Landing::shares))]
 fn four_slots(start: Hash, w: usize, key: &[u8], first: u8) -> [usize; 4]
     requires fact_1 { valid_width w ≡ true }
     requires fact_2 { first ≤ 4 }
     ensures by_index { (r : ℕ) → r < 4 → get_or result r 0 ≡ key_slot start.state w key.now (first + r) }
     ensures by_index_2 { (r : ℕ) → r < 4 → get_or result r 0 < w }
 {
-    let h = Four::rows(start, first).run(key);
-    let a = hash::scaled(h.a.state, w);
-    let b = hash::scaled(h.b.state, w);
-    let c = hash::scaled(h.c.state, w);
-    let d = hash::scaled(h.d.state, w);
+    let h = four_hashes(start, key, first);
+    let a = hash::scaled(h[0] as u32, w);
+    let b = hash::scaled(h[1] as u32, w);
+    let c = hash::scaled(h[2] as u32, w);
+    let d = hash::scaled(h[3] as u32, w);
     [a, b, c, d]
 }
 
@@ -104,20 +74,6 @@ pub fn key_slots(start: Hash, w: usize, key: &[u8], d: usize) -> [usize; 8]
     [
         low[0], low[1], low[2], low[3], high[0], high[1], high[2], high[3],
     ]
-}
-
-// The hashes of a key in four rows. As numbers of 32 bits side by side the compiler would advance them in a vector register, which is slower:
-// SSE2 has no product of four of them.
-fn four_hashes(start: Hash, key: &[u8], first: u8) -> [usize; 4]
-    requires { first ≤ 4 }
-    ensures { (r : ℕ) → r < 4 → get_or result r 0 ≡ row_hash start.state (first + r) key.now }
-{
-    let h = Four::rows(start, first).run(key);
-    let a = h.a.state as usize;
-    let b = h.b.state as usize;
-    let c = h.c.state as usize;
-    let d = h.d.state as usize;
-    [a, b, c, d]
 }
 
 // The hashes of a key in the first d rows.

@@ -25,11 +25,7 @@ pub fn eight(s: &[u8], at: usize) -> [u8; 8]
     requires { at + 8 ≤ length s.now }
     ensures { result ≡ take 8 (drop at s.now) }
 {
-    let mut x = [0u8; 8];
-    for i in 0..8 {
-        x[i] = s[at + i];
-    }
-    x
+    s[at..at + 8].try_into().unwrap()
 }
 
 // Eight bytes stored from `at` on.
@@ -37,12 +33,11 @@ pub fn put_eight(s: &mut [u8], at: usize, x: [u8; 8])
     requires { at + 8 ≤ length s.old }
     ensures { s.new ≡ take at s.old ++ x ++ drop (at + 8) s.old }
 {
-    for i in 0..8 {
-        s[at + i] = x[i];
-    }
+    s[at..at + 8].copy_from_slice(&x);
 }
 
 // Group g of a row.
+#[tactic(auto, unfolding(crate::specs::Rows::group_at))]
 pub fn load(row: &[u8], w: usize, g: usize) -> Group
     requires fact_1 { 8 * g + 8 ≤ w }
     requires fact_2 { w + g < length row.now }
@@ -54,12 +49,12 @@ pub fn load(row: &[u8], w: usize, g: usize) -> Group
     }
 }
 
+#[tactic(auto, unfolding(crate::specs::Rows::with_group))]
 pub fn store(row: &mut [u8], w: usize, g: usize, x: Group)
     requires fact_1 { 8 * g + 8 ≤ w }
     requires fact_2 { w + g < length row.old }
     ensures { row.new ≡ with_group w row.old g x }
 {
-    let counts = x.counts;
-    put_eight(row, 8 * g, counts);
+    put_eight(row, 8 * g, x.counts);
     row[w + g] = x.merge;
 }

@@ -9,6 +9,11 @@ use lib.Dec.{eqb}
 use lib.IntN.{ℤ, pos}
 use lib.ListN.{length, get_or, take, drop, replicate}
 use Rattle.hash.specs.Hash.{basis, row_hash}
+use Rattle.std.specs.Prelude.{Result, Ok, Err, ⊤, IsErrAnd}
+use Rattle.std.specs.Result.{result_and}
+use Rattle.answer.specs.declared.Refusal.{Refusal}
+use Rattle.answer.specs.Refusals.{number, status}
+use Rattle.answer.proofs.Refusals.{no_number, err_is}
 use Rattle.answer.specs.Answers.{answer_of, finish, leaves}
 use Rattle.answer.specs.Order.{first_of, earliest}
 use Rattle.answer.proofs.Order.{first_one, first_stop, first_skip}
@@ -21,13 +26,29 @@ use Rattle.meter_memory.proofs.Agree.{reads_same, maps_same}
 use Rattle.signed_median.specs.Median.{median}
 use Rattle.signed_row.specs.Row.{update_status, update_row, read_row, read_status, row_figure, source_status, source_combined}
 use Rattle.signed_row.specs.Hashes.{added_by, stored_by, added_status, hash_added, read_by, figure_by, hash_status, hash_figure}
-use Rattle.signed.specs.Signed.{bad_shape, bad_call, cleared, updated, estimated, signed_answer, combined_meters}
+use Rattle.signed.specs.Signed.{bad_shape, bad_call, cleared, updated, estimated, signed_answer, signed_told, combined_meters}
 use Rattle.signed.proofs.Tests.{shape_rows}
 
 pub signed_bad : (s : ℕ) (v : ℤ) → (s ≡ 0 → ⊥) → signed_answer s (pos 0) ≡ signed_answer s v
 unfolding signed_answer
 signed_bad zero v h = absurd (h refl)
 signed_bad (suc s) v h = refl
+
+signed_refused : (s : ℕ) (v : ℤ) → (s ≡ 0 → ⊥) → record { status = s; position = 0; value = pos 0 } ≡ signed_answer s v
+unfolding signed_answer
+signed_refused zero v h = absurd (h refl)
+signed_refused (suc s) v h = refl
+
+-- an answer by a result is one by its status
+pub signed_told_is : (r : Result ⊤ Refusal) (v : ℤ) → signed_told (result_and r (Ok v)) ≡ signed_answer (status r) v
+unfolding signed_told status signed_answer
+signed_told_is (Ok x) v = refl
+signed_told_is (Err x) v = signed_refused (number x) v (no_number x)
+
+-- and where a refusal was handed on by `?`
+pub signed_handed : (A : Type 0) (x : Refusal) (n : ℕ) → status {A = A} (Err x) ≡ n → (r : Result ℤ Refusal) → IsErrAnd r (λ y. y ≡ x) → signed_told r ≡ signed_answer n (pos 0)
+unfolding signed_told status
+signed_handed A x n e r h = rw (err_is r x h) (signed_refused (number x) (pos 0) (no_number x) ∙ ap (λ (s : ℕ). signed_answer s (pos 0)) e)
 
 -- what is read and written by the hashes of the rows is by the key
 module _ (d w : ℕ) (memory key hashes : List ℕ) {state : ℕ} (start : state ≡ basis) (are : (r : ℕ) → r < d → get_or hashes r 0 ≡ row_hash state r key) where

@@ -1,6 +1,8 @@
 -- A signed meter's calls. Document 02, request 3. Cited by contracts and theorems.
-use Rattle.std.specs.Prelude.{ℕ, zero, suc, ◌%◌, Bool, true, false, List, [], ◌∷◌, eqb, length, replicate, ℤ, pos}
+use Rattle.std.specs.Prelude.{ℕ, zero, suc, ◌%◌, Bool, true, false, List, [], ◌∷◌, eqb, length, replicate, ℤ, pos, Result, Ok, Err}
 use Rattle.answer.specs.Numbers.{even_depth}
+use Rattle.answer.specs.declared.Refusal.{Refusal}
+use Rattle.answer.specs.Refusals.{number}
 use Rattle.answer.specs.Answers.{Done, finish}
 use Rattle.answer.specs.Order.{unless, first_of, earliest}
 use Rattle.hash.specs.Hash.{basis}
@@ -36,6 +38,11 @@ updated d w memory key amount =
 unfoldable pub signed_answer : ℕ → ℤ → SignedAnswer
 signed_answer zero value = record { status = 0; position = 0; value = value }
 signed_answer (suc s) value = record { status = suc s; position = 0; value = pos 0 }
+
+-- and by the result of a call: with its figure, or with 0 where it has none
+unfoldable pub signed_told : Result ℤ Refusal → SignedAnswer
+signed_told (Ok value) = record { status = 0; position = 0; value = value }
+signed_told (Err r) = record { status = number r; position = 0; value = pos 0 }
 
 -- An estimate is the median of the rows' figures.
 unfoldable pub estimated : ℕ → ℕ → List ℕ → List ℕ → SignedAnswer

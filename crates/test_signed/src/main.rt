@@ -54,7 +54,7 @@ fn show_signed(out: Stdout, a: SignedAnswer) -> io::Result<()> {
 
 fn clear(out: Stdout, d: usize, w: usize, memory: &mut [u8]) -> io::Result<()> {
     text(out, "clear")?;
-    show(out, signed::clear(d, w, memory), memory)
+    show(out, Answer::from(signed::clear(d, w, memory)), memory)
 }
 
 fn update(
@@ -66,22 +66,34 @@ fn update(
     amount: i32,
 ) -> io::Result<()> {
     text(out, "update")?;
-    show(out, signed::update(d, w, memory, key, amount), memory)
+    show(
+        out,
+        Answer::from(signed::update(d, w, memory, key, amount)),
+        memory,
+    )
 }
 
 fn estimate(out: Stdout, d: usize, w: usize, memory: &[u8], key: &[u8]) -> io::Result<()> {
     text(out, "estimate")?;
-    show_signed(out, signed::estimate(d, w, memory, key))
+    show_signed(out, SignedAnswer::from(signed::estimate(d, w, memory, key)))
 }
 
 fn unite(out: Stdout, d: usize, w: usize, memory: &mut [u8], source: &[u8]) -> io::Result<()> {
     text(out, "unite")?;
-    show(out, signed::unite(d, w, memory, source), memory)
+    show(
+        out,
+        Answer::from(signed::unite(d, w, memory, source)),
+        memory,
+    )
 }
 
 fn subtract(out: Stdout, d: usize, w: usize, memory: &mut [u8], source: &[u8]) -> io::Result<()> {
     text(out, "subtract")?;
-    show(out, signed::subtract(d, w, memory, source), memory)
+    show(
+        out,
+        Answer::from(signed::subtract(d, w, memory, source)),
+        memory,
+    )
 }
 // Functions are short, since the check of one costs more than its length.
 fn one(out: Stdout, m: &mut [u8], key: &[u8], amount: i32) -> io::Result<()> {

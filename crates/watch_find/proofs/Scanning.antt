@@ -4,7 +4,6 @@ use mathlib.Core.Bool.{true, false, cond}
 use mathlib.Core.List.{List}
 use Prim.Native.Nat.{ℕ, zero, suc, ◌+◌, ◌-◌, ◌≤◌, ◌<◌}
 use native.Mathlib.Numerals.{add-one}
-use native.Mathlib.Decide.{dec_lt}
 use native.Mathlib.Omega.{arith}
 use Rattle.meter_keys.specs.Keys.{same_key}
 use Rattle.watch_list.specs.Layout.{place_at, places_from}
@@ -26,14 +25,6 @@ module _ (key xs : List ℕ) (n k : ℕ) (h : k < n) where
   index_past e = rw (index_next, e) (omega arith)
 
 -- several places passed at once
-pub both_differ : (key xs : List ℕ) (k n m : ℕ) → AllDiffer xs k n key → AllDiffer xs (k + n) m key → AllDiffer xs k (n + m) key
-both_differ key xs k n m f g = λ j h. elim (dec_lt j n) [
-  | yes l ↦ f j l
-  | no l ↦
-      let e : k + n + (j - n) ≡ k + j = omega arith in
-      rw e at (g (j - n) (omega arith))
-]
-
 pub skip : (key xs : List ℕ) (n k m : ℕ) → k + m ≤ n → AllDiffer xs k m key
     → k + index_of key (places_from xs (n - k) k) ≡ k + m + index_of key (places_from xs (n - (k + m)) (k + m))
 skip key xs n k zero h f = let e : k + 0 ≡ k = omega arith in rw e

@@ -1,38 +1,29 @@
--- Laws of keys compared by words and bytes, of digests, and of the key of a place.
-use mathlib.Core.Path.{◌≡◌, sym, ap, ◌∙◌}
+-- Laws of keys compared as slices, of digests, and of the key of a place.
+use mathlib.Core.Path.{◌≡◌, refl, sym, ap, ◌∙◌}
 use mathlib.Core.Bool.{false}
-use mathlib.Core.List.{List}
+use mathlib.Core.List.{List, [], ◌∷◌}
+use lib.Dec.{eqb}
+use lib.Pointwise.{pointwise}
 use Prim.Native.Nat.{ℕ, ◌+◌, ◌-◌, ◌*◌, ◌≤◌, ◌<◌}
-use native.Mathlib.Numerals.{add-one}
 use native.Mathlib.Decide.{ℕ_discrete, dec_le}
 use native.Mathlib.Omega.{arith}
 use borrow.Author.Tests.{le-leb, lt-leb}
 use lib.ListN.{length, get_or, take, drop, length-take, length-drop}
-use lib.Seq.{drop-drop, take-add, take-take, take-suc, get_or-take, get_or-drop}
-use Rattle.laws.proofs.Lists.{Bytes, bytes_take, bytes_drop, drop_take}
-use Rattle.little_endian.specs.Bytes.{number, bytes}
-use Rattle.little_endian.proofs.Bytes.{bytes_number}
+use lib.Seq.{drop-drop, take-take, get_or-take, get_or-drop}
+use Rattle.laws.proofs.Lists.{drop_take}
 use Rattle.meter_keys.specs.Keys.{same_key}
 use Rattle.meter_keys.proofs.Same.{key_differs}
 use Rattle.watch_list.specs.Layout.{keys_at, list_size, key_bytes, place_at}
 use Rattle.watch_list.specs.Parts.{KeyLong}
 use Rattle.watch_key.specs.Digest.{digest_of}
 
--- two lists that agree so far, by words of eight bytes and by bytes
-module _ (xs ys : List ℕ) (long : length xs ≡ length ys) (at : ℕ) where
-  word_same : at + 8 ≤ length xs → Bytes xs → Bytes ys → number (take 8 (drop at xs)) ≡ number (take 8 (drop at ys)) → take 8 (drop at xs) ≡ take 8 (drop at ys)
-  word_same h b c e =
-      let p : length (take 8 (drop at xs)) ≡ 8 = omega (arith, length-take 8 (drop at xs), length-drop at xs) in
-      let q : length (take 8 (drop at ys)) ≡ 8 = omega (arith, length-take 8 (drop at ys), length-drop at ys) in
-      sym (rw p at (bytes_number (take 8 (drop at xs)) (bytes_take 8 (drop at xs) (bytes_drop at xs b))))
-      ∙ ap (bytes 8) e
-      ∙ rw q at (bytes_number (take 8 (drop at ys)) (bytes_take 8 (drop at ys) (bytes_drop at ys c)))
-
-  pub word_turn : at + 8 ≤ length xs → Bytes xs → Bytes ys → take at xs ≡ take at ys → number (take 8 (drop at xs)) ≡ number (take 8 (drop at ys)) → take (at + 8) xs ≡ take (at + 8) ys
-  word_turn h b c e w = rw (take-add at 8 xs, take-add at 8 ys, e, word_same h b c w)
-
-  pub byte_turn : at < length xs → take at xs ≡ take at ys → get_or xs at 0 ≡ get_or ys at 0 → take (at + 1) xs ≡ take (at + 1) ys
-  byte_turn h e w = rw (add-one at, take-suc xs at 0 h, take-suc ys at 0 (omega arith), e, w)
+-- keys compared as slices
+pub same_key_is : (xs ys : List ℕ) → pointwise eqb xs ys ≡ same_key xs ys
+unfolding same_key
+same_key_is [] [] = refl
+same_key_is [] (y ∷ ys) = refl
+same_key_is (x ∷ xs) [] = refl
+same_key_is (x ∷ xs) (y ∷ ys) = rw (same_key_is xs ys)
 
 -- the digest of bytes amid others is theirs alone
 digest_same : (xs : List ℕ) (a n : ℕ) → 1 ≤ n → digest_of xs a n ≡ digest_of (take n (drop a xs)) 0 n

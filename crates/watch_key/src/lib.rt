@@ -18,25 +18,6 @@ fn word_at(bytes: &[u8], at: usize) -> u64
     number_of(eight(bytes, at))
 }
 
-// Whether two keys of one length are the same: by words of eight bytes, then by the bytes that are left.
-fn same_bytes(a: &[u8], b: &[u8]) -> bool
-    requires { length a.now ≡ length b.now }
-    ensures { result ≡ same_key a.now b.now }
-{
-    let words = a.len() / 8;
-    for i in 0..words {
-        if word_at(a, i * 8) != word_at(b, i * 8) {
-            return false;
-        }
-    }
-    for i in words * 8..a.len() {
-        if a[i] != b[i] {
-            return false;
-        }
-    }
-    true
-}
-
 // Whether a place in use has a key.
 pub fn has_key(list: &[u8], k: usize, key: &[u8]) -> bool
     requires fact_1 { length list.now ≡ list_size }
@@ -45,19 +26,12 @@ pub fn has_key(list: &[u8], k: usize, key: &[u8]) -> bool
     ensures { result ≡ same_key (place_at list.now k).key key.now }
 {
     let size = key.len();
-    if wide(list[k]) != size {
+    if usize::from(list[k]) != size {
         return false;
     }
     let start = 65 + k * 64;
     let end = start + size;
-    same_bytes(&list[start..end], key)
-}
-
-// Two bytes as one number.
-fn pair(low: u8, high: u8) -> u64
-    ensures { result ≡ low + 256 * high }
-{
-    low as u64 + 256 * (high as u64)
+    &list[start..end] == key
 }
 
 // What is looked at first of a key: its first and its last eight bytes, each as a number, in one; else its last two, else its only one.
@@ -70,13 +44,7 @@ pub fn digest(bytes: &[u8], start: usize, size: usize) -> u64
         return word_at(bytes, start) ^ word_at(bytes, end - 8);
     }
     if size >= 2 {
-        return pair(bytes[end - 2], bytes[end - 1]);
+        return u64::from(u16::from_le_bytes([bytes[end - 2], bytes[end - 1]]));
     }
-    pair(bytes[end - 1], 0)
-}
-
-fn wide(n: u8) -> usize
-    ensures { result ≡ n }
-{
-    n as usize
+    u64::from(bytes[end - 1])
 }

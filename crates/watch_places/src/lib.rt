@@ -1,7 +1,7 @@
 // Changes of a watch list in its bytes: renewing, joining, the mark, taking off.
 #![tactic(auto)]
 
-ghost use Rattle.std.specs.Prelude.{◌≡◌, ◌++◌, ◌+◌, ◌-◌, ◌<◌, ◌≤◌, length, get_or, replicate};
+ghost use Rattle.std.specs.Prelude.{◌≡◌, ◌++◌, ◌+◌, ◌-◌, ◌<◌, ◌≤◌, length, replicate};
 ghost use Rattle.watch_list.specs.List.{joining, noted, taken_off};
 ghost use Rattle.watch_list.specs.Layout.{list_size, encode, decode};
 ghost use Rattle.watch_list.specs.Parts.{Holds, KeyLong, put, closed, put_place, closed_place};
@@ -10,22 +10,15 @@ use little_endian::bytes_of;
 use meter_memory::put_eight;
 use watch_find::find;
 
-// A byte, and 0 past the last.
-fn or_zero(bytes: &[u8], i: usize) -> u8
-    ensures { result ≡ get_or bytes.now i 0 }
-{
-    if i < bytes.len() { bytes[i] } else { 0 }
-}
-
 // A key and zeros after it, 64 bytes in all, put from `at` on.
 fn put_key(list: &mut [u8], at: usize, key: &[u8])
     requires fact_1 { at + 64 ≤ length list.old }
     requires fact_2 { length key.now ≤ 64 }
     ensures { list.new ≡ put list.old at (key.now ++ replicate (64 - length key.now) 0) }
 {
-    for i in 0..64 {
-        list[at + i] = or_zero(key, i);
-    }
+    let end = at + key.len();
+    list[at..end].copy_from_slice(key);
+    list[end..at + 64].fill(0);
 }
 
 // A key joins at place n.
@@ -47,9 +40,8 @@ fn close(list: &mut [u8], at: usize, end: usize, width: usize)
     requires fact_3 { end ≤ length list.old }
     ensures { list.new ≡ closed list.old at end width }
 {
-    for i in at..end {
-        list[i] = or_zero(&list[0..end], i + width);
-    }
+    list.copy_within(at + width..end, at);
+    list[end - width..end].fill(0);
 }
 
 // Place i of the n in use taken out.
@@ -69,8 +61,7 @@ pub fn note(list: &mut [u8], n: usize, key: &[u8], estimate: u64, threshold: u64
     requires fact_2 { KeyLong key.now }
     ensures { list.new ≡ encode (noted key.now estimate threshold (decode list.old)) }
 {
-    let i = find(list, n, key);
-    if i < n {
+    if let Some(i) = find(list, n, key) {
         put_eight(list, 4161 + i * 8, bytes_of(estimate));
         return;
     }
@@ -90,8 +81,7 @@ pub fn take_off(list: &mut [u8], n: usize, key: &[u8])
     requires fact_2 { KeyLong key.now }
     ensures { list.new ≡ encode (taken_off key.now (decode list.old)) }
 {
-    let i = find(list, n, key);
-    if i < n {
+    if let Some(i) = find(list, n, key) {
         remove(list, i, n);
     }
 }

@@ -16,10 +16,11 @@ fn longest_key(k: u8, n: u8) -> u8
 }
 
 // Whether a byte is above a bound: 1 or 0.
+#[tactic(auto, unfolding(crate::specs::Lengths::above_at))]
 fn above(byte: u8, bound: u8) -> u8
     ensures { (result ≡ above_at bound byte) × (result ≤ 1) }
 {
-    if bound < byte { 1 } else { 0 }
+    (bound < byte) as u8
 }
 
 // How many of 64 keys are too long if n places are in use. Without a branch, so that the compiler takes many at once.
@@ -29,13 +30,14 @@ fn too_long(lengths: &[u8], n: u8) -> u8
     ensures { (result ≡ too_long n lengths.now) × (result ≤ 64) }
 {
     let mut count = 0u8;
-    for k in 0..64 {
-        count = count + above(lengths[k], longest_key(k as u8, n));
+    for (k, &length) in lengths.iter().enumerate() {
+        count += above(length, longest_key(k as u8, n));
     }
     count
 }
 
-// Whether a list is sound, and how many of its places have a key; in a sound list these come first.
+// Whether a list is sound, and how many of its places have a key; in a sound list these come first. Both are promised of every list, which
+// an `Option` of the places would not say.
 #[derive(Clone, Copy)]
 pub struct Usage {
     pub sound: bool,

@@ -11,7 +11,7 @@ use lib.Dec.{eqb, ltb}
 use lib.ListN.{length, take, length-take}
 use lib.Seq.{get_or-take}
 use Rattle.answer.specs.Numbers.{bad_payload, bad_word}
-use Rattle.word.specs.declared.Step.{Step}
+use Rattle.word.specs.Step.{Step}
 use Rattle.word.specs.Word.{go, stop, next, payload, is_due, tested, below}
 use Rattle.word.proofs.Laws.{due_in}
 use Rattle.word.proofs.Places.{Ahead}

@@ -7,7 +7,7 @@ use native.Mathlib.Omega.{arith}
 use lib.Dec.{eqb, ltb}
 use lib.ListN.{length, get_or}
 use borrow.Author.Tests.{ltb-true, eq-eqb, ne_eqb}
-use Rattle.word.specs.declared.Step.{Step}
+use Rattle.word.specs.Step.{Step}
 use Rattle.answer.specs.Numbers.{bad_word}
 use Rattle.word.specs.Word.{go, stop, is_due, next, tested}
 

@@ -8,7 +8,7 @@ use borrow.Table.Steps.{cases}
 use lib.Dec.{eqb, ltb}
 use lib.ListN.{length}
 use Rattle.answer.specs.Numbers.{bad_payload, bad_word}
-use Rattle.word.specs.declared.Step.{Step}
+use Rattle.word.specs.Step.{Step}
 use Rattle.word.specs.Word.{go, stop, next, payload, is_due, tested, below}
 use Rattle.word.proofs.Laws.{due_in}
 

@@ -2,7 +2,7 @@
 -- order'.
 use Rattle.std.specs.Prelude.{ℕ, ◌+◌, ◌/◌, ◌%◌, ◌^◌, Bool, cond, ◌&&◌, List, eqb, ltb, length, get_or}
 use Rattle.answer.specs.Numbers.{bad_payload, bad_word}
-use Rattle.word.specs.declared.Step.{Step}
+use Rattle.word.specs.Step.{Step}
 
 -- the kinds that images and feeds share
 abbrev pub head_kind : ℕ
@@ -11,7 +11,7 @@ head_kind = 1
 abbrev pub end_kind : ℕ
 end_kind = 4
 
--- what is wrong with the first faulty word and where it is; or status 0 and the position to read on from
+-- read on from a position; and a fault at a position
 abbrev pub go : ℕ → Step
 go p = record { status = 0; position = p }
 

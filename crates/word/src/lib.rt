@@ -4,9 +4,44 @@
 
 ghost use Rattle.std.specs.Prelude.{◌≡◌, ◌*◌, ◌^◌, ◌<◌};
 ghost use Rattle.std.specs.Int.Bits.{bit_xor};
+ghost use Rattle.answer.specs.Refusals.{number};
+ghost use Rattle.word.specs.Kinds.{code};
+ghost use Rattle.word.specs.Step.{step};
 ghost use Rattle.word.specs.Word as spec;
 
-// The kinds that images and feeds share.
+use answer::Refusal;
+
+// The kinds of words, of images and of feeds.
+#[derive(Clone, Copy, Debug, PartialEq, Eq)]
+pub enum Kind {
+    Head,
+    Layout,
+    Count,
+    End,
+    Update,
+    Query,
+    Key,
+    Amount,
+}
+
+impl Kind {
+    // Its number in a word's top four bits.
+    pub fn code(self) -> u32
+        ensures { result ≡ code self }
+    {
+        match self {
+            Kind::Head => 1,
+            Kind::Layout => 2,
+            Kind::Count => 3,
+            Kind::End => 4,
+            Kind::Update => 5,
+            Kind::Query => 6,
+            Kind::Key => 7,
+            Kind::Amount => 8,
+        }
+    }
+}
+
 pub const HEAD: u32 = 1;
 
 pub const END: u32 = 4;
@@ -14,26 +49,11 @@ pub const END: u32 = 4;
 // How many payloads there are. A number of words counts by its remainder by this.
 pub const PAYLOADS: usize = 1 << 28;
 
-// A fault and its position; or status 0 and the position to read on from.
-#[derive(Clone, Copy)]
-pub struct Step {
-    pub status: u8,
+// What is wrong with the first faulty word, and its position.
+#[derive(Clone, Copy, Debug, PartialEq, Eq)]
+pub struct Fault {
+    pub refusal: Refusal,
     pub position: usize,
-}
-
-pub fn go(position: usize) -> Step
-    ensures { result ≡ spec.go position }
-{
-    Step {
-        status: 0,
-        position,
-    }
-}
-
-pub fn stop(status: u8, position: usize) -> Step
-    ensures { result ≡ spec.stop status position }
-{
-    Step { status, position }
 }
 
 // The payload of the word at a position, or 0.
@@ -48,50 +68,67 @@ pub fn payload(words: &[u32], p: usize) -> u32
 }
 
 // Whether a word is there and has the kind that is due.
-pub fn is_due(words: &[u32], p: usize, kind: u32) -> bool
-    ensures { result ≡ spec.is_due words.now p kind }
+#[tactic(auto, unfolding(crate::specs::Word::is_due))]
+pub fn is_due(words: &[u32], p: usize, kind: Kind) -> bool
+    ensures { result ≡ spec.is_due words.now p (code kind) }
 {
     if p < words.len() {
-        return words[p] >> 28 == kind;
+        return words[p] >> 28 == kind.code();
     }
     false
 }
 
-// A word of a kind whose payload passes a test, or the status of the failed test.
-pub fn tested(words: &[u32], p: usize, kind: u32, holds: bool, status: u8) -> Step
-    ensures { result ≡ spec.tested words.now p kind holds status }
+// The position after a word of a kind whose payload passes a test, or what the failed test refuses.
+#[tactic(auto, unfolding(crate::specs::Word::tested, answer::specs::Refusals::number), using(crate::proofs::Laws::due_in))]
+pub fn tested(
+    words: &[u32],
+    p: usize,
+    kind: Kind,
+    holds: bool,
+    refusal: Refusal,
+) -> Result<usize, Fault>
+    ensures { step result ≡ spec.tested words.now p (code kind) holds (number refusal) }
 {
     if !is_due(words, p, kind) {
-        return stop(answer::BAD_WORD, p);
+        return Err(Fault {
+            refusal: Refusal::BadWord,
+            position: p,
+        });
     }
     if !holds {
-        return stop(status, p);
+        return Err(Fault {
+            refusal,
+            position: p,
+        });
     }
-    go(p + 1)
+    Ok(p + 1)
 }
 
-// A word of a kind with a payload below a limit. The kind is tested first: the compiled code then checks
+// The position after a word of a kind with a payload below a limit. The kind is tested first: the compiled code then checks
 // the position and reads the word once.
-pub fn below(words: &[u32], p: usize, kind: u32, limit: u32) -> Step
-    ensures { result ≡ spec.below words.now p kind limit }
+#[tactic(auto, unfolding(crate::specs::Word::below, answer::specs::Refusals::number), using(crate::proofs::Laws::not_due))]
+pub fn below(words: &[u32], p: usize, kind: Kind, limit: u32) -> Result<usize, Fault>
+    ensures { step result ≡ spec.below words.now p (code kind) limit }
 {
     if !is_due(words, p, kind) {
-        return stop(answer::BAD_WORD, p);
+        return Err(Fault {
+            refusal: Refusal::BadWord,
+            position: p,
+        });
     }
     tested(
         words,
         p,
         kind,
         payload(words, p) < limit,
-        answer::BAD_PAYLOAD,
+        Refusal::BadPayload,
     )
 }
 
 // The bits in which a word differs from the word of a kind with payload 0: its payload, if it is of that kind, and else bits above any
 // payload too. Words tested one after another with no exit between them are tested by this.
-pub fn differing_bits(word: u32, kind: u32) -> u32
-    requires { kind < 2 ^ 4 }
-    ensures { result ≡ bit_xor word (kind * 2 ^ 28) }
+pub fn differing_bits(word: u32, kind: Kind) -> u32
+    ensures { result ≡ bit_xor word (code kind * 2 ^ 28) }
 {
-    word ^ (kind << 28)
+    word ^ (kind.code() << 28)
 }

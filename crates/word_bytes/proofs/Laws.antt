@@ -1,11 +1,13 @@
 -- Laws of words from bytes that the code's proofs and the lines of a whole feed use.
 use mathlib.Core.Path.{◌≡◌, refl, sym, ap, ◌∙◌}
 use mathlib.Core.List.{List, [], ◌∷◌, ◌++◌}
-use Prim.Native.Nat.{ℕ, zero, suc, ◌+◌, ◌*◌, ◌/◌, ◌≤◌, min}
+use Prim.Native.Nat.{ℕ, zero, suc, ◌+◌, ◌*◌, ◌/◌, ◌≤◌, ◌<◌, min}
 use native.Mathlib.Omega.{arith}
 use native.Mathlib.Decide.{dec_lt}
 use lib.ListN.{length, get_or, take, drop}
 use lib.Seq.{take_at, take_all, length-take-le}
+use Rattle.std.specs.List.{slice_index}
+use Rattle.std.specs.Simd.{first_chunks}
 use Rattle.word_bytes.specs.Words.{word_of, whole_words}
 
 pub words_length : (bytes : List ℕ) → length (whole_words bytes) ≡ length bytes / 4
@@ -16,20 +18,18 @@ words_length (a ∷ b ∷ []) = refl
 words_length (a ∷ b ∷ c ∷ []) = refl
 words_length (a ∷ b ∷ c ∷ d ∷ bytes) = omega (arith, words_length bytes)
 
-pub word_at : (bytes : List ℕ) (i : ℕ) → 4 * i + 4 ≤ length bytes
-    → get_or (whole_words bytes) i 0 ≡ word_of (get_or bytes (4 * i) 0) (get_or bytes (4 * i + 1) 0) (get_or bytes (4 * i + 2) 0) (get_or bytes (4 * i + 3) 0)
+-- word i of a run of bytes, by its four bytes
+pub chunk_word : (k i : ℕ) (bytes : List ℕ) → i < k → 4 * k ≤ length bytes →
+    let c = get_or (first_chunks 4 k bytes) i [] in
+    get_or (whole_words bytes) i 0 ≡ slice_index c 0 * 16777216 + slice_index c 1 * 65536 + slice_index c 2 * 256 + slice_index c 3
 unfolding whole_words
-word_at [] i h = absurd (omega arith)
-word_at (a ∷ []) i h = absurd (omega arith)
-word_at (a ∷ b ∷ []) i h = absurd (omega arith)
-word_at (a ∷ b ∷ c ∷ []) i h = absurd (omega arith)
-word_at (a ∷ b ∷ c ∷ d ∷ bytes) zero h = refl
-word_at (a ∷ b ∷ c ∷ d ∷ bytes) (suc i) h =
-    let e : 4 * suc i ≡ suc (suc (suc (suc (4 * i)))) = omega arith in
-    let f : 4 * suc i + 1 ≡ suc (suc (suc (suc (4 * i + 1)))) = omega arith in
-    let g : 4 * suc i + 2 ≡ suc (suc (suc (suc (4 * i + 2)))) = omega arith in
-    let k : 4 * suc i + 3 ≡ suc (suc (suc (suc (4 * i + 3)))) = omega arith in
-    rw (f, g, k, e) (word_at bytes i (omega arith))
+chunk_word zero i bytes l h = absurd (omega arith)
+chunk_word (suc k) i [] l h = absurd (omega arith)
+chunk_word (suc k) i (a ∷ []) l h = absurd (omega arith)
+chunk_word (suc k) i (a ∷ b ∷ []) l h = absurd (omega arith)
+chunk_word (suc k) i (a ∷ b ∷ c ∷ []) l h = absurd (omega arith)
+chunk_word (suc k) zero (a ∷ b ∷ c ∷ d ∷ bytes) l h = refl
+chunk_word (suc k) (suc i) (a ∷ b ∷ c ∷ d ∷ bytes) l h = chunk_word k i bytes (omega arith) (omega arith)
 
 -- the first words of bytes that go on are those of the bytes at hand
 pub words_front : (n : ℕ) (xs ys : List ℕ) → 4 * n ≤ length xs → take n (whole_words (xs ++ ys)) ≡ take n (whole_words xs)

@@ -4,4 +4,4 @@ use Rattle.c_signed.proofs.meter_signed_unite.Goals as goal
 
 pub returns : goal.returns
 returns c = let a = c.unite.ensures in
-    let g = c.give.ensures in record { value = g.value ∙ ap (λ (x : Answer). x.status) a.value; place_after = g.place_after ∙ ap (λ (x : Answer). x.position) a.value; figure_after = g.figure_after ∙ ap (λ (x : Answer). x.value) a.value; memory_after = a.memory_after }
+    let g = c.give.ensures in record { value = g.value ∙ ap (λ (x : Answer). x.status) (c.from.ensures ∙ a.value); place_after = g.place_after ∙ ap (λ (x : Answer). x.position) (c.from.ensures ∙ a.value); figure_after = g.figure_after ∙ ap (λ (x : Answer). x.value) (c.from.ensures ∙ a.value); memory_after = a.memory_after }

@@ -5,7 +5,8 @@ use native.Mathlib.Omega.{arith}
 use borrow.Author.Count.{below_more}
 use borrow.Author.Tests.{eqb-true}
 use lib.Bits.{xor_shr}
-use lib.ListN.{length, take, get_or}
+use lib.ListN.{length, take, drop, get_or}
+use Rattle.std.proofs.lemmas.List.{get_or-take, get_or-drop}
 use Rattle.geometry.proofs.Bits.{or_none}
 use Rattle.word.specs.Word.{payload}
 use Rattle.feed_keys.specs.Keys.{key_kind, key_from}
@@ -24,7 +25,9 @@ pub loop-i-preserved : goal.loop-i-preserved
 unfolding payload
 loop-i-preserved c = let l = c.loop-i in
     let w = c.args.words.now in
-    let v = get_or w (1 + l.i) 0 in
+    let m = c.key_words-m.result in
+    let v = get_or (take (m + 1 - 1) (drop 1 w)) l.i 0 in
+    let r : v ≡ get_or w (1 + l.i) 0 = get_or-take (m + 1 - 1) (drop 1 w) l.i 0 (omega arith) ∙ get_or-drop 1 w l.i 0 in
     let b = c.put_three.ensures in
     let d = c.differing_bits in (
       omega arith,
@@ -34,8 +37,8 @@ loop-i-preserved c = let l = c.loop-i in
       l.invariant.4,
       λ z. let e = or_none l.bad (d.result / 2 ^ 24) z in
           let f = sym (xor_shr v (key_kind * 2 ^ 28) 24) ∙ ap (λ (x : ℕ). x / 2 ^ 24) (sym d.ensures) ∙ e.1 in
-          below_more (λ (j : ℕ). get_or w (1 + j) 0 / 2 ^ 24 ≡ 0x70) l.i (l.invariant.5 e.0) (xor_none (v / 2 ^ 24) 0x70 f),
-      ap (take (3 * (l.i + 1))) b ∙ word_more l.key w l.i v (omega arith) refl l.invariant.6,
+          below_more (λ (j : ℕ). get_or w (1 + j) 0 / 2 ^ 24 ≡ 0x70) l.i (l.invariant.5 e.0) (rw r at (xor_none (v / 2 ^ 24) 0x70 f)),
+      ap (take (3 * (l.i + 1))) b ∙ word_more l.key w l.i v (omega arith) (ap (λ (x : ℕ). x % 2 ^ 28) r) l.invariant.6,
     )
 
 pub returns-then-bad-ne0 : goal.returns-then-bad-ne0

@@ -1,5 +1,5 @@
 use mathlib.Core.Path.{◌∙◌, ap}
-use Rattle.word.specs.declared.Step.{Step}
+use Rattle.word.specs.Step.{Step}
 use Rattle.feed_records.specs.Words.{body_of, query_step, query_body}
 use Rattle.feed_records.proofs.Laws.{all_sound}
 use Rattle.feed_records.proofs.query_body.Goals as goal

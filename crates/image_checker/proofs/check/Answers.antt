@@ -1,27 +1,15 @@
-use mathlib.Core.Path.{sym, ◌∙◌}
-use Prim.Native.Nat.{◌/◌}
-use native.Mathlib.Omega.{arith}
-use native.Mathlib.Nat.{mul-le-mul_right}
 use Rattle.image_format.specs.Read.{checked}
-use Rattle.word.proofs.Laws.{turn, halt}
+use Rattle.word.proofs.Results.{next_passed, next_handed_on}
 use Rattle.image_checker.proofs.check.Goals as goal
 
-pub returns-then-h-ne0 : goal.returns-then-h-ne0
+pub returns-in_err-rows : goal.returns-in_err-rows
 unfolding checked
-returns-then-h-ne0 c = let s = c.check_head-h in
-    sym (halt s.result _ _ s.ensures c.if-h-ne0.true)
+returns-in_err-rows c = next_handed_on _ _ _ _ c.from_residual.ensures.1 c.in_err-rows.ensures
 
-pub overflow_mul-d : goal.overflow_mul-d
-overflow_mul-d c = let a = c.args in omega (arith, mul-le-mul_right {m = a.d} {n = 8} (a.w / 32) (omega arith))
-
-pub returns-then-s-ne0 : goal.returns-then-s-ne0
+pub returns-in_err-end : goal.returns-in_err-end
 unfolding checked
-returns-then-s-ne0 c = let h = c.check_head-h in
-    let s = c.check_fours-s in
-    sym (halt s.result _ _ s.ensures c.if-s-ne0.true) ∙ sym (turn h.result _ _ h.ensures c.if-h-ne0.false)
+returns-in_err-end c = next_passed _ _ _ _ c.in_ok-rows.ensures (next_handed_on _ _ _ _ c.from_residual-in_err-end.ensures.1 c.in_err-end.ensures)
 
 pub returns : goal.returns
 unfolding checked
-returns c = let h = c.check_head-h in
-    let s = c.check_fours-s in
-    c.check_end.ensures ∙ sym (turn s.result _ _ s.ensures c.if-s-ne0.false) ∙ sym (turn h.result _ _ h.ensures c.if-h-ne0.false)
+returns c = next_passed _ _ _ _ c.in_ok-rows.ensures (next_passed _ _ _ _ c.in_ok-end.ensures c.check_end.ensures)

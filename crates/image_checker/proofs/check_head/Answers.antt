@@ -1,22 +1,20 @@
-use mathlib.Core.Path.{sym, ap₂, ◌∙◌}
+use mathlib.Core.Path.{ap₂, ◌∙◌}
 use Prim.Native.Nat.{ℕ, ◌+◌, ◌*◌}
 use lib.Dec.{eqb}
-use Rattle.word.specs.Word.{tested, head_kind}
 use Rattle.answer.specs.Numbers.{other_meter}
+use Rattle.answer.specs.Refusals.{number}
+use Rattle.word.specs.Word.{tested, head_kind}
+use Rattle.word.proofs.Results.{next_passed, next_handed_on}
 use Rattle.image_format.specs.Read.{check_head}
 use Rattle.image_format.specs.Image.{head_payload}
-use Rattle.word.proofs.Laws.{turn, halt}
 use Rattle.image_checker.proofs.check_head.Goals as goal
 
-pub returns-then-s-ne0 : goal.returns-then-s-ne0
+pub returns-in_err-below : goal.returns-in_err-below
 unfolding check_head
-returns-then-s-ne0 c = let s = c.below-s in
-    sym (halt s.result _ _ s.ensures c.if-s-ne0.true)
+returns-in_err-below c = next_handed_on _ _ _ _ c.from_residual.ensures.1 c.in_err-below.ensures
 
 pub returns : goal.returns
-unfolding check_head head_payload
+unfolding check_head head_payload number
 returns c = let a = c.args in
-    let s = c.below-s in
-    c.tested.ensures
-    ∙ ap₂ (λ (x y : ℕ). tested a.words.now 0 head_kind (eqb x (y * 16 + a.d)) other_meter) c.payload.ensures.value c.log_width.ensures.value
-    ∙ sym (turn s.result _ _ s.ensures c.if-s-ne0.false)
+    next_passed _ _ _ _ c.in_ok-below.ensures
+    (c.tested.ensures ∙ ap₂ (λ (x y : ℕ). tested a.words.now 0 head_kind (eqb x (y * 16 + a.d)) other_meter) c.payload.ensures.value c.log_width.ensures.value)

@@ -22,13 +22,13 @@ module _ (c : Then-are_sound) where
 pub bounds-fields-c : goal.bounds-fields-c
 bounds-fields-c c = omega (arith, (sound (goal.at.bounds-fields-c c).Then-are_sound).1)
 
-pub overflow_cast-fields : goal.overflow_cast-fields
-overflow_cast-fields c = omega (arith, size_is (goal.at.overflow_cast-fields c).Then-are_sound, size_most (code_merge c.args.c))
+pub overflow_cast-result : goal.overflow_cast-result
+overflow_cast-result c = omega (arith, size_is (goal.at.overflow_cast-result c).Then-are_sound, size_most (code_merge c.args.c))
 
-pub overflow_add-p : goal.overflow_add-p
-overflow_add-p c = omega (arith, (sound (goal.at.overflow_add-p c).Then-are_sound).0, size_is (goal.at.overflow_add-p c).Then-are_sound, size_most (code_merge c.args.c))
+pub overflow_add-result : goal.overflow_add-result
+overflow_add-result c = omega (arith, (sound (goal.at.overflow_add-result c).Then-are_sound).0, size_is (goal.at.overflow_add-result c).Then-are_sound, size_most (code_merge c.args.c))
 
 pub returns-then-are_sound : goal.returns-then-are_sound
 returns-then-are_sound c = let a = c.args in
-    c.go.ensures ∙ ap (λ (n : ℕ). go (a.p + n)) (size_is (goal.at.returns-then-are_sound c).Then-are_sound) ∙ sym (sound (goal.at.returns-then-are_sound c).Then-are_sound).2
+    ap (λ (n : ℕ). go (a.p + n)) (size_is (goal.at.returns-then-are_sound c).Then-are_sound) ∙ sym (sound (goal.at.returns-then-are_sound c).Then-are_sound).2
     ∙ ap (λ (m : ℕ). check_slots 8 0 m a.words.now a.p) (sym c.requires.fact_2)

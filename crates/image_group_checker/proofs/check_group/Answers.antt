@@ -1,35 +1,35 @@
-use mathlib.Core.Path.{◌≡◌, refl, sym, ◌∙◌}
+use mathlib.Core.Path.{◌≡◌, refl, sym, ap, ◌∙◌}
 use Prim.Native.Nat.{◌-◌, ◌<◌}
 use native.Mathlib.Omega.{arith}
 use Rattle.image_format.specs.Read.{check_slot}
-use Rattle.word.proofs.Laws.{turn, halt}
+use Rattle.word.specs.Step.{step}
+use Rattle.word.proofs.Results.{next_ok, next_handed_on}
 use Rattle.image_group_checker.proofs.Laws.{check_slot_first, check_slots_none}
 use Rattle.image_group_checker.proofs.Steps.{checks_turn}
 use Rattle.image_format.proofs.Sizes.{behind_is}
 use Rattle.image_group_checker.proofs.Steps.{stands_first, stands_next, step_small}
 use Rattle.image_group_checker.proofs.check_group.Goals as goal
-use Rattle.image_group_checker.proofs.check_group.Goals.{After-check_parts-s}
+use Rattle.image_group_checker.proofs.check_group.Goals.{After-check_parts}
 
 pub loop-k-init : goal.loop-k-init
 loop-k-init c = (stands_first _, refl)
 
 -- the words checked are those of slot k
-slot_is : (c : After-check_parts-s) → let l = c.loop-k in
+slot_is : (c : After-check_parts) → let l = c.loop-k in
     let a = c.args in
-    c.check_parts-s.result ≡ check_slot a.merge l.k a.words.now l.at
+    step c.check_parts.result ≡ check_slot a.merge l.k a.words.now l.at
 slot_is c = let l = c.loop-k in
     let a = c.args in
     let v = c.level_at-level in
     let n = c.word_count in
     let b = c.first_bits in
-    c.check_parts-s.ensures
+    c.check_parts.ensures
     ∙ check_slot_first a.merge l.k v.result n.result b.result a.words.now l.at v.ensures.value (l.invariant.0.1 (omega arith)) n.ensures.value b.ensures.value b.ensures.upper_bound
 
-pub returns-then-s-ne0 : goal.returns-then-s-ne0
-returns-then-s-ne0 c = let l = c.loop-k in
+pub returns-in_err-at : goal.returns-in_err-at
+returns-in_err-at c = let l = c.loop-k in
     let a = c.args in
-    let s = c.check_parts-s in
-    sym (halt s.result _ _ (slot_is (goal.at.returns-then-s-ne0 c).After-check_parts-s) c.if-s-ne0.true)
+    next_handed_on _ _ _ _ c.from_residual.ensures.1 (ap step (sym c.in_err-at.was) ∙ slot_is (goal.at.returns-in_err-at c).After-check_parts)
     ∙ sym (checks_turn l.k a.merge a.words.now l.at (omega arith) (l.invariant.0.1 (omega arith))) ∙ l.invariant.1
 
 pub overflow_add-k : goal.overflow_add-k
@@ -44,15 +44,14 @@ pub loop-k-preserved : goal.loop-k-preserved
 loop-k-preserved c = let l = c.loop-k in
     let a = c.args in
     let v = c.level_at-level in
-    let s = c.check_parts-s in
     let k : l.k < 8 = omega arith in
     let f = l.invariant.0.1 k in
     rw (behind_is a.merge l.k v.result v.ensures.value) (
       stands_next a.merge l.k k f,
-      sym (turn s.result _ _ (slot_is (goal.at.loop-k-preserved c).After-check_parts-s) c.if-s-ne0.false) ∙ sym (checks_turn l.k a.merge a.words.now l.at k f) ∙ l.invariant.1,
+      sym (next_ok _ _ _ (ap step (sym c.in_ok-at.was) ∙ slot_is (goal.at.loop-k-preserved c).After-check_parts)) ∙ sym (checks_turn l.k a.merge a.words.now l.at k f) ∙ l.invariant.1,
     )
 
 pub returns : goal.returns
 returns c = let l = c.loop-k in
     let a = c.args in
-    c.go.ensures ∙ sym (check_slots_none (8 - l.k) l.k a.merge a.words.now l.at (omega arith)) ∙ l.invariant.1
+    sym (check_slots_none (8 - l.k) l.k a.merge a.words.now l.at (omega arith)) ∙ l.invariant.1

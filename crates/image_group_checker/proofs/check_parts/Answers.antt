@@ -1,24 +1,26 @@
-use mathlib.Core.Path.{refl, sym, ◌∙◌}
+use mathlib.Core.Path.{sym, ap, ◌∙◌}
+use Prim.Native.Nat.{ℕ, ◌-◌}
 use native.Mathlib.Omega.{arith}
-use Rattle.word.proofs.Laws.{turn, halt}
+use native.Mathlib.Nat.{sub-zero}
+use Rattle.image_format.specs.Read.{check_parts}
+use Rattle.word.proofs.Results.{next_ok, next_handed_on}
 use Rattle.image_group_checker.proofs.Laws.{check_parts_step, check_parts_none}
 use Rattle.image_group_checker.proofs.check_parts.Goals as goal
 
-pub loop-left-init : goal.loop-left-init
-loop-left-init c = refl
+pub loop-init : goal.loop-init
+loop-init c = let a = c.args in (omega arith, ap (λ (n : ℕ). check_parts n a.words.now a.p a.limit) (sub-zero a.n))
 
-pub returns-then-s-ne0 : goal.returns-then-s-ne0
-returns-then-s-ne0 c = let l = c.loop-left in
-    let ws = c.args.words.now in
-    let s = c.below-s in
-    sym (halt s.result _ _ s.ensures c.if-s-ne0.true) ∙ sym (check_parts_step l.left ws l.at l.most (omega arith)) ∙ l.invariant
+pub returns-in_err-at : goal.returns-in_err-at
+returns-in_err-at c = let l = c.loop in
+    let a = c.args in
+    next_handed_on _ _ _ _ c.from_residual.ensures.1 c.in_err-at.ensures ∙ sym (check_parts_step a.n l.counter a.words.now l.at l.most (omega arith)) ∙ l.invariant.1
 
-pub loop-left-preserved : goal.loop-left-preserved
-loop-left-preserved c = let l = c.loop-left in
-    let ws = c.args.words.now in
-    let s = c.below-s in
-    sym (turn s.result _ _ s.ensures c.if-s-ne0.false) ∙ sym (check_parts_step l.left ws l.at l.most (omega arith)) ∙ l.invariant
+pub loop-preserved : goal.loop-preserved
+loop-preserved c = let l = c.loop in
+    let a = c.args in
+    (omega arith, sym (next_ok _ _ _ c.in_ok-at.ensures) ∙ sym (check_parts_step a.n l.counter a.words.now l.at l.most (omega arith)) ∙ l.invariant.1)
 
 pub returns : goal.returns
-returns c = let l = c.loop-left in
-    c.go.ensures ∙ sym (check_parts_none l.left c.args.words.now l.at l.most (omega arith)) ∙ l.invariant
+returns c = let l = c.loop in
+    let a = c.args in
+    sym (check_parts_none (a.n - l.counter) a.words.now l.at l.most (omega arith)) ∙ l.invariant.1

@@ -1,39 +1,37 @@
-use mathlib.Core.Path.{◌≡◌, sym, ap, ◌∙◌}
+use mathlib.Core.Path.{◌≡◌, ap, ◌∙◌}
 use mathlib.Core.List.{[]}
-use Prim.Native.Nat.{ℕ, ◌+◌, ◌<◌}
-use native.Mathlib.Nat.{add-zero}
-use Rattle.hash.specs.Hash.{fnv_step}
+use Prim.Native.Nat.{ℕ, ◌+◌, ◌<◌, ◌^◌}
+use native.Mathlib.Omega.{arith}
+use lib.ListN.{get_or}
+use Rattle.hash.specs.Hash.{slot_of}
 use Rattle.meter_keys.specs.Keys.{key_slot}
-use Rattle.geometry.proofs.Widths.{wide}
-use Rattle.meter_keys.proofs.Lanes.{lane_slot, in_four}
+use Rattle.meter_keys.proofs.Landing.{hash_lt}
+use Rattle.meter_keys.proofs.Lanes.{in_four}
 use Rattle.meter_keys.proofs.four_slots.Goals as goal
+use Rattle.meter_keys.proofs.four_slots.Goals.{After-four_hashes-h}
 
-pub scaled-a-requires : goal.scaled-a-requires
-scaled-a-requires c = (wide _ c.requires.fact_1).shares
+-- a hash that is scaled has 32 bits
+fits : (c : After-four_hashes-h) (r : ℕ) → r < 4 → get_or c.four_hashes-h.result r 0 < 2 ^ 32
+fits c r h = rw (c.four_hashes-h.ensures r h) (hash_lt c.args.start.state (c.args.first + r) c.args.key.now)
 
-pub scaled-b-requires : goal.scaled-b-requires
-scaled-b-requires c = (wide _ c.requires.fact_1).shares
+pub overflow_cast-h : goal.overflow_cast-h
+overflow_cast-h c = record { fits = fits c 0 (omega arith) }
 
-pub scaled-c-requires : goal.scaled-c-requires
-scaled-c-requires c = (wide _ c.requires.fact_1).shares
+pub overflow_cast-h-2 : goal.overflow_cast-h-2
+overflow_cast-h-2 c = record { fits = fits (goal.at.overflow_cast-h-2 c).After-four_hashes-h 1 (omega arith) }
 
-pub scaled-d-requires : goal.scaled-d-requires
-scaled-d-requires c = (wide _ c.requires.fact_1).shares
+pub overflow_cast-h-3 : goal.overflow_cast-h-3
+overflow_cast-h-3 c = record { fits = fits (goal.at.overflow_cast-h-3 c).After-four_hashes-h 2 (omega arith) }
 
-pub returns : goal.returns
-returns c = let a = c.args in
-    let state = c.args.start.state in
-    let key = c.args.key.now in
-    let rows = c.rows.ensures in
-    let run = c.run-h.ensures in
-    let s0 = c.scaled-a.ensures in
-    let s1 = c.scaled-b.ensures in
-    let s2 = c.scaled-c.ensures in
-    let s3 = c.scaled-d.ensures in record {
-      by_index = in_four (λ (r : ℕ) (s : ℕ). s ≡ key_slot state a.w key (a.first + r)) _ _ _ _ []
-          (lane_slot state a.w key (a.first + 0) s0.value run.state_value (rows.state_value ∙ ap (fnv_step state) (sym (add-zero a.first))))
-          (lane_slot state a.w key (a.first + 1) s1.value run.state_value_2 rows.state_value_2)
-          (lane_slot state a.w key (a.first + 2) s2.value run.state_value_3 rows.state_value_3)
-          (lane_slot state a.w key (a.first + 3) s3.value run.state_value_4 rows.state_value_4);
-      by_index_2 = in_four (λ (r : ℕ) (s : ℕ). s < a.w) _ _ _ _ [] s0.upper_bound s1.upper_bound s2.upper_bound s3.upper_bound;
-    }
+pub overflow_cast-h-4 : goal.overflow_cast-h-4
+overflow_cast-h-4 c = record { fits = fits (goal.at.overflow_cast-h-4 c).After-four_hashes-h 3 (omega arith) }
+
+pub returns-clause-by_index : goal.returns-clause-by_index
+unfolding key_slot
+returns-clause-by_index c = let a = c.args in
+    let h = c.four_hashes-h.ensures in
+    in_four (λ (r : ℕ) (s : ℕ). s ≡ key_slot a.start.state a.w a.key.now (a.first + r)) _ _ _ _ []
+    (c.scaled-a.ensures.value ∙ ap (λ (x : ℕ). slot_of x a.w) (h 0 (omega arith)))
+    (c.scaled-b.ensures.value ∙ ap (λ (x : ℕ). slot_of x a.w) (h 1 (omega arith)))
+    (c.scaled-c.ensures.value ∙ ap (λ (x : ℕ). slot_of x a.w) (h 2 (omega arith)))
+    (c.scaled-d.ensures.value ∙ ap (λ (x : ℕ). slot_of x a.w) (h 3 (omega arith)))

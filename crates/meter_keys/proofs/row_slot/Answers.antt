@@ -1,12 +1,8 @@
 use mathlib.Core.Path.{ap, ◌∙◌}
 use Prim.Native.Nat.{ℕ}
 use Rattle.hash.specs.Hash.{slot_of}
-use Rattle.geometry.proofs.Widths.{wide}
 use Rattle.meter_keys.specs.Keys.{key_slot}
 use Rattle.meter_keys.proofs.row_slot.Goals as goal
-
-pub scaled-requires : goal.scaled-requires
-scaled-requires c = (wide _ c.requires).shares
 
 pub returns : goal.returns
 unfolding key_slot

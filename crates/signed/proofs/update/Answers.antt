@@ -1,4 +1,4 @@
-use mathlib.Core.Path.{◌≡◌, sym, ap, ◌∙◌}
+use mathlib.Core.Path.{◌≡◌, refl, ap, ◌∙◌}
 use mathlib.Core.Bool.{cond}
 use mathlib.Core.List.{List}
 use Prim.Native.Nat.{ℕ, ◌<◌}
@@ -13,30 +13,34 @@ use Rattle.signed_number.specs.Number.{integer_of}
 use Rattle.signed_number.proofs.Integers.{integer_of_lem}
 use Rattle.signed_row.specs.Hashes.{tried_status, added_rows}
 use Rattle.signed.proofs.Tests.{call_rows}
+use Rattle.answer.specs.Refusals.{status}
+use Rattle.answer.proofs.Refusals.{ok_status, err_status}
+use Rattle.answer.proofs.Answers.{done_is, done_handed}
 use Rattle.signed.proofs.Calls.{status_by_key, added_by_key, updated_bad, updated_rows}
 use Rattle.signed.proofs.update.Goals as goal
 
-pub returns-then-bad-ne0 : goal.returns-then-bad-ne0
-returns-then-bad-ne0 c = let a = c.args in
-    let p = updated_bad a.d a.w a.memory.now a.key.now a.amount c.bad_call-bad.result c.bad_call-bad.ensures c.if-bad-ne0.true in record { value = c.answer_of.ensures ∙ p.0; memory_after = p.1 }
+pub returns-in_err-check_call : goal.returns-in_err-check_call
+returns-in_err-check_call c = let a = c.args in
+    let e = c.in_err-check_call.ensures in
+    let p = updated_bad a.d a.w a.memory.now a.key.now a.amount _ refl (err_status _ _ _ e) in record { value = done_handed _ _ _ e _ c.from_residual.ensures.1 ∙ p.0; memory_after = p.1 }
 
 pub key_hashes-hashes-requires : goal.key_hashes-hashes-requires
-key_hashes-hashes-requires c = (call_rows _ _ _ _ (sym c.bad_call-bad.ensures ∙ c.if-bad-ne0.false)).1.1
+key_hashes-hashes-requires c = (call_rows _ _ _ _ (ok_status _ _ c.in_ok-check_call.ensures)).1.1
 
-pub update_rows-status-requires : goal.update_rows-status-requires
-update_rows-status-requires c = record { fact_1 = (call_rows _ _ _ _ (sym c.bad_call-bad.ensures ∙ c.if-bad-ne0.false)).1; fact_2 = λ r h. rw (c.key_hashes-hashes.ensures r h) (hash_lt _ r _) }
+pub update_rows-requires : goal.update_rows-requires
+update_rows-requires c = record { fact_1 = (call_rows _ _ _ _ (ok_status _ _ c.in_ok-check_call.ensures)).1; fact_2 = λ r h. rw (c.key_hashes-hashes.ensures r h) (hash_lt _ r _) }
 
 pub returns : goal.returns
 returns c = let a = c.args in
     let hashes = c.key_hashes-hashes.result in
-    let good = sym c.bad_call-bad.ensures ∙ c.if-bad-ne0.false in
+    let good = ok_status _ _ c.in_ok-check_call.ensures in
     let start = c.start.ensures in
     let at : (r : ℕ) → r < a.d → get_or hashes r 0 ≡ row_hash c.start.result.state r a.key.now =
     λ r h. c.key_hashes-hashes.ensures r h ∙ ap (row_hash c.start.result.state r) c.whole.ensures in
-    let amount : integer_of c.of_int-a.result ≡ a.amount = ap integer_of c.of_int-a.ensures.value ∙ integer_of_lem _ ∙ to_z-of_z {w = w32} {z = a.amount} c.ranges.amount in
-    let status = c.update_rows-status.ensures.value ∙ ap (λ (v : ℤ). tried_status a.d a.w hashes v a.memory.now) amount ∙ status_by_key a.d a.w a.memory.now a.key.now hashes start at a.amount in
+    let amount : integer_of c.from-a.result ≡ a.amount = ap integer_of c.from-a.ensures.0 ∙ integer_of_lem _ ∙ to_z-of_z {w = w32} {z = a.amount} c.ranges.amount in
+    let first = c.update_rows.ensures.value ∙ ap (λ (v : ℤ). tried_status a.d a.w hashes v a.memory.now) amount ∙ status_by_key a.d a.w a.memory.now a.key.now hashes start at a.amount in
     let after =
-    c.update_rows-status.ensures.memory_after
-    ∙ ap (λ (m : List ℕ). cond (eqb c.update_rows-status.result 0) m a.memory.now)
+    c.update_rows.ensures.memory_after
+    ∙ ap (λ (m : List ℕ). cond (eqb (status c.update_rows.result) 0) m a.memory.now)
     (ap (λ (v : ℤ). added_rows a.d a.w hashes v a.memory.now) amount ∙ added_by_key a.d a.w a.memory.now a.key.now hashes start at a.amount) in
-    let p = updated_rows a.d a.w a.memory.now a.key.now a.amount good c.update_rows-status.result _ status after in record { value = c.answer_of-2.ensures ∙ p.0; memory_after = p.1 }
+    let p = updated_rows a.d a.w a.memory.now a.key.now a.amount good (status c.update_rows.result) _ first after in record { value = done_is c.update_rows.result ∙ p.0; memory_after = p.1 }

@@ -2,6 +2,7 @@ use mathlib.Core.Path.{sym, ap₂, ◌∙◌}
 use Prim.Native.Nat.{ℕ}
 use native.Mathlib.Omega.{arith}
 use mathlib.Core.List.{List}
+use Rattle.answer.specs.Refusals.{status}
 use Rattle.meter_memory.specs.Pairs.{pairs_status, row_status_by}
 use Rattle.meter_memory.specs.Rows.{row_of}
 use Rattle.signed_row.specs.Row.{source_status}
@@ -11,6 +12,7 @@ use Rattle.meter_memory.proofs.Gather.{status_turn, status_end, rows_start}
 use Rattle.signed_rows.proofs.combine_status.Goals as goal
 
 pub loop-r-init : goal.loop-r-init
+unfolding status
 loop-r-init c = let a = c.args in
     (omega arith, rows_start (source_status a.minus a.w a.source.now) a.w a.d a.memory.now)
 
@@ -30,11 +32,11 @@ loop-r-preserved c = let a = c.args in
     let l = c.loop-r in
     let e = c.combine_status-next.ensures ∙ ap₂ (λ (source row : List ℕ). pairs_status (combined a.minus) a.w source row) c.row_at-in-loop-r.ensures.result_value c.row_at.ensures.result_value in (
       omega arith,
-      rw c.earlier-status.ensures
-          (status_turn (source_status a.minus a.w a.source.now) a.w a.d l.r a.memory.now l.status c.combine_status-next.result (omega arith) e ∙ l.invariant.1),
+      rw c.first-taken.ensures
+          (status_turn (source_status a.minus a.w a.source.now) a.w a.d l.r a.memory.now (status l.taken) (status c.combine_status-next.result) (omega arith) e ∙ l.invariant.1),
     )
 
 pub returns : goal.returns
 returns c = let a = c.args in
     let l = c.loop-r in
-    sym (status_end (source_status a.minus a.w a.source.now) a.w a.d l.r a.memory.now l.status (omega arith)) ∙ l.invariant.1
+    sym (status_end (source_status a.minus a.w a.source.now) a.w a.d l.r a.memory.now (status l.taken) (omega arith)) ∙ l.invariant.1

@@ -22,5 +22,5 @@ stored w hashes groups = kept_stored (storedIn w hashes) groups none
 
 abbrev pub invariant-loop-r : goal.invariant-loop-r
 invariant-loop-r l = (l.r ≤ l.d)
-    × (rows_from (stored l.w l.hashes l.t.groups) l.stride l.d l.r l.memory ≡ map_rows (stored l.w l.hashes l.t.groups) l.stride l.d 0 l.initial.memory)
+    × (rows_from (stored l.w l.hashes l.groups) l.stride l.d l.r l.memory ≡ map_rows (stored l.w l.hashes l.groups) l.stride l.d 0 l.initial.memory)
     × (length l.memory ≡ length l.initial.memory)

@@ -1,5 +1,4 @@
-use mathlib.Core.Path.{◌≡◌, sym, ◌∙◌}
-use Prim.Native.Nat.{◌+◌}
+use mathlib.Core.Path.{sym, ◌∙◌}
 use native.Mathlib.Omega.{arith}
 use borrow.Author.Tests.{not-true, eqb-false}
 use Rattle.watch_list.proofs.Places.{length_short}
@@ -13,6 +12,5 @@ pub returns : goal.returns
 returns c = let a = c.args in
     let h = c.requires.fact_1 in
     let short = length_short a.list.now h.long h.is_sound a.k (omega arith) in
-    λ z j l.
-    let e : a.k + j ≡ a.k = omega arith in
-    rw e (other_digest a.list.now h.long a.k (omega arith) a.key.now short h.key_long (λ q. eqb-false _ _ (not-true _ z) (c.digest.ensures ∙ q ∙ sym h.is_digest)))
+    λ z.
+    other_digest a.list.now h.long a.k (omega arith) a.key.now short h.key_long (λ q. eqb-false _ _ (not-true _ z) (c.digest.ensures ∙ q ∙ sym h.is_digest))

@@ -13,9 +13,9 @@ returns-then-size-ge8 c = let a = c.args in
 pub returns-then-size-ge2 : goal.returns-then-size-ge2
 unfolding digest_of
 returns-then-size-ge2 c = let a = c.args in
-    rw (lt-leb 8 a.size (omega arith), le-leb 2 a.size (omega arith)) c.pair.ensures
+    rw (lt-leb 8 a.size (omega arith), le-leb 2 a.size (omega arith)) (omega (arith, c.from.ensures, c.from_le_bytes.ensures))
 
 pub returns : goal.returns
 unfolding digest_of
 returns c = let a = c.args in
-    rw (lt-leb 8 a.size (omega arith), lt-leb 2 a.size (omega arith)) (omega (arith, c.pair-2.ensures))
+    rw (lt-leb 8 a.size (omega arith), lt-leb 2 a.size (omega arith)) c.from-2.ensures

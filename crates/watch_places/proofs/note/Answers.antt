@@ -24,34 +24,32 @@ overflow_add-i c = record { fits = omega (arith, most c.args.list.now c.args.n c
 pub put_eight-requires : goal.put_eight-requires
 put_eight-requires c = omega (arith, most c.args.list.now c.args.n c.requires.fact_1, c.requires.fact_1.long)
 
-pub returns-then-i-n : goal.returns-then-i-n
-returns-then-i-n c = let a = c.args in
+pub returns-in-Some : goal.returns-in-Some
+returns-in-Some c = let a = c.args in
     let small : Bytes a.list.now = λ i. search rules in
-    let at = estimates_at + c.find-i.result * 8 in
+    let i = c.in-Some.i in
+    let at = estimates_at + i * 8 in
     c.put_eight.ensures
     ∙ ap (λ (ys : List ℕ). take at a.list.now ++ ys ++ drop (at + 8) a.list.now) c.bytes_of.ensures
     ∙ put_eight a.list.now at a.estimate
-    ∙ sym (renewed_is a.list.now a.n c.requires.fact_1 small a.key.now c.find-i.result c.find-i.ensures.value c.if-i-n.true a.estimate a.threshold)
+    ∙ sym (renewed_is a.list.now a.n c.requires.fact_1 small a.key.now i c.in-Some.ensures.value c.in-Some.ensures.upper_bound a.estimate a.threshold)
 
 pub returns-then-estimate-threshold : goal.returns-then-estimate-threshold
 returns-then-estimate-threshold c = let a = c.args in
     let small : Bytes a.list.now = λ i. search rules in
-    let last = c.find-i.ensures.upper_bound in
-    sym (below_is a.list.now a.n c.requires.fact_1 small a.key.now c.find-i.result c.find-i.ensures.value (omega arith) a.estimate a.threshold c.if-estimate-threshold.true)
+    sym (below_is a.list.now a.n c.requires.fact_1 small a.key.now a.n c.in_default.ensures.value (omega arith) a.estimate a.threshold c.if-estimate-threshold.true)
 
 pub returns-then-n-eq64 : goal.returns-then-n-eq64
 returns-then-n-eq64 c = let a = c.args in
     let small : Bytes a.list.now = λ i. search rules in
-    let last = c.find-i.ensures.upper_bound in
-    sym (full_is a.list.now a.n c.requires.fact_1 small a.key.now c.find-i.result c.find-i.ensures.value (omega arith) a.estimate a.threshold c.if-estimate-threshold.false c.if-n-eq64.true)
+    sym (full_is a.list.now a.n c.requires.fact_1 small a.key.now a.n c.in_default.ensures.value (omega arith) a.estimate a.threshold c.if-estimate-threshold.false c.if-n-eq64.true)
 
-pub join-requires : goal.join-requires
-join-requires c = let m = most c.args.list.now c.args.n c.requires.fact_1 in record { fact_1 = c.requires.fact_1.long; fact_2 = omega arith; fact_3 = c.requires.fact_2.1 }
+pub join-requires-clause-fact_2 : goal.join-requires-clause-fact_2
+join-requires-clause-fact_2 c = omega (arith, most c.args.list.now c.args.n c.requires.fact_1)
 
 pub returns : goal.returns
 returns c = let a = c.args in
     let small : Bytes a.list.now = λ i. search rules in
-    let last = c.find-i.ensures.upper_bound in
     let m = most a.list.now a.n c.requires.fact_1 in
     c.join.ensures
-    ∙ sym (joined_is a.list.now a.n c.requires.fact_1 small a.key.now c.find-i.result c.find-i.ensures.value (omega arith) a.estimate a.threshold c.if-estimate-threshold.false (omega arith) c.requires.fact_2)
+    ∙ sym (joined_is a.list.now a.n c.requires.fact_1 small a.key.now a.n c.in_default.ensures.value (omega arith) a.estimate a.threshold c.if-estimate-threshold.false (omega arith) c.requires.fact_2)

@@ -1,17 +1,11 @@
-use mathlib.Core.Path.{refl}
-use Prim.Native.Nat.{◌-◌}
 use native.Mathlib.Omega.{arith}
 use Rattle.hash.proofs.Hashing.{run_turn, run_end}
 use Rattle.hash.proofs.Hash.run.Goals as goal
 
-pub loop-i-init : goal.loop-i-init
-loop-i-init c = (omega arith, refl, refl)
-
-pub loop-i-preserved : goal.loop-i-preserved
-loop-i-preserved c = let l = c.loop-i in
-    let s = c.args.bytes.now in
-    (omega arith, l.invariant.1, run_turn s l.i l.h.state _ l.invariant.2 _ (omega arith) c.step-h.ensures)
+pub loop-byte-preserved : goal.loop-byte-preserved
+loop-byte-preserved c = let l = c.loop-byte in
+    run_turn c.args.bytes.now l.byte-index l.h.state _ l.invariant _ (omega arith) c.step-h.ensures
 
 pub returns : goal.returns
-returns c = let l = c.loop-i in
-    run_end _ l.i l.h.state _ l.invariant.2 (omega arith)
+returns c = let l = c.loop-byte in
+    run_end c.args.bytes.now l.byte-index l.h.state _ l.invariant (omega arith)
