@@ -1,6 +1,7 @@
 -- Laws of bytes tested and added side by side.
 use Rattle.std.proofs.Common.{◌≡◌, ℕ, zero, suc, ◌+◌, ◌/◌, ◌%◌, ◌<◌, ◌≤◌, Bool, true, false, not, ◌&&◌, ◌||◌, eqb, ltb, List, [], ◌∷◌, length, get_or, take, drop, sym, refl, ap, ◌∙◌, ap₂, fold, true≢false, add-one, arith, drop_of_length-le, drop-cons, ltb-true, le-ltb, lt-ltb, eq-eqb, ne_eqb, eqb-true}
-use mathlib.Core.Bool.{and_assoc, or_assoc, and-true, or-false, and-eq-true_iff}
+use Rattle.std.specs.Prelude.{Some, None}
+use mathlib.Core.Bool.{cond, and_assoc, or_assoc, and-true, or-false, and-eq-true_iff}
 use native.Mathlib.Decide.{dec_lt}
 use borrow.Author.Tests.{not-true}
 use lib.Bits.{bit_or, or_add_and, and_le_l, and_le_r}
@@ -120,3 +121,19 @@ fit_split (suc k) [] ys = refl
 fit_split (suc k) (x ∷ xs) [] = sym (fit_none (drop k xs))
 fit_split (suc k) (x ∷ xs) (y ∷ ys) =
     ap (λ (b : Bool). ltb (x + y) 256 && b) (fit_split k xs ys) ∙ sym (and_assoc (ltb (x + y) 256) (fit (take k xs) (take k ys)) (fit (drop k xs) (drop k ys)))
+
+-- where the elements of a list are that are left of it from a place on
+pub front_at : (xs : List ℕ) (n x : ℕ) (rest : List ℕ) → x ∷ rest ≡ drop n xs → (n < length xs) × (x ≡ get_or xs n 0) × (rest ≡ drop (n + 1) xs)
+front_at [] zero x rest e = cc
+front_at [] (suc n) x rest e = cc
+front_at (y ∷ ys) zero x rest e = let p : x ≡ y = cc in let q : rest ≡ ys = cc in (omega arith, p, q)
+front_at (y ∷ ys) (suc n) x rest e = let r = front_at ys n x rest e in (omega arith, r.1, r.2 ∙ ap (λ (k : ℕ). drop k ys) (add-one n) ∙ ap (λ (k : ℕ). drop k (y ∷ ys)) (sym (add-one (suc n))))
+
+-- sums that are handed on if a test says so
+pub sums_some : (b : Bool) (xs ys : List ℕ) → Some ys ≡ cond b (Some xs) None → (b ≡ true) × (ys ≡ xs)
+sums_some true xs ys e = (refl, cc)
+sums_some false xs ys e = cc
+
+pub sums_none : (b : Bool) (xs : List ℕ) → None ≡ cond b (Some xs) None → b ≡ false
+sums_none true xs e = cc
+sums_none false xs e = refl

@@ -2,14 +2,13 @@
 // on the way, and of 64 turns where they go over count bytes, the compiler makes vector code.
 #![tactic(auto)]
 
-ghost use Rattle.std.specs.Prelude.{◌≡◌, ◌+◌, ◌/◌, not, ◌&&◌, length, if◌then◌else◌, ◌==◌};
+ghost use Rattle.std.specs.Prelude.{◌≡◌, ◌+◌, ◌/◌, not, ◌&&◌, length, if◌then◌else◌, cond};
 ghost use Rattle.little_endian.specs.Bytes.{number};
 ghost use Rattle.group.specs.Group.{united_groups};
 ghost use Rattle.group_side.specs.Side.{any_merged, fit, wrapped_sums, united_side, stay_unmerged};
 ghost use Rattle.group_side.specs.Side as spec;
 
 use group::Group;
-use std::num::wrapping_add_u8;
 
 // Whether some of these groups is merged, by their merge bytes.
 pub fn any_merged(merges: &[u8]) -> bool
@@ -45,27 +44,20 @@ fn carry(a: u8, b: u8) -> u8
     if 255 - a < b { 1 } else { 0 }
 }
 
-// The sums of 64 bytes and those of a source modulo 256, and 0 where no sum passes 255.
-#[derive(Clone, Copy)]
-struct Sums {
-    bytes: [u8; 64],
-    carries: u8,
-}
-
-// They are made apart from the bytes that they are to replace, so that the compiler need not ask whether those overlap the source.
-fn sums_of(counts: &[u8], source: &[u8]) -> Sums
+// The sums of 64 bytes and those of a source, if none passes 255. They are made apart from the bytes that they are to replace, so that the
+// compiler need not ask whether those overlap the source.
+fn sums_of(counts: &[u8], source: &[u8]) -> Option<[u8; 64]>
     requires fact_1 { length counts.now ≡ 64 }
     requires fact_2 { length source.now ≡ 64 }
-    ensures bytes_value { result.bytes ≡ wrapped_sums counts.now source.now }
-    ensures carries_value { (result.carries == 0) ≡ fit counts.now source.now }
+    ensures { result ≡ cond (fit counts.now source.now) (Some (wrapped_sums counts.now source.now)) None }
 {
     let mut bytes = [0u8; 64];
     let mut carries = 0u8;
-    for i in 0..64 {
-        bytes[i] = wrapping_add_u8(counts[i], source[i]);
-        carries = carries | carry(counts[i], source[i]);
+    for (i, (a, b)) in counts.iter().zip(source).enumerate() {
+        bytes[i] = a.wrapping_add(*b);
+        carries |= carry(*a, *b);
     }
-    Sums { bytes, carries }
+    if carries == 0 { Some(bytes) } else { None }
 }
 
 // 64 bytes put in the place of others.
@@ -83,11 +75,9 @@ pub fn unite(counts: &mut [u8], source: &[u8]) -> bool
     ensures value { result ≡ stay_unmerged 8 counts.old source.now }
     ensures counts_after { counts.new ≡ (if result then united_side 8 counts.old source.now else counts.old) }
 {
-    let s = sums_of(counts, source);
-    if s.carries != 0 {
+    let Some(bytes) = sums_of(counts, source) else {
         return false;
-    }
-    let bytes = s.bytes;
+    };
     put(counts, bytes);
     true
 }

@@ -18,12 +18,13 @@ impl Hash {
     }
 
     // The hash advanced by a byte.
+    #[tactic(auto, unfolding(crate::specs::Hash::fnv_step))]
     pub fn step(self, byte: u8) -> Hash
         ensures { result.state ≡ fnv_step self.state byte }
     {
-        let mixed = (self.state ^ (byte as u32)) as u64;
+        let mixed = self.state ^ (byte as u32);
         Hash {
-            state: (mixed * 16777619 % 4294967296) as u32,
+            state: mixed.wrapping_mul(16777619),
         }
     }
 

@@ -29,7 +29,7 @@ pub fn clear(d: usize, w: usize, memory: &mut [u8]) -> Answer
         return answer_of(bad, 0);
     }
     fill(memory);
-    answer_of(0, 0)
+    answer::accepted(0)
 }
 
 // What is wrong with a call that has a key, before any group is read.
@@ -62,11 +62,11 @@ pub fn update_reading(d: usize, w: usize, memory: &mut [u8], key: &[u8], amount:
     if d == 1 {
         let slot = row_slot(Hash::start(), w, bytes, 0);
         let one = meter_row::update_one(memory, w, slot, amount);
-        return answer_of(one.status, one.value);
+        return one.figure().into();
     }
     let slots = key_slots(Hash::start(), w, bytes, d);
     let all = meter_update::update_rows(d, w, memory, &slots, amount);
-    answer_of(all.status, all.value)
+    all.figure().into()
 }
 
 // An update whose geometry and key length have passed.
@@ -99,11 +99,11 @@ pub fn estimate_checked(d: usize, w: usize, memory: &[u8], key: &[u8]) -> Answer
     let bytes = whole(key);
     if d == 1 {
         let c = meter_row::read_row(memory, w, row_slot(Hash::start(), w, bytes, 0));
-        return answer_of(c.status, c.value);
+        return c.map(|c| c.value).into();
     }
     let slots = key_slots(Hash::start(), w, bytes, d);
     let found = meter_rows::read_rows(d, w, memory, &slots);
-    answer_of(found.status, found.value)
+    found.figure().into()
 }
 
 // The least value of the key's counters.
@@ -126,7 +126,7 @@ pub fn widest(d: usize, w: usize, memory: &[u8]) -> Answer
         return answer_of(bad, 0);
     }
     let level = meter_rows::widest_rows(d, w, memory);
-    answer_of(level.status, level.value)
+    level.figure().into()
 }
 
 // Adds a source meter of the same depth and width into a meter. The source is only read.
@@ -141,10 +141,9 @@ pub fn unite(d: usize, w: usize, memory: &mut [u8], source: &[u8]) -> Answer
     if source.len() != memory.len() {
         return answer_of(answer::WRONG_LENGTH, 0);
     }
-    let full = meter_rows::unite_status(d, w, memory, source);
-    if full != 0 {
-        return answer_of(full, 0);
+    if let Err(refusal) = meter_rows::unite_status(d, w, memory, source) {
+        return answer_of(refusal.number(), 0);
     }
     meter_rows::unite_rows(d, w, memory, source);
-    answer_of(0, 0)
+    answer::accepted(0)
 }

@@ -2,7 +2,7 @@
 use mathlib.Core.Path.{◌≡◌, refl, sym, ap, ◌∙◌}
 use mathlib.Core.Bool.{Bool, true, false, cond, and-eq-true_iff}
 use mathlib.Core.List.{List, ◌++◌}
-use Prim.Native.Nat.{ℕ, zero, suc, ◌+◌, ◌-◌, ◌*◌, ◌≤◌, ◌<◌}
+use Prim.Native.Nat.{ℕ, zero, suc, ◌+◌, ◌-◌, ◌*◌, ◌/◌, ◌≤◌, ◌<◌}
 use native.Mathlib.Omega.{arith}
 use borrow.Author.Tests.{eqb-true}
 use borrow.Rule.Slice.PartMut.{put_mid}
@@ -72,6 +72,14 @@ module _ (w : ℕ) (row source : List ℕ) where
             let at : 8 * (e + 1) ≡ 8 * e + 8 = omega arith in
             p ∙ rw at (status_skip united_groups w source k (8 * e) 8 row (omega arith) (united_status_lem w 8 (8 * e) row source (omega arith) l m b c f))
         go false f p = refl
+
+-- the eights that are passed over answer nothing
+pub passed_over : (w : ℕ) (row source : List ℕ) → w ≤ length row → w ≤ length source → Bytes row → Bytes source
+    → (e r : ℕ) → e ≤ w / 64 → r ≡ next_merged w row source (w / 64 - e) e
+    → (e ≤ r) × (groups_status w source row (w / 8 - 8 * r) (8 * r) ≡ groups_status w source row (w / 8 - 8 * e) (8 * e))
+passed_over w row source l m b c e r h f =
+    let n = w / 64 - e in
+    (omega (arith, (next_in w row source n e).0, f), rw f (next_status w row source l m b c (w / 8) n e (omega arith) (omega arith)))
 
 -- unions side by side, none of which is merged
 side_left : (n : ℕ) (counts source : List ℕ) → length counts ≡ 8 * n → stay_unmerged n counts source ≡ true

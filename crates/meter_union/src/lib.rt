@@ -1,76 +1,79 @@
 // The union of one row with a source row.
 #![tactic(auto)]
 
-ghost use Rattle.std.specs.Prelude.{◌≡◌, true, cond, ◌+◌, ◌-◌, ◌*◌, ◌/◌, ◌<◌, ◌≤◌, length};
+ghost use Rattle.std.specs.Prelude.{◌≡◌, true, cond, ◌+◌, ◌-◌, ◌*◌, ◌/◌, ◌<◌, ◌≤◌, IfSome, IsNone, length};
 ghost use Rattle.geometry.specs.Geometry.{valid_width};
 ghost use Rattle.geometry.specs.Geometry as geometry;
+ghost use Rattle.answer.specs.Refusals.{status};
 ghost use Rattle.group_side.specs.Side.{stay_unmerged};
 ghost use Rattle.meter_runs.specs.Runs.{InRows, counts_of, none_merged};
 ghost use Rattle.meter_union.specs.Runs.{next_merged, groups_status};
 ghost use Rattle.meter_union.specs.Union.{united_at, unite_status, unite_groups, unite_row};
 
-use answer::earlier;
-use group::Outcome;
+use answer::Refusal;
+use group::Group;
 use meter_memory::{eight, load, store};
 use meter_runs::{eight_unmerged, none_merged};
 
-// Group g of a row united with that of a source row.
-fn united_at(row: &[u8], source: &[u8], w: usize, g: usize) -> Outcome
+// Group g of a row united with that of a source row; if refused, as it was.
+fn united_at(row: &[u8], source: &[u8], w: usize, g: usize) -> Group
     requires fact_1 { 8 * g + 8 ≤ w }
     requires fact_2 { w + g < length row.now }
     requires fact_3 { w + g < length source.now }
-    ensures { result ≡ united_at w source.now row.now g }
+    ensures { result ≡ (united_at w source.now row.now g).group }
 {
-    group::unite(load(row, w, g), load(source, w, g))
+    let target = load(row, w, g);
+    group::unite(target, load(source, w, g)).unwrap_or(target)
 }
 
-// The first eight groups, by number and from eight `from` on, some of which is merged in either row; w / 64 if there are none.
-fn next_merged(row: &[u8], source: &[u8], w: usize, from: usize) -> usize
+// The first eight groups, by number and from eight `from` on, some of which is merged in either row.
+fn next_merged(row: &[u8], source: &[u8], w: usize, from: usize) -> Option<usize>
     requires fact_1 { length row.now ≡ geometry.stride w }
     requires fact_2 { length source.now ≡ geometry.stride w }
     requires fact_3 { from ≤ w / 64 }
-    ensures { result ≡ next_merged w row.now source.now (w / 64 - from) from }
+    ensures some { IfSome result (λ e. (e < w / 64) × (e ≡ next_merged w row.now source.now (w / 64 - from) from)) }
+    ensures none { IsNone result → w / 64 ≡ next_merged w row.now source.now (w / 64 - from) from }
 {
     for e in from..w / 64 {
         if !eight_unmerged(row, source, w, 8 * e) {
-            return e;
+            return Some(e);
         }
     }
-    w / 64
+    None
 }
 
 // Whether n groups of a row take those of a source row, the first of which is group `first`.
-fn groups_status(row: &[u8], source: &[u8], w: usize, first: usize, n: usize) -> u8
+fn groups_status(row: &[u8], source: &[u8], w: usize, first: usize, n: usize) -> Result<(), Refusal>
     requires { InRows w n first row.now source.now }
-    ensures { result ≡ groups_status w source.now row.now n first }
+    ensures { status result ≡ groups_status w source.now row.now n first }
 {
-    let mut status = 0u8;
+    let mut status = Ok(());
     for g in first..first + n {
         let s = group::unite_status(load(row, w, g), load(source, w, g));
-        status = earlier(status, s);
+        status = answer::first(status, s);
     }
     status
 }
 
 // Whether a row takes a source row. Unmerged groups do. Only a row of 32 slots has groups left after its eights.
-pub fn unite_status(row: &[u8], source: &[u8], w: usize) -> u8
+pub fn unite_status(row: &[u8], source: &[u8], w: usize) -> Result<(), Refusal>
     requires fact_1 { valid_width w ≡ true }
     requires fact_2 { length row.now ≡ geometry.stride w }
     requires fact_3 { length source.now ≡ geometry.stride w }
-    ensures { result ≡ unite_status w source.now row.now }
+    ensures { status result ≡ unite_status w source.now row.now }
 {
-    let mut status = 0u8;
-    let mut e = next_merged(row, source, w, 0);
-    while e < w / 64 {
-        status = earlier(status, groups_status(row, source, w, 8 * e, 8));
-        e = next_merged(row, source, w, e + 1);
+    let mut status = Ok(());
+    let mut from = 0;
+    while let Some(e) = next_merged(row, source, w, from) {
+        status = answer::first(status, groups_status(row, source, w, 8 * e, 8));
+        from = e + 1;
     }
     let first = w / 64 * 8;
     let n = w / 8 % 8;
     if none_merged(row, source, w, first, n) {
         return status;
     }
-    earlier(status, groups_status(row, source, w, first, n))
+    answer::first(status, groups_status(row, source, w, first, n))
 }
 
 // n groups of a source row added into a row one by one, the first of which is group `first`.
@@ -79,8 +82,7 @@ fn unite_groups(row: &mut [u8], source: &[u8], w: usize, first: usize, n: usize)
     ensures { row.new ≡ unite_groups w source.now n first row.old }
 {
     for g in first..first + n {
-        let o = united_at(row, source, w, g);
-        let x = o.group;
+        let x = united_at(row, source, w, g);
         store(row, w, g, x);
     }
 }

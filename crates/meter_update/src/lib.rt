@@ -6,20 +6,19 @@ ghost use Rattle.std.specs.Prelude.{◌≡◌, cond, ◌≤◌, eqb, length};
 ghost use Rattle.geometry.specs.Geometry.{RowsIn};
 ghost use Rattle.geometry.specs.Geometry as geometry;
 ghost use Rattle.answer.specs.Order.{earliest};
+ghost use Rattle.answer.specs.Refusals.{status};
 ghost use Rattle.meter_memory.specs.Rows.{of_rows, least};
 ghost use Rattle.meter_row.specs.Slots.{SlotsIn, added_status, added_value, Added, added_rows};
 
-use answer::{Answer, earlier};
 use group::Group;
 use meter_memory::{load, row_at};
-use meter_row::{smaller, update_row};
+use meter_row::{Found, update_row, value_of};
 
 // The groups that an update leaves in the rows, the first status and the least value of the counters that are left.
 #[derive(Clone, Copy)]
 struct Trial {
     groups: [Group; 8],
-    status: u8,
-    value: u64,
+    found: Found,
 }
 
 // An amount added in the slot's group of each row. Stores nothing. Where the counter holds the sum, no group is handed back in memory.
@@ -27,8 +26,8 @@ fn try_rows(d: usize, w: usize, memory: &[u8], slots: &[usize; 8], amount: u32) 
     requires fact_1 { 1 ≤ d }
     requires fact_2 { RowsIn d w (length memory.now) }
     requires fact_3 { SlotsIn d w slots.now }
-    ensures status_value { result.status ≡ earliest (of_rows (added_status w slots.now amount) (geometry.stride w) d 0 memory.now) }
-    ensures value_value { result.value ≡ least (of_rows (added_value w slots.now amount) (geometry.stride w) d 0 memory.now) }
+    ensures status_value { status result.found.status ≡ earliest (of_rows (added_status w slots.now amount) (geometry.stride w) d 0 memory.now) }
+    ensures value_value { result.found.value ≡ least (of_rows (added_value w slots.now amount) (geometry.stride w) d 0 memory.now) }
     ensures added { Added d w memory.now slots.now amount result.groups }
 {
     let none = Group {
@@ -37,52 +36,48 @@ fn try_rows(d: usize, w: usize, memory: &[u8], slots: &[usize; 8], amount: u32) 
     };
     let mut t = Trial {
         groups: [none; 8],
-        status: 0,
-        value: 0,
+        found: Found {
+            status: Ok(()),
+            value: 0,
+        },
     };
-    let mut status = 0u8;
-    let mut value = 18446744073709551615u64;
+    let mut status = Ok(());
+    let mut value = u64::MAX;
     for r in 0..d {
-        let x = load(row_at(w, memory, r), w, slots[r] / 8);
-        let k = group::add_in_place(x, slots[r], amount);
-        if k.held {
+        let slot = slots[r];
+        let x = load(row_at(w, memory, r), w, slot / 8);
+        if let Some(k) = group::add_in_place(x, slot, amount) {
             let counts = k.counts;
             t.groups[r] = Group {
                 counts,
                 merge: x.merge,
             };
-            value = smaller(value, k.value);
+            value = value.min(k.value);
         } else {
-            let o = group::add_widening(x, slots[r], amount);
-            let g = o.group;
-            let c = group::counter(g, slots[r]);
+            let left = group::add_widening(x, slot, amount);
+            let g = left.unwrap_or(x);
             t.groups[r] = g;
-            status = earlier(status, o.status);
-            value = smaller(value, c.value);
+            status = answer::first(status, left.and(Ok(())));
+            value = value.min(value_of(group::counter(g, slot)));
         }
     }
-    t.status = status;
-    t.value = value;
+    t.found = Found { status, value };
     t
 }
 
 // An update of each row in the group of a slot, once every row is known to take it; the first status, and the least value of the counters
 // that are left.
-pub fn update_rows(d: usize, w: usize, memory: &mut [u8], slots: &[usize; 8], amount: u32) -> Answer
+pub fn update_rows(d: usize, w: usize, memory: &mut [u8], slots: &[usize; 8], amount: u32) -> Found
     requires fact_1 { 1 ≤ d }
     requires fact_2 { RowsIn d w (length memory.old) }
     requires fact_3 { SlotsIn d w slots.now }
-    ensures status_value { result.status ≡ earliest (of_rows (added_status w slots.now amount) (geometry.stride w) d 0 memory.old) }
+    ensures status_value { status result.status ≡ earliest (of_rows (added_status w slots.now amount) (geometry.stride w) d 0 memory.old) }
     ensures value_value { result.value ≡ least (of_rows (added_value w slots.now amount) (geometry.stride w) d 0 memory.old) }
-    ensures memory_after { memory.new ≡ cond (eqb result.status 0) (added_rows d w slots.now amount memory.old) memory.old }
+    ensures memory_after { memory.new ≡ cond (eqb (status result.status) 0) (added_rows d w slots.now amount memory.old) memory.old }
 {
     let t = try_rows(d, w, memory, slots, amount);
-    if t.status != 0 {
-        return Answer {
-            status: t.status,
-            position: 0,
-            value: t.value,
-        };
+    if t.found.status.is_err() {
+        return t.found;
     }
     let stride = geometry::stride(w);
     for r in 0..d {
@@ -90,9 +85,5 @@ pub fn update_rows(d: usize, w: usize, memory: &mut [u8], slots: &[usize; 8], am
         let e = a + stride;
         update_row(&mut memory[a..e], w, slots[r], t.groups[r]);
     }
-    Answer {
-        status: 0,
-        position: 0,
-        value: t.value,
-    }
+    t.found
 }

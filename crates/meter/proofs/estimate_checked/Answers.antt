@@ -1,10 +1,12 @@
 use mathlib.Core.Path.{◌≡◌, ap, ap₂, ◌∙◌}
 use mathlib.Core.List.{List}
 use Prim.Native.Nat.{ℕ, ◌<◌}
+use borrow.Author.Rules.{rules}
 use Rattle.group.specs.Results.{Reading}
 use Rattle.answer.specs.Answers.{answer_of}
 use lib.ListN.{get_or}
 use Rattle.meter_keys.specs.Keys.{key_slot}
+use Rattle.meter_row.proofs.Results.{read_told}
 use Rattle.meter.proofs.Calls.{call_rows, estimated_good}
 use Rattle.meter.proofs.Slots.{read_status_by_key, read_value_by_key, one_long, one_read_status, one_read_value}
 use Rattle.meter.proofs.estimate_checked.Goals as goal
@@ -23,7 +25,7 @@ returns-then-d-eq1 c = let found = c.read_row-c.ensures in
     let start = c.start.ensures in
     let status = ap (λ (x : Reading). x.status) found ∙ one_read_status a.d a.w a.memory.now a.key.now c.if-d-eq1.true long start at in
     let value = ap (λ (x : Reading). x.value) found ∙ one_read_value a.d a.w a.memory.now a.key.now c.if-d-eq1.true long start at in
-    c.answer_of.ensures ∙ ap₂ answer_of status value ∙ estimated_good a.d a.w a.memory.now a.key.now c.requires
+    c.into.ensures ∙ read_told c.read_row-c.result c.map.result (search (rules, c.map.ensures.cases)) ∙ ap₂ answer_of status value ∙ estimated_good a.d a.w a.memory.now a.key.now c.requires
 
 pub key_slots-slots-requires : goal.key_slots-slots-requires
 key_slots-slots-requires c = let p = (call_rows _ _ _ _ c.requires).1 in record { fact_1 = p.0; fact_2 = p.1 }
@@ -40,4 +42,4 @@ returns c = let found = c.read_rows-found.ensures in
     λ r h. slots.ensures.by_index r h ∙ ap (λ (b : List ℕ). key_slot c.start-2.result.state a.w b r) c.whole-bytes.ensures in
     let status = found.status_value ∙ read_status_by_key a.d a.w a.memory.now a.key.now slots.result start at in
     let value = found.value_value ∙ read_value_by_key a.d a.w a.memory.now a.key.now slots.result start at in
-    c.answer_of-2.ensures ∙ ap₂ answer_of status value ∙ estimated_good a.d a.w a.memory.now a.key.now c.requires
+    c.into-2.ensures ∙ c.figure.ensures ∙ ap₂ answer_of status value ∙ estimated_good a.d a.w a.memory.now a.key.now c.requires

@@ -1,4 +1,6 @@
 use mathlib.Core.Path.{sym, ◌∙◌}
+use Rattle.answer.specs.Answers.{answer_of}
+use Rattle.group.proofs.Results.{status_ok, status_err}
 use Rattle.geometry.proofs.Widths.{shape_good}
 use Rattle.meter.proofs.Calls.{united_bad, united_length, united_full, united_good}
 use Rattle.meter.proofs.unite.Goals as goal
@@ -11,16 +13,18 @@ pub returns-then-source-memory : goal.returns-then-source-memory
 returns-then-source-memory c = let a = c.args in
     let p = united_length a.d a.w a.memory.now a.source.now (sym c.bad_shape-bad.ensures ∙ c.if-bad-ne0.false) c.if-source-memory.true in record { value = c.answer_of-then-source-memory.ensures ∙ p.0; memory_after = p.1 }
 
-pub unite_status-full-requires : goal.unite_status-full-requires
-unite_status-full-requires c = let a = c.args in record { fact_1 = (shape_good a.d a.w _ (sym c.bad_shape-bad.ensures ∙ c.if-bad-ne0.false)).1; fact_2 = c.if-source-memory.false }
+pub unite_status-requires : goal.unite_status-requires
+unite_status-requires c = let a = c.args in record { fact_1 = (shape_good a.d a.w _ (sym c.bad_shape-bad.ensures ∙ c.if-bad-ne0.false)).1; fact_2 = c.if-source-memory.false }
 
-pub returns-then-full-ne0 : goal.returns-then-full-ne0
-returns-then-full-ne0 c = let a = c.args in
-    let p = united_full a.d a.w a.memory.now a.source.now (sym c.bad_shape-bad.ensures ∙ c.if-bad-ne0.false) c.if-source-memory.false c.unite_status-full.result c.unite_status-full.ensures c.if-full-ne0.true in record { value = c.answer_of-then-full-ne0.ensures ∙ p.0; memory_after = p.1 }
+pub returns-in-Err : goal.returns-in-Err
+returns-in-Err c = let a = c.args in
+    let r = status_err _ c.in-Err.refusal _ c.in-Err.ensures in
+    let p = united_full a.d a.w a.memory.now a.source.now (sym c.bad_shape-bad.ensures ∙ c.if-bad-ne0.false) c.if-source-memory.false c.number.result (c.number.ensures ∙ r.refused) (λ e. r.some (sym (c.number.ensures ∙ r.refused) ∙ e)) in record { value = c.answer_of-in-Err.ensures ∙ p.0; memory_after = p.1 }
 
 pub unite_rows-requires : goal.unite_rows-requires
 unite_rows-requires c = let a = c.args in record { fact_1 = (shape_good a.d a.w _ (sym c.bad_shape-bad.ensures ∙ c.if-bad-ne0.false)).1; fact_2 = c.if-source-memory.false }
 
 pub returns : goal.returns
+unfolding answer_of
 returns c = let a = c.args in
-    let p = united_good a.d a.w a.memory.now a.source.now (sym c.bad_shape-bad.ensures ∙ c.if-bad-ne0.false) c.if-source-memory.false (sym c.unite_status-full.ensures ∙ c.if-full-ne0.false) in record { value = c.answer_of-2.ensures ∙ p.0; memory_after = c.unite_rows.ensures ∙ p.1 }
+    let p = united_good a.d a.w a.memory.now a.source.now (sym c.bad_shape-bad.ensures ∙ c.if-bad-ne0.false) c.if-source-memory.false (status_ok c.in_default.field-0 _ c.in_default.ensures) in record { value = c.accepted.ensures ∙ p.0; memory_after = c.unite_rows.ensures ∙ p.1 }

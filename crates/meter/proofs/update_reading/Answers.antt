@@ -7,6 +7,7 @@ use lib.ListN.{get_or}
 use Rattle.answer.specs.declared.Answer.{Answer}
 use Rattle.answer.specs.Answers.{answer_of}
 use Rattle.answer.specs.Order.{earliest}
+use Rattle.answer.specs.Refusals as refusals
 use Rattle.answer.proofs.Answers.{status_is}
 use Rattle.hash.specs.Hash.{basis}
 use Rattle.geometry.specs.Geometry.{stride}
@@ -32,21 +33,21 @@ module _ (d w : ℕ) (memory key : List ℕ) (amount : ℕ) (good : bad_call d w
   Done a m = (a.status ≡ (updated d w memory key amount).answer.status)
       × ((m ≡ (updated d w memory key amount).memory) × (a.status ≡ 0 → a.value ≡ (estimated d w m key).value))
 
-  by_rows : (u a : Answer) (m : List ℕ) → a ≡ answer_of u.status u.value
-      → u.status ≡ earliest (of_rows (update_status basis w key amount) (stride w) d 0 memory)
-      → u.value ≡ least (of_rows (left_value w key amount) (stride w) d 0 memory)
-      → m ≡ cond (eqb u.status 0) (map_rows (update_row basis w key amount) (stride w) d 0 memory) memory
+  by_rows : (first least_value : ℕ) (a : Answer) (m : List ℕ) → a ≡ answer_of first least_value
+      → first ≡ earliest (of_rows (update_status basis w key amount) (stride w) d 0 memory)
+      → least_value ≡ least (of_rows (left_value w key amount) (stride w) d 0 memory)
+      → m ≡ cond (eqb first 0) (map_rows (update_row basis w key amount) (stride w) d 0 memory) memory
       → Done a m
-  by_rows u a m is status value after =
-      let s : a.status ≡ u.status = ap (λ (x : Answer). x.status) is ∙ status_is u.status u.value in
-      let t = rows_status d w memory key amount u.status good status in
-      let n = (updated_rows d w memory key amount good u.status m status after).1 in (
+  by_rows first least_value a m is status value after =
+      let s : a.status ≡ first = ap (λ (x : Answer). x.status) is ∙ status_is first least_value in
+      let t = rows_status d w memory key amount first good status in
+      let n = (updated_rows d w memory key amount good first m status after).1 in (
         s ∙ t,
         (
           n,
           λ e.
-              ap (λ (x : Answer). x.value) (is ∙ ap (λ (x : ℕ). answer_of x u.value) (sym s ∙ e)) ∙ value_is u.value
-              ∙ value_left d w memory key amount (sym t ∙ sym s ∙ e) m u.value good n value,
+              ap (λ (x : Answer). x.value) (is ∙ ap (λ (x : ℕ). answer_of x least_value) (sym s ∙ e)) ∙ value_is least_value
+              ∙ value_left d w memory key amount (sym t ∙ sym s ∙ e) m least_value good n value,
         ),
       )
 
@@ -56,11 +57,11 @@ returns-then-d-eq1 c = let u = c.update_one-one in
     let long = one_long a.d a.w _ c.if-d-eq1.true (call_rows _ _ _ _ c.requires).1.2 in
     let at = c.row_slot-slot.ensures.value ∙ ap (λ (b : List ℕ). key_slot c.start.result.state a.w b 0) c.whole-bytes.ensures in
     let start = c.start.ensures in
-    let r = by_rows a.d a.w a.memory.now a.key.now a.amount c.requires u.result c.answer_of.result u.new.row c.answer_of.ensures
+    let r = by_rows a.d a.w a.memory.now a.key.now a.amount c.requires (refusals.status u.result.status) u.result.value c.into.result u.new.row (c.into.ensures ∙ c.figure.ensures)
     (u.ensures.status_value ∙ one_status a.d a.w a.memory.now a.key.now c.if-d-eq1.true long start at a.amount)
     (u.ensures.value_value ∙ one_left a.d a.w a.memory.now a.key.now c.if-d-eq1.true long start at a.amount)
     (u.ensures.row_after
-    ∙ ap (λ (m : List ℕ). cond (eqb u.result.status 0) m a.memory.now) (one_added a.d a.w a.memory.now a.key.now c.if-d-eq1.true long start at a.amount)) in
+    ∙ ap (λ (m : List ℕ). cond (eqb (refusals.status u.result.status) 0) m a.memory.now) (one_added a.d a.w a.memory.now a.key.now c.if-d-eq1.true long start at a.amount)) in
     record { status_value = r.0; memory_after = r.1.0; value_value = r.1.1 }
 
 pub key_slots-slots-requires : goal.key_slots-slots-requires
@@ -80,9 +81,9 @@ returns c = let u = c.update_rows-all in
     let a = c.args in
     let start = c.start-2.ensures in
     let slots = c.key_slots-slots.result in
-    let r = by_rows a.d a.w a.memory.now a.key.now a.amount c.requires u.result c.answer_of-2.result u.new.memory c.answer_of-2.ensures
+    let r = by_rows a.d a.w a.memory.now a.key.now a.amount c.requires (refusals.status u.result.status) u.result.value c.into-2.result u.new.memory (c.into-2.ensures ∙ c.figure-2.ensures)
     (u.ensures.status_value ∙ status_by_key a.d a.w a.memory.now a.key.now slots start (key_slots_at (goal.at.returns c).After-key_slots-slots) a.amount)
     (u.ensures.value_value ∙ left_by_key a.d a.w a.memory.now a.key.now slots start (key_slots_at (goal.at.returns c).After-key_slots-slots) a.amount)
     (u.ensures.memory_after
-    ∙ ap (λ (m : List ℕ). cond (eqb u.result.status 0) m a.memory.now) (added_by_key a.d a.w a.memory.now a.key.now slots start (key_slots_at (goal.at.returns c).After-key_slots-slots) a.amount)) in
+    ∙ ap (λ (m : List ℕ). cond (eqb (refusals.status u.result.status) 0) m a.memory.now) (added_by_key a.d a.w a.memory.now a.key.now slots start (key_slots_at (goal.at.returns c).After-key_slots-slots) a.amount)) in
     record { status_value = r.0; memory_after = r.1.0; value_value = r.1.1 }

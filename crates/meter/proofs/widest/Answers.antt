@@ -15,4 +15,4 @@ widest_rows-level-requires c = let a = c.args in
 pub returns : goal.returns
 returns c = let a = c.args in
     let found = c.widest_rows-level.ensures in
-    c.answer_of-2.ensures ∙ ap₂ answer_of found.status_value found.value_value ∙ widest_good a.d a.w a.memory.now (sym c.bad_shape-bad.ensures ∙ c.if-bad-ne0.false)
+    c.into.ensures ∙ c.figure.ensures ∙ ap₂ answer_of found.status_value found.value_value ∙ widest_good a.d a.w a.memory.now (sym c.bad_shape-bad.ensures ∙ c.if-bad-ne0.false)

@@ -1,39 +1,62 @@
-use Rattle.meter_row.specs.Row.{level_status, group_level, widest_status, widest_row}
-use Rattle.meter_memory.proofs.Lists.{status_start, level_start, status_turn, status_end, level_turn, level_end}
-use mathlib.Core.Path.{refl, sym, ap, ◌∙◌}
-use Prim.Native.Nat.{◌-◌, ◌/◌}
+use mathlib.Core.Path.{◌≡◌, sym, ap, ◌∙◌}
+use mathlib.Core.List.{List}
+use Prim.Native.Nat.{ℕ, ◌-◌, ◌/◌, ◌<◌}
 use native.Mathlib.Omega.{arith}
-use Rattle.geometry.proofs.Widths.{wide, group_in}
-use Rattle.meter_memory.specs.Rows.{group_at}
+use lib.ListN.{length, get_or, take, drop, length-drop}
+use lib.Seq.{get_or-drop, take_all}
 use Rattle.answer.specs.declared.Answer.{Answer}
+use Rattle.answer.specs.Answers.{told}
+use Rattle.answer.specs.Refusals.{status}
+use Rattle.geometry.specs.Geometry.{stride}
+use Rattle.geometry.proofs.Widths.{stride_is}
+use Rattle.group.specs.Group.{widest_of}
+use Rattle.meter_memory.specs.Rows.{group_at}
+use Rattle.meter_memory.proofs.Lists.{status_start, level_start, status_turn, status_end, level_turn, level_end}
+use Rattle.meter_row.specs.Row.{level_status, group_level, widest_status, widest_row}
+use Rattle.meter_row.proofs.Results.{and_status, told_status, told_value}
 use Rattle.meter_row.proofs.widest_row.Goals as goal
 
-pub loop-g-init : goal.loop-g-init
-unfolding widest_status widest_row
-loop-g-init c = let a = c.args in
-    (omega arith, refl, status_start (level_status a.w a.row.now) (a.w / 8), level_start (group_level a.w a.row.now) (a.w / 8))
+-- the bytes after the counts are the merge bytes, one for each group
+module _ (w : ℕ) (row : List ℕ) (e : length row ≡ stride w) where
+  merges_is : take (length row - w) (drop w row) ≡ drop w row
+  merges_is = take_all (length row - w) (drop w row) (rw length-drop (omega arith))
 
-pub overflow_add-w : goal.overflow_add-w
-overflow_add-w c = let f = wide c.args.w c.requires.fact_1 in
-    omega arith
+  merges_long : length (take (length row - w) (drop w row)) ≡ w / 8
+  merges_long = rw (merges_is, length-drop) (omega (arith, stride_is w))
 
-pub bounds-row-w : goal.bounds-row-w
-bounds-row-w c = let i = group_in c.args.w c.loop-g.g c.requires.fact_1 (omega arith) in
-    omega arith
+  merge_is : (g : ℕ) → get_or (take (length row - w) (drop w row)) g 0 ≡ (group_at w row g).merge
+  unfolding group_at
+  merge_is g = rw merges_is (get_or-drop w row g 0)
 
-pub loop-g-preserved : goal.loop-g-preserved
-unfolding level_status group_level group_at
-loop-g-preserved c = let a = c.args in
-    let l = c.loop-g in
-    let w = c.widest-a.ensures in (
-      omega arith,
-      l.invariant.1,
-      rw c.earlier-status.ensures
-          (status_turn (level_status a.w a.row.now) (a.w / 8) l.g l.status c.widest-a.result.status (omega arith) (ap (λ (x : Answer). x.status) w) ∙ l.invariant.2),
-      rw c.larger-value.ensures
-          (level_turn (group_level a.w a.row.now) (a.w / 8) l.g l.value c.widest-a.result.value (omega arith) (ap (λ (x : Answer). x.value) w) ∙ l.invariant.3),
+pub slice_bounds-merge-items-count : goal.slice_bounds-merge-items-count
+slice_bounds-merge-items-count c = omega (arith, stride_is c.args.w)
+
+pub slice_bounds-merge-items-start : goal.slice_bounds-merge-items-start
+slice_bounds-merge-items-start c = omega (arith, stride_is c.args.w)
+
+pub loop-merge-init : goal.loop-merge-init
+unfolding status widest_status widest_row
+loop-merge-init c = let a = c.args in
+    (status_start (level_status a.w a.row.now) (a.w / 8), level_start (group_level a.w a.row.now) (a.w / 8))
+
+pub loop-merge-preserved : goal.loop-merge-preserved
+unfolding level_status group_level
+loop-merge-preserved c = let a = c.args in
+    let l = c.loop-merge in
+    let level = c.widest-level.result in
+    let e : told level ≡ widest_of (group_at a.w a.row.now l.merge-index).merge = c.widest-level.ensures ∙ ap widest_of (merge_is a.w a.row.now c.requires.fact_2 l.merge-index) in
+    let s = ap (status {A = _}) c.and.ensures ∙ and_status level ∙ told_status level ∙ ap (λ (x : Answer). x.status) e in
+    let v = c.unwrap_or.ensures ∙ told_value level ∙ ap (λ (x : Answer). x.value) e in
+    let inside : l.merge-index < a.w / 8 = omega (arith, merges_long a.w a.row.now c.requires.fact_2) in (
+      rw c.first-status.ensures
+          (status_turn (level_status a.w a.row.now) (a.w / 8) l.merge-index (status l.status) (status c.and.result) inside s ∙ l.invariant.0),
+      omega (arith, level_turn (group_level a.w a.row.now) (a.w / 8) l.merge-index l.value c.unwrap_or.result inside v, l.invariant.1),
     )
 
 pub returns : goal.returns
 returns c = let a = c.args in
-    let l = c.loop-g in record { status_value = sym (status_end (level_status a.w a.row.now) (a.w / 8) l.g l.status (omega arith)) ∙ l.invariant.2; value_value = sym (level_end (group_level a.w a.row.now) (a.w / 8) l.g l.value (omega arith)) ∙ l.invariant.3 }
+    let l = c.loop-merge in
+    let end = merges_long a.w a.row.now c.requires.fact_2 in record {
+      status_value = sym (status_end (level_status a.w a.row.now) (a.w / 8) l.merge-index (status l.status) (omega (arith, end))) ∙ l.invariant.0;
+      value_value = sym (level_end (group_level a.w a.row.now) (a.w / 8) l.merge-index l.value (omega (arith, end))) ∙ l.invariant.1;
+    }

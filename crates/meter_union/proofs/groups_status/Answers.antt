@@ -6,13 +6,14 @@ use Rattle.meter_runs.specs.Runs.{run_status}
 use Rattle.meter_union.specs.Runs.{groups_status}
 use Rattle.meter_memory.proofs.Lists.{status_turn, status_end}
 use mathlib.Core.Path.{refl, sym, ap, ap₂, ◌∙◌}
-use Prim.Native.Nat.{ℕ, ◌+◌, ◌-◌}
+use Prim.Native.Nat.{ℕ, ◌+◌}
 use native.Mathlib.Omega.{arith}
 use Rattle.answer.specs.Order.{earlier}
+use Rattle.answer.specs.Refusals.{status}
 use Rattle.meter_union.proofs.groups_status.Goals as goal
 
 pub loop-g-init : goal.loop-g-init
-unfolding earlier
+unfolding earlier status
 loop-g-init c = let a = c.args in
     (omega arith, omega arith, refl, ap (λ (k : ℕ). groups_status a.w a.source.now a.row.now k a.first) (omega arith))
 
@@ -23,8 +24,8 @@ loop-g-preserved c = let a = c.args in
       omega arith,
       omega arith,
       refl,
-      rw c.earlier-status.ensures
-          (status_turn (united_status a.w a.source.now a.row.now) (a.first + a.n) l.g l.status c.unite_status-s.result (omega arith)
+      rw c.first-status.ensures
+          (status_turn (united_status a.w a.source.now a.row.now) (a.first + a.n) l.g (status l.status) (status c.unite_status-s.result) (omega arith)
           (c.unite_status-s.ensures ∙ ap₂ (λ (x y : Group). (united_groups x y).status) c.load.ensures c.load-in-loop-g.ensures)
           ∙ l.invariant.3),
     )
@@ -33,4 +34,4 @@ pub returns : goal.returns
 unfolding run_status
 returns c = let a = c.args in
     let l = c.loop-g in
-    sym (status_end (united_status a.w a.source.now a.row.now) (a.first + a.n) l.g l.status (omega arith)) ∙ l.invariant.3
+    sym (status_end (united_status a.w a.source.now a.row.now) (a.first + a.n) l.g (status l.status) (omega arith)) ∙ l.invariant.3

@@ -1,7 +1,7 @@
 use mathlib.Core.Path.{refl, sym, ap, ◌∙◌}
 use Prim.Native.Nat.{ℕ, ◌+◌, ◌-◌}
 use native.Mathlib.Omega.{arith}
-use Rattle.group.specs.Results.{Outcome}
+use Rattle.group.specs.declared.Group.{Group}
 use Rattle.meter_union.specs.Union.{unite_groups}
 use Rattle.meter_memory.specs.Rows.{with_group}
 use Rattle.group.specs.Group.{united_groups}
@@ -15,13 +15,13 @@ loop-g-init c = let a = c.args in
 pub loop-g-preserved : goal.loop-g-preserved
 loop-g-preserved c = let a = c.args in
     let l = c.loop-g in
-    let u = c.united_at-o.ensures in
+    let u = c.united_at-x.ensures in
     let end = a.first + a.n in (
       omega arith,
       omega arith,
       refl,
       rw c.store.ensures
-          (ap (λ (o : Outcome). unite_groups a.w a.source.now (end - (l.g + 1)) (l.g + 1) (with_group a.w l.row l.g o.group)) u
+          (ap (λ (x : Group). unite_groups a.w a.source.now (end - (l.g + 1)) (l.g + 1) (with_group a.w l.row l.g x)) u
           ∙ pair_turn united_groups a.w a.source.now l.row end l.g (omega arith)
           ∙ l.invariant.3),
       omega arith,

@@ -1,5 +1,4 @@
 use mathlib.Core.Path.{◌≡◌, refl, sym, ap, ◌∙◌}
-use mathlib.Core.Bool.{true}
 use Prim.Native.Nat.{ℕ, zero, suc, ◌+◌, ◌-◌, ◌/◌, ◌^◌, ◌<◌, min}
 use native.Mathlib.Omega.{arith}
 use borrow.Author.Rules.{rules}
@@ -8,10 +7,14 @@ use mir.Syntax.{w64}
 use mathlib.Core.List.{List}
 use lib.ListN.{get_or, set}
 use Rattle.group.specs.declared.Group.{Group}
-use Rattle.group.specs.Results.{Outcome}
+use Rattle.group.specs.Results.{Outcome, outcome_of}
 use Rattle.group.specs.Results.{Reading}
 use Rattle.group.specs.Group.{read, added}
-use Rattle.group.proofs.Laws.{added_kept}
+use Rattle.answer.specs.Refusals.{status}
+use Rattle.answer.specs.Refusals as refusals
+use Rattle.group.proofs.Results.{kept_some, not_kept, added_kept, group_or}
+use Rattle.meter_row.proofs.Results.{and_status, outcome_status}
+use Rattle.meter_row.proofs.Slots.{added_is}
 use Rattle.geometry.specs.Geometry.{stride}
 use Rattle.answer.specs.Order.{earlier}
 use Rattle.meter_memory.specs.Rows.{row_of, group_at, least_or}
@@ -24,7 +27,7 @@ use Rattle.meter_memory.proofs.Tried.{tried_more, tried_all}
 use Rattle.meter_row.specs.Slots.{added_status, added_value}
 use Rattle.meter_update.proofs.try_rows.Invariants.{outcome, Valued}
 use Rattle.meter_update.proofs.try_rows.Goals as goal
-use Rattle.meter_update.proofs.try_rows.Goals.{then-k, else-k, After-add_in_place-k}
+use Rattle.meter_update.proofs.try_rows.Goals.{in-Some, in_default, Joined-add_in_place}
 
 -- one row more, by the group, the status and the value that it is left with
 valued_more : (d w : ℕ) (memory slots : List ℕ) (amount : ℕ) (groups : List Group) (status value r : ℕ)
@@ -43,6 +46,7 @@ valued_more d w memory slots amount groups status value r i h o v is v-is l =
     first_in (suc n) z = i.2 (omega (arith, z))
 
 pub loop-r-init : goal.loop-r-init
+unfolding status
 loop-r-init c = let a = c.args in (
   (omega arith, c.requires.fact_2.1, rows_start (added_status a.w a.slots.now a.amount) a.w a.d a.memory.now, λ z k h. absurd (omega arith)),
   ap (least_or (2 ^ 64 - 1)) (rows_read_all (added_value a.w a.slots.now a.amount) (stride a.w) a.d a.memory.now),
@@ -61,80 +65,73 @@ load-x-requires c = let a = c.args in
     let v = c.requires.fact_2.0 in
     let i = group_in a.w (slot / 8) v (slot_in a.w slot v (c.requires.fact_3 c.loop-r.r c.loop-r-test.true)) in record { fact_1 = i.0; fact_2 = omega (arith, c.row_at.ensures.result_len, i.1) }
 
-pub bounds-slots-r-in-loop-r : goal.bounds-slots-r-in-loop-r
-bounds-slots-r-in-loop-r c = omega (arith, c.requires.fact_2.1)
-
 pub bounds-t-r : goal.bounds-t-r
 bounds-t-r c = omega (arith, c.requires.fact_2.1)
 
-pub bounds-slots-r-else-k : goal.bounds-slots-r-else-k
-bounds-slots-r-else-k c = omega (arith, c.requires.fact_2.1)
+pub add_widening-left-requires : goal.add_widening-left-requires
+add_widening-left-requires c = not_kept c.load-x.result (get_or c.args.slots.now c.loop-r.r 0) c.args.amount (sym c.in_default.is ∙ c.add_in_place.ensures)
 
-pub add_widening-o-requires : goal.add_widening-o-requires
-add_widening-o-requires c = sym c.add_in_place-k.ensures.held_value ∙ c.if-k.false
-
-pub bounds-slots-r-else-k-2 : goal.bounds-slots-r-else-k-2
-bounds-slots-r-else-k-2 c = omega (arith, c.requires.fact_2.1)
-
-pub offset_bounds-t-r-else-k : goal.offset_bounds-t-r-else-k
-offset_bounds-t-r-else-k c = omega (arith, c.requires.fact_2.1)
-
-pub bounds-t-r-else-k : goal.bounds-t-r-else-k
-bounds-t-r-else-k c = omega (arith, c.requires.fact_2.1)
-
-module _ (c : After-add_in_place-k) where
+module _ (c : Joined-add_in_place) where
   abbrev x : Group
   x = c.load-x.result
 
   abbrev slot : ℕ
   slot = get_or c.args.slots.now c.loop-r.r 0
 
-  group_is : added x slot c.args.amount ≡ added_in c.args.w (row_of c.args.w c.args.memory.now c.loop-r.r) slot c.args.amount
-  unfolding added_in row_of
-  group_is =
-      ap (λ (g : Group). added g slot c.args.amount)
+  abbrev sum : Outcome
+  sum = added x slot c.args.amount
+
+  group_is : sum ≡ added_in c.args.w (row_of c.args.w c.args.memory.now c.loop-r.r) slot c.args.amount
+  unfolding row_of
+  group_is = added_is c.args.w (row_of c.args.w c.args.memory.now c.loop-r.r) slot c.args.amount x
       (c.load-x.ensures ∙ ap (λ (row : List ℕ). group_at c.args.w row (slot / 8)) c.row_at.ensures.result_value)
 
-  kept : c.add_in_place-k.result.held ≡ true
-      → added x slot c.args.amount ≡ record { status = 0; group = record { counts = c.add_in_place-k.result.counts; merge = x.merge } }
-  kept t = added_kept x slot c.args.amount c.add_in_place-k.result t c.add_in_place-k.ensures.held_value c.add_in_place-k.ensures.counts_value
-
   -- by which branch the addition was made is the same to what is left
-  row_tried : (groups : List Group) (status value : ℕ) (o : Outcome) (v : ℕ) → o ≡ added x slot c.args.amount → v ≡ (read o.group slot).value → v < 2 ^ 64
+  row_tried : (groups : List Group) (status value : ℕ) (o : Outcome) (v : ℕ) → o ≡ sum → v ≡ (read o.group slot).value → v < 2 ^ 64
       → groups ≡ set c.loop-r.t.groups c.loop-r.r o.group
-      → status ≡ earlier c.loop-r.status o.status
+      → status ≡ earlier (refusals.status c.loop-r.status) o.status
       → value ≡ min c.loop-r.value v
       → Valued c.args.d c.args.w c.args.memory.now c.args.slots.now c.args.amount groups status value (c.loop-r.r + 1)
   row_tried groups status value o v is v-is lt e f g =
       let a = c.args in
       let l = c.loop-r in
       rw (e, f, g)
-      (valued_more a.d a.w a.memory.now a.slots.now a.amount l.t.groups l.status l.value l.r l.invariant c.loop-r-test.true o v (is ∙ group_is) v-is lt)
+      (valued_more a.d a.w a.memory.now a.slots.now a.amount l.t.groups (refusals.status l.status) l.value l.r l.invariant c.loop-r-test.true o v (is ∙ group_is) v-is lt)
 
 pub loop-r-preserved : goal.loop-r-preserved
-loop-r-preserved c = let k = c.add_in_place-k in
-    let joined = row_tried (goal.at.loop-r-preserved c).After-add_in_place-k c.if-k.t.groups c.if-k.status c.if-k.value in
-    let held = kept (goal.at.loop-r-preserved c).After-add_in_place-k in
-    elim c.if-k.branch [
-      | then-k w ↦ joined (record { status = 0; group = record { counts = k.result.counts; merge = c.load-x.result.merge } }) k.result.value
-          (sym (held w.if-k.true))
-          (rw w.if-k.true at k.ensures.value_value ∙ ap (λ (o : Outcome). (read o.group (slot (goal.at.loop-r-preserved c).After-add_in_place-k)).value) (held w.if-k.true))
-          (omega arith)
+loop-r-preserved c = let m = c.match-add_in_place in
+    let joined = row_tried c m.t.groups (status m.status) m.value in
+    let before = status c.loop-r.status in
+    elim m.branch [
+      | in-Some w ↦
+          let k = kept_some (x c) (slot c) c.args.amount w.in-Some.k (sym w.in-Some.is ∙ c.add_in_place.ensures) in
+          let is = sym (added_kept (x c) (slot c) c.args.amount w.in-Some.k k) in
+          let fit : Fits w64 w.in-Some.k.value = search (rules, w.in-Some) in
+          joined (record { status = 0; group = record { counts = w.in-Some.k.counts; merge = (x c).merge } }) w.in-Some.k.value
+          is
+          (k.value ∙ ap (λ (o : Outcome). (read o.group (slot c)).value) (sym is))
+          fit.fits
           (ap (λ t. t.groups) w.t-is)
-          (w.status-is ∙ sym (earlier_none c.loop-r.status))
-          (w.value-is ∙ w.smaller-value.ensures)
-      | else-k w ↦ joined w.add_widening-o.result w.counter-c.result.value w.add_widening-o.ensures
-          (ap (λ (v : Reading). v.value) w.counter-c.ensures)
-          (let fit : Fits w64 w.counter-c.result.value = search (rules, w.counter-c) in fit.fits)
-          (ap (λ t. t.groups) w.t-is)
-          (w.status-is ∙ w.earlier-status.ensures)
-          (w.value-is ∙ w.smaller-value-else-k.ensures)
+          (ap (status {A = _}) w.status-is ∙ sym (earlier_none before))
+          (w.value-is ∙ w.min-value.ensures)
+      | in_default w ↦
+          let left = w.add_widening-left.result in
+          let o = outcome_of (x c) left in
+          let kept : w.unwrap_or-g.result ≡ o.group = w.unwrap_or-g.ensures ∙ group_or (x c) left in
+          let fit : Fits w64 w.value_of.result = search (rules, w.value_of) in
+          joined o w.value_of.result
+          w.add_widening-left.ensures
+          (w.value_of.ensures ∙ ap (λ (v : Reading). v.value) w.counter.ensures ∙ ap (λ (g : Group). (read g (slot c)).value) kept)
+          fit.fits
+          (ap (λ t. t.groups) w.t-is ∙ ap (set c.loop-r.t.groups c.loop-r.r) kept)
+          (ap (status {A = _}) w.status-is ∙ w.first-status.ensures ∙ ap (earlier before) (ap (status {A = _}) w.and.ensures ∙ and_status left ∙ outcome_status (x c) left))
+          (w.value-is ∙ w.min-value-in_default.ensures)
     ]
 
 pub returns : goal.returns
 returns c = let a = c.args in
     let l = c.loop-r in
-    let all = tried_all (outcome a.w a.slots.now a.amount) a.d a.w a.memory.now l.t.groups l.status l.r l.invariant.0 (omega arith) in record {
+    let all = tried_all (outcome a.w a.slots.now a.amount) a.d a.w a.memory.now l.t.groups (status l.status) l.r l.invariant.0 (omega arith) in record {
       status_value = all.0;
       value_value = sym (least_end (added_value a.w a.slots.now a.amount) a.w a.d a.memory.now l.r l.value (omega arith))
           ∙ l.invariant.1

@@ -4,6 +4,7 @@ use mathlib.Core.List.{List}
 use lib.ListN.{get_or, drop}
 use Rattle.group.specs.declared.Group.{Group}
 use Rattle.group.specs.Results.{Outcome}
+use Rattle.answer.specs.Refusals.{status}
 use Rattle.geometry.specs.Geometry.{stride}
 use Rattle.meter_memory.specs.Rows.{row_of, of_rows, least_or}
 use Rattle.meter_row.specs.Row.{added_in}
@@ -22,4 +23,4 @@ Valued d w memory slots amount groups status value r = Tried (outcome w slots am
     × (0 < r → added_value w slots amount 0 (row_of w memory 0) < 2 ^ 64)
 
 abbrev pub invariant-loop-r : goal.invariant-loop-r
-invariant-loop-r l = Valued l.d l.w l.memory l.slots l.amount l.t.groups l.status l.value l.r
+invariant-loop-r l = Valued l.d l.w l.memory l.slots l.amount l.t.groups (status l.status) l.value l.r

@@ -1,13 +1,13 @@
 use mathlib.Core.Path.{refl, sym, ap, ◌∙◌}
 use mathlib.Core.List.{List}
-use Prim.Native.Nat.{ℕ, ◌+◌, ◌-◌, ◌*◌, ◌≤◌}
+use Prim.Native.Nat.{ℕ, ◌+◌, ◌*◌, ◌≤◌}
 use native.Mathlib.Omega.{arith}
-use borrow.Author.Tests.{ne_eqb}
 use lib.ListN.{length, get_or}
 use Rattle.geometry.proofs.Widths.{one_row}
 use Rattle.meter_memory.proofs.Lists.{lent, rows_start, rows_turn}
 use Rattle.meter_memory.proofs.Tried.{stored_all}
 use Rattle.meter_row.specs.Row.{added_in}
+use Rattle.meter_row.proofs.Results.{refused_status, accepted_status}
 use Rattle.meter_update.proofs.update_rows.Invariants.{none, storedIn, stored}
 use Rattle.meter_update.proofs.update_rows.Goals as goal
 use Rattle.meter_update.proofs.update_rows.Goals.{In-loop-r}
@@ -21,8 +21,8 @@ row_end c =
 pub try_rows-t-requires : goal.try_rows-t-requires
 try_rows-t-requires c = c.requires
 
-pub returns-then-t-ne0 : goal.returns-then-t-ne0
-returns-then-t-ne0 c = let t = c.try_rows-t in record { status_value = t.ensures.status_value; value_value = t.ensures.value_value; memory_after = rw (ne_eqb t.result.status 0 c.if-t-ne0.true) }
+pub returns-then-is_err : goal.returns-then-is_err
+returns-then-is_err c = let t = c.try_rows-t in record { status_value = t.ensures.status_value; value_value = t.ensures.value_value; memory_after = rw (refused_status t.result.found.status (sym c.is_err.ensures.value ∙ c.if-is_err.true)) }
 
 pub stride-stride-requires : goal.stride-stride-requires
 stride-stride-requires c = c.requires.fact_2.0
@@ -64,9 +64,9 @@ returns c = let l = c.loop-r in
     let stride = c.stride-stride in
     let t = c.try_rows-t in
     let a = c.args in record {
-      status_value = sym c.if-t-ne0.false ∙ t.ensures.status_value;
+      status_value = t.ensures.status_value;
       value_value = t.ensures.value_value;
-      memory_after = stored_all (storedIn a.w a.slots.now) (λ (r : ℕ) (row : List ℕ). added_in a.w row (get_or a.slots.now r 0) a.amount) a.d a.w a.memory.now
+      memory_after = rw (accepted_status t.result.found.status (sym c.is_err.ensures.value ∙ c.if-is_err.false)) (stored_all (storedIn a.w a.slots.now) (λ (r : ℕ) (row : List ℕ). added_in a.w row (get_or a.slots.now r 0) a.amount) a.d a.w a.memory.now
           t.result.groups
           none
           t.ensures.added
@@ -75,5 +75,5 @@ returns c = let l = c.loop-r in
           l.memory
           stride.ensures
           (omega arith)
-          l.invariant.1;
+          l.invariant.1);
     }
