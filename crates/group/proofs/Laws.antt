@@ -1,6 +1,7 @@
 -- Laws of groups: encoding, and what the code's additions and unions come to.
+use Rattle.std.proofs.Common.{Result, Ok, Err, IsOk}
 use mathlib.Core.Path.{◌≡◌, refl, sym, ap, ◌∙◌}
-use mathlib.Core.Bool.{Bool, true, false, cond, ◌&&◌, and-eq-true_iff, true≢false}
+use mathlib.Core.Bool.{Bool, true, false, cond, ◌&&◌, and-eq-true_iff}
 use Prim.Native.Nat.{ℕ, ◌+◌, ◌%◌, ◌^◌, ◌≤◌, ◌<◌}
 use mathlib.Core.List.{List}
 use native.Mathlib.Decide.{dec_lt}
@@ -13,11 +14,11 @@ use Rattle.laws.proofs.Lists.{Bytes}
 use Rattle.little_endian.proofs.Bytes.{number_lt, number_bytes, bytes_number}
 use Rattle.group_layout.specs.Layout.{layout, valid}
 use Rattle.group_layout.proofs.Laws.{valid_marks}
-use Rattle.group_block.specs.declared.Summed.{Summed}
+use Rattle.group_block.specs.declared.Packed.{Packed}
 use Rattle.group_block.specs.Kind.{Kind}
 use Rattle.group_block.specs.Block.{BlockOf, Block, cap, Fits, shape, number_of, all_clean, block_as, block, counter_at, total}
 use Rattle.group_block.specs.Sum.{SumOf, Sum, fits, over, add, unite, sum_total}
-use Rattle.group_block.specs.Passed.{Passing, plain, summed, summed_as}
+use Rattle.group_block.specs.Passed.{summed, summed_as}
 use Rattle.group_block.proofs.Sums.{Sums, ordinary_sums}
 use Rattle.group_block.proofs.Codes.{Codes, ordinary_codes}
 use Rattle.group_block.proofs.Adding.{Sound, total_size}
@@ -73,35 +74,42 @@ pub encode_valid : {K : Kind} (b : BlockOf K 3) → valid 3 (encode b).merge ≡
 unfolding encode
 encode_valid b = valid_marks (shape b)
 
--- the code's answer, by what an addition or a union left
-pub settle_summed : {K : Kind} (P : Passing K) (g : Group) (x : SumOf K 3) → (summed_as P x).over ≡ false → settle g x ≡ stored (summed_as P x)
-unfolding settle stored summed_as encode
-settle_summed P g (fits b) e = refl
-settle_summed P g (over s) e = absurd (true≢false e)
+-- the block that was passed, or another
+abbrev passed_or : {F : Type 0} → Packed → Result Packed F → Packed
+passed_or q (Ok p) = p
+passed_or q (Err s) = q
 
-pub settle_past : {K : Kind} (P : Passing K) (g : Group) (x : SumOf K 3) → (summed_as P x).over ≡ true → settle g x ≡ unchanged counter_full g
-unfolding settle summed_as
-settle_past P g (fits b) e = absurd (true≢false (sym e))
-settle_past P g (over s) e = refl
+-- the code's answer, by what an addition or a union left
+module _ {K : Kind} {F : Type 0} (made : K.Value → F) (g : Group) where
+  pub settle_stored : (x : SumOf K 3) (p : Packed) → Ok p ≡ summed_as K made x → stored p ≡ settle g x
+  unfolding settle stored summed_as encode
+  settle_stored (fits b) p e = ap (λ (r : Result Packed F). stored (passed_or p r)) e
+  settle_stored (over s) p e = cc
+
+  pub settle_past : (x : SumOf K 3) (s : F) → Err s ≡ summed_as K made x → unchanged counter_full g ≡ settle g x
+  unfolding settle summed_as
+  settle_past (fits b) s e = cc
+  settle_past (over t) s e = refl
 
 -- by the sum's total
-pub fits_of : {K : Kind} (P : Passing K) (x : SumOf K 3) → Sound x → K.size (sum_total x) < K.bound 3 → (summed_as P x).over ≡ false
+pub passed_ok : {K : Kind} {F : Type 0} (made : K.Value → F) (x : SumOf K 3) → Sound x → K.size (sum_total x) < K.bound 3 → IsOk (summed_as K made x)
 unfolding summed_as Sound sum_total
-fits_of P (fits b) f h = refl
-fits_of P (over s) f h = absurd (omega arith)
+passed_ok made (fits b) f h = refl
+passed_ok made (over s) f h = absurd (omega arith)
 
-pub over_of_lem : {K : Kind} (S : Sums K) (P : Passing K) (x : SumOf K 3) → Sound x → K.bound 3 ≤ K.size (sum_total x) → (summed_as P x).over ≡ true
-unfolding summed_as Sound sum_total
-over_of_lem S P (fits b) f h = absurd (omega (arith, total_size S b f))
-over_of_lem S P (over s) f h = refl
+pub settle_accepted : {K : Kind} (g : Group) (x : SumOf K 3) → Sound x → K.size (sum_total x) < K.bound 3 → (settle g x).status ≡ 0
+unfolding settle Sound sum_total
+settle_accepted g (fits b) f h = refl
+settle_accepted g (over s) f h = absurd (omega arith)
 
-pub settle_fits : (g : Group) (x : Sum 3) → Sound x → sum_total x < 2 ^ 64 → settle g x ≡ stored (summed x)
-unfolding cap
-settle_fits g x f h = settle_summed plain g x (fits_of plain x f h)
+pub settle_full : {K : Kind} (S : Sums K) (g : Group) (x : SumOf K 3) → Sound x → K.bound 3 ≤ K.size (sum_total x) → settle g x ≡ unchanged counter_full g
+unfolding settle Sound sum_total
+settle_full S g (fits b) f h = absurd (omega (arith, total_size S b f))
+settle_full S g (over s) f h = refl
 
 pub settle_over : (g : Group) (x : Sum 3) → Sound x → 2 ^ 64 ≤ sum_total x → settle g x ≡ unchanged counter_full g
 unfolding cap
-settle_over g x f h = settle_past plain g x (over_of_lem ordinary_sums plain x f h)
+settle_over g x f h = settle_full ordinary_sums g x f h
 
 module _ (g : Group) (slot amount : ℕ) where
   pub added_invalid : valid 3 g.merge ≡ false → added g slot amount ≡ unchanged invalid_content g
@@ -117,9 +125,9 @@ module _ (g : Group) (slot amount : ℕ) where
     unfolding added
     added_full k = rw v (settle_over g (add (decode g) (slot % 8) amount) add_is_sound (omega (arith, add_total (decode g) (slot % 8) amount)))
 
-  pub added_summed : (s : Summed) → valid 3 g.merge ≡ true → s.over ≡ false → s ≡ summed (add (decode g) (slot % 8) amount) → stored s ≡ added g slot amount
+  pub added_stored : (p : Packed) → valid 3 g.merge ≡ true → Ok p ≡ summed (add (decode g) (slot % 8) amount) → stored p ≡ added g slot amount
   unfolding added
-  added_summed s v o e = rw (v, e) (sym (settle_summed plain g (add (decode g) (slot % 8) amount) (sym (ap (λ (x : Summed). x.over) e) ∙ o)))
+  added_stored p v e = rw v (settle_stored (λ (n : ℕ). n) g (add (decode g) (slot % 8) amount) p e)
 
   -- whether the counter holds the sum, by the group's validity
   pub holds_invalid : valid 3 g.merge ≡ false → holds g slot amount ≡ false
@@ -162,7 +170,7 @@ module _ (g source : Group) where
   -- a union that leaves the target's layout
   pub united_fits : (w : ℕ) → w < cap 3 → valid 3 g.merge ≡ true → valid 3 source.merge ≡ true
       → unite (decode g) (decode source) ≡ fits (block 3 w g.merge)
-      → stored (record { over = false; word = w; merge = g.merge }) ≡ united_groups g source
+      → stored (record { word = w; merge = g.merge }) ≡ united_groups g source
   unfolding united_groups settle stored encode
   united_fits w h v v' e = rw (v, v', e, word_block 3 w g.merge h, marks_block 3 w g.merge v)
 
@@ -176,9 +184,18 @@ module _ (g source : Group) where
     unfolding united_groups
     united_full k = rw (v, w) (settle_over g (unite (decode g) (decode source)) unite_is_sound (omega (arith, unite_total (decode g) (decode source))))
 
-    pub united_stored : total (decode g) + total (decode source) < 2 ^ 64 → united_groups g source ≡ stored (summed (unite (decode g) (decode source)))
+    pub united_stored : (p : Packed) → Ok p ≡ summed (unite (decode g) (decode source)) → stored p ≡ united_groups g source
     unfolding united_groups
-    united_stored k = rw (v, w) (settle_fits g (unite (decode g) (decode source)) unite_is_sound (omega (arith, unite_total (decode g) (decode source))))
+    united_stored p e = rw (v, w) (settle_stored (λ (n : ℕ). n) g (unite (decode g) (decode source)) p e)
+
+    module _ (s : total (decode g) + total (decode source) < 2 ^ 64) where
+      pub united_ok : IsOk (summed (unite (decode g) (decode source)))
+      unfolding cap
+      united_ok = passed_ok (λ (n : ℕ). n) (unite (decode g) (decode source)) unite_is_sound (omega (arith, unite_total (decode g) (decode source)))
+
+      pub united_status : (united_groups g source).status ≡ 0
+      unfolding united_groups cap
+      united_status = rw (v, w) (settle_accepted g (unite (decode g) (decode source)) unite_is_sound (omega (arith, unite_total (decode g) (decode source))))
 
   -- by its status alone a union is refused, or both groups are valid and one counter would hold all their counters
   pub united_refused : ((united_groups g source).status ≡ 0 → ⊥) → united_groups g source ≡ unchanged (united_groups g source).status g

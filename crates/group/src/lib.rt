@@ -11,7 +11,7 @@ ghost use Rattle.group.specs.Stored.{stored, kept};
 
 use answer::Refusal;
 pub use group_block::Counter;
-use group_block::Summed;
+use group_block::Packed;
 use group_levels::{level_at, widest_level};
 use group_sums::{sum_fits, with_value};
 use little_endian::{bytes_of, number_of};
@@ -43,7 +43,7 @@ pub fn counter(g: Group, slot: usize) -> Result<Counter, Refusal>
 
 // The group of the count bytes and merge bits that an addition or a union left.
 #[tactic(auto, unfolding(crate::specs::Stored::stored))]
-pub fn settled(s: Summed) -> Group
+pub fn settled(s: Packed) -> Group
     ensures { result ≡ (stored s).group }
 {
     Group {
@@ -67,10 +67,7 @@ pub fn add_in_place(g: Group, slot: usize, amount: u32) -> Option<Kept>
     if !is_valid(g.merge) {
         return None;
     }
-    let sum = group_sums::add_in_place(number_of(g.counts), g.merge, slot % 8, amount);
-    if !sum.held {
-        return None;
-    }
+    let sum = group_sums::add_in_place(number_of(g.counts), g.merge, slot % 8, amount)?;
     Some(Kept {
         counts: bytes_of(sum.word),
         value: sum.value,
@@ -110,7 +107,7 @@ pub fn add(g: Group, slot: usize, amount: u32) -> Result<Group, Refusal>
 }
 
 // Whether a target takes a source.
-#[tactic(auto, unfolding(answer::specs::Refusals::number, answer::specs::Refusals::status, crate::specs::Group::decode, group_block::specs::Block::cap, crate::specs::Stored::stored), using(crate::proofs::Laws::united_invalid, crate::proofs::Laws::united_source_invalid, crate::proofs::Laws::united_full, crate::proofs::Laws::united_stored))]
+#[tactic(auto, unfolding(answer::specs::Refusals::number, answer::specs::Refusals::status, crate::specs::Group::decode, group_block::specs::Block::cap, crate::specs::Stored::stored), using(crate::proofs::Laws::united_invalid, crate::proofs::Laws::united_source_invalid, crate::proofs::Laws::united_full, crate::proofs::Laws::united_status))]
 pub fn unite_status(target: Group, source: Group) -> Result<(), Refusal>
     ensures { status result ≡ (united_groups target source).status }
 {
@@ -133,7 +130,8 @@ pub fn unite(target: Group, source: Group) -> Result<Group, Refusal>
     unite_status(target, source)?;
     let word = number_of(target.counts);
     let source_word = number_of(source.counts);
-    Ok(settled(group_union::unite(3, word, target.merge, source_word, source.merge)))
+    let united = group_union::unite(3, word, target.merge, source_word, source.merge);
+    Ok(settled(united.unwrap()))
 }
 
 // The largest level of a group's counters.

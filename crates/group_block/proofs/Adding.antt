@@ -6,7 +6,7 @@ use native.Mathlib.Omega.{arith}
 use borrow.Author.Tests.{ltb-true, ltb-false}
 use lib.Dec.{ltb}
 use Rattle.group_block.specs.Kind.{Kind}
-use Rattle.group_block.specs.Block.{BlockOf, Block, counter, split, cap, Fits, total}
+use Rattle.group_block.specs.Block.{BlockOf, Block, counter, split, cap, Fits, total, sizes}
 use Rattle.group_block.specs.Sum.{SumOf, fits, over, held, join, add, unite, sum_total}
 use Rattle.group_block.proofs.Sums.{Sums, ordinary_sums, swap, cross}
 
@@ -102,11 +102,25 @@ unfolding Sound sum_total
 no_over (fits b) f h = (b, refl)
 no_over (over s) f h = absurd (omega arith)
 
--- a block's total fits one counter of its level
+-- the sizes of a block's counters add up to what one counter of its level holds, and so does the total
+pub sizes_lt : {K : Kind} (S : Sums K) {n : ℕ} (b : BlockOf K n) → Fits b → sizes b < K.bound n
+unfolding sizes Fits
+sizes_lt S (counter v) f = f
+sizes_lt S (split {n} l r) f = omega (arith, S.double n, sizes_lt S l f.0, sizes_lt S r f.1)
+
+pub size_total : {K : Kind} (S : Sums K) {n : ℕ} (b : BlockOf K n) → K.size (total b) ≤ sizes b
+unfolding sizes total
+size_total S (counter v) = omega arith
+size_total S (split l r) = omega (arith, S.triangle (total l) (total r), size_total S l, size_total S r)
+
 pub total_size : {K : Kind} (S : Sums K) {n : ℕ} (b : BlockOf K n) → Fits b → K.size (total b) < K.bound n
-unfolding total Fits
-total_size S (counter v) f = f
-total_size S (split {n} l r) f = omega (arith, S.double n, S.triangle (total l) (total r), total_size S l f.0, total_size S r f.1)
+total_size S b f = omega (arith, size_total S b, sizes_lt S b f)
 
 pub total_lt : {n : ℕ} (b : Block n) → Fits b → total b < cap n
 total_lt b f = total_size ordinary_sums b f
+
+-- numbers are their own sizes
+pub sizes_total : {n : ℕ} (b : Block n) → sizes b ≡ total b
+unfolding sizes total
+sizes_total (counter v) = refl
+sizes_total (split l r) = rw (sizes_total l, sizes_total r)

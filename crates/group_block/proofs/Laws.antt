@@ -1,5 +1,6 @@
 -- Laws of blocks, for any level.
-use mathlib.Core.Path.{◌≡◌, refl, ap, ap₂, ◌∙◌}
+pub use Rattle.group_block.specs.Figure.{cap_pos, cap_square, cap_double}
+use mathlib.Core.Path.{◌≡◌, refl, ap, ap₂}
 use mathlib.Core.Bool.{true, false, and-eq-true_iff}
 use Prim.Native.Nat.{ℕ, suc, ◌+◌, ◌*◌, ◌/◌, ◌%◌, ◌^◌, ◌≤◌, ◌<◌}
 use native.Mathlib.Nat.{mod-lt, div-eq_of_lt, le-div_iff_mul-le, div-lt_iff_lt-mul, div-add-mod', mul-le-mul_left}
@@ -8,29 +9,13 @@ use native.Mathlib.Decide.{dec_lt}
 use borrow.Author.Tests.{ne_eqb, lt-ltb, le-ltb}
 use lib.Dec.{eqb, ltb}
 use lib.Arith.{digits_lt, digits_div, digits_mod}
-use lib.Pow.{pow_pos, pow_mono, pow-add}
+use lib.Pow.{pow_mono}
 use Rattle.group_layout.specs.Layout.{Layout, merged, halves, marks, layout, valid}
 use Rattle.group_layout.specs.Merged.{is_merged}
 use Rattle.group_layout.proofs.Laws.{layout_marks, marks_layout, is_merged_lem, layout_suc}
 use Rattle.group_block.specs.Kind.{Kind, ordinary}
-use Rattle.group_block.proofs.Codes.{Codes, ordinary_codes}
+use Rattle.group_block.specs.Figure.{Codes, ordinary_codes}
 use Rattle.group_block.specs.Block.{BlockOf, Block, counter, split, cap, Fits, shape, number_of, fill, all_clean, block_as, block}
-
-pub cap_pos : (n : ℕ) → 0 < cap n
-unfolding cap
-cap_pos n = pow_pos (8 * 2 ^ n)
-
--- a block holds as many bits as its halves
-pub cap_square : (n : ℕ) → cap (suc n) ≡ cap n * cap n
-unfolding cap
-cap_square n = ap (λ (k : ℕ). 2 ^ k) (omega arith) ∙ pow-add 2 (8 * 2 ^ n) (8 * 2 ^ n)
-
--- two halves that fit make a sum that fits
-pub cap_double : (n : ℕ) → cap n + cap n ≤ cap (suc n)
-unfolding cap
-cap_double n =
-    let two : 2 ≤ cap n = pow_mono {i = 1} {j = 8 * 2 ^ n} (omega (arith, pow_pos n)) in
-    rw (cap_square n) (omega (arith, mul-le-mul_left (cap n) two))
 
 pub cap_mono : (m n : ℕ) → m ≤ n → cap m ≤ cap n
 unfolding cap

@@ -2,7 +2,6 @@ pub mod Sums
 pub mod Codes
 pub mod Laws
 pub mod Adding
-pub mod Coded
 pub mod Halves
 pub mod Steps
 pub mod Uniting

@@ -60,3 +60,8 @@ counter_at (split {n} l r) k = cond (ltb k (2 ^ n)) (counter_at l k) (counter_at
 unfoldable pub total : {K : Kind} {n : ℕ} → BlockOf K n → K.Value
 total (counter v) = v
 total {K} (split l r) = K.plus (total l) (total r)
+
+-- the sizes of a block's counters added up
+unfoldable pub sizes : {K : Kind} {n : ℕ} → BlockOf K n → ℕ
+sizes {K} (counter v) = K.size v
+sizes (split l r) = sizes l + sizes r

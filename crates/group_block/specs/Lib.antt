@@ -1,4 +1,5 @@
 pub mod Kind
+pub mod Figure
 pub mod Block
 pub mod Sum
 pub mod Change

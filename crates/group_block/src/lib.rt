@@ -2,12 +2,15 @@
 // and its merge bits. It recurses on the level.
 #![tactic(auto)]
 
-ghost use Rattle.std.specs.Prelude.{◌≡◌, ℕ, ◌+◌, ◌-◌, ◌*◌, ◌/◌, ◌%◌, ◌^◌, ◌<◌, ◌≤◌, ltb};
-ghost use Rattle.group_block.specs.Block.{cap, block};
+ghost use Rattle.std.specs.Prelude.{◌≡◌, true, ◌+◌, ◌*◌, ◌/◌, ◌%◌, ◌^◌, ◌<◌, ◌≤◌, ltb};
+ghost use Rattle.group_layout.specs.Layout.{layout};
+ghost use Rattle.group_block.specs.Kind.{Kind, ordinary};
+ghost use Rattle.group_block.specs.Figure.{Coded, ordinary_coded};
+ghost use Rattle.group_block.specs.Block.{cap, all_clean, block_as};
 ghost use Rattle.group_block.specs.Block as spec;
 ghost use Rattle.group_block.specs.Sum as sum_spec;
 ghost use Rattle.group_block.specs.Sum.{sum_total};
-ghost use Rattle.group_block.specs.Passed.{summed, sum_of, left_half, right_half, Sane, Apt};
+ghost use Rattle.group_block.specs.Passed.{summed_as, sum_as, left_half, right_half, Sane, AptAs};
 
 use group_layout::{beside, high, is_merged, low, ones, slots};
 
@@ -18,13 +21,47 @@ pub struct Counter {
     pub level: u32,
 }
 
-// What an addition or a union leaves of a block: its count bytes as one number and its merge bits or, if `over`, the sum, which no
-// counter of the block's level holds: its magnitude, and in `merge` 1 where it is below 0.
+// A block's count bytes as one number and its merge bits.
 #[derive(Clone, Copy)]
-pub struct Summed {
-    pub over: bool,
+pub struct Packed {
     pub word: u64,
     pub merge: u8,
+}
+
+// A kind of meter, by the values of its counters.
+pub trait MeterKind {
+    type Figure: Copy;
+
+    ghost kind: { Kind };
+
+    // the value that a figure stands for, and the figure that is made of a value
+    ghost means: { Self.Figure → kind.Value };
+
+    ghost made: { kind.Value → Self.Figure };
+
+    // The value of a counter of a level, by its bits.
+    fn read(level: u32, bits: u64) -> Self::Figure
+        requires level_bound { level ≤ 3 }
+        requires in_counter { bits < cap level }
+        ensures { means result ≡ kind.read level bits };
+
+    // The bits of a value in a counter of a level that holds it.
+    fn bits(level: u32, value: Self::Figure) -> u64
+        requires level_bound { level ≤ 3 }
+        requires held { kind.size (means value) < kind.bound level }
+        requires is_made { value ≡ made (means value) }
+        ensures { result ≡ kind.bits level (means value) };
+
+    // Whether a counter of a level holds a value.
+    fn holds(level: u32, value: Self::Figure) -> bool
+        requires { level ≤ 3 }
+        ensures { result ≡ ltb (kind.size (means value)) (kind.bound level) };
+
+    fn plus(a: Self::Figure, b: Self::Figure) -> Self::Figure
+        requires { kind.size (means a) + kind.size (means b) < 2 ^ 64 }
+        ensures { result ≡ made (kind.plus (means a) (means b)) };
+
+    ghost laws: { Coded kind means made };
 }
 
 // The count bytes of the left half, of this level.
@@ -44,24 +81,22 @@ pub fn high_word(half: u32, word: u64) -> u64
 }
 
 // The left half, of this level.
-pub fn left_half(half: u32, word: u64, merge: u8) -> Summed
+pub fn left_half(half: u32, word: u64, merge: u8) -> Packed
     requires { half ≤ 2 }
     ensures { result ≡ left_half half word merge }
 {
-    Summed {
-        over: false,
+    Packed {
         word: low_word(half, word),
         merge: low(half, merge),
     }
 }
 
 // The right half, of this level.
-pub fn right_half(half: u32, word: u64, merge: u8) -> Summed
+pub fn right_half(half: u32, word: u64, merge: u8) -> Packed
     requires { half ≤ 2 }
     ensures { result ≡ right_half half word merge }
 {
-    Summed {
-        over: false,
+    Packed {
         word: high_word(half, word),
         merge: high(half, merge),
     }
@@ -77,20 +112,6 @@ pub fn beside_word(half: u32, left: u64, right: u64) -> u64
     (right << (8 * slots(half))) | left
 }
 
-// The sum of a block's counters.
-pub fn total(level: u32, word: u64, merge: u8) -> u64
-    requires { (level ≤ 3) × (word < cap level) }
-    ensures { result ≡ spec.total (block level word merge) }
-{
-    if is_merged(level, merge) {
-        return word;
-    }
-    let half = level - 1;
-    let left = left_half(half, word, merge);
-    let right = right_half(half, word, merge);
-    total(half, left.word, left.merge) + total(half, right.word, right.merge)
-}
-
 // Whether a counter of a level holds a value.
 fn holds(level: u32, value: u64) -> bool
     requires { level ≤ 3 }
@@ -102,87 +123,192 @@ fn holds(level: u32, value: u64) -> bool
     high_word(level, value) == 0
 }
 
-// A sum stored in the one counter of a block, if it holds it.
-pub fn held(level: u32, sum: u64) -> Summed
-    requires { level ≤ 3 }
-    ensures { result ≡ summed (sum_spec.held level sum) }
+// The ordinary meter: numbers, each its own bits.
+pub struct Ordinary;
+
+impl MeterKind for Ordinary {
+    type Figure = u64;
+
+    ghost kind = { ordinary };
+
+    ghost means = { λ v. v };
+
+    ghost made = { λ v. v };
+
+    fn read(level: u32, bits: u64) -> u64 {
+        bits
+    }
+
+    fn bits(level: u32, value: u64) -> u64 {
+        value
+    }
+
+    fn holds(level: u32, value: u64) -> bool {
+        holds(level, value)
+    }
+
+    fn plus(a: u64, b: u64) -> u64 {
+        a + b
+    }
+
+    ghost laws = { ordinary_coded };
+}
+
+// The sum of a block's counters.
+pub fn total<M: MeterKind>(level: u32, word: u64, merge: u8) -> M::Figure
+    requires { (level ≤ 3) × (word < cap level) }
+    ensures { M.means result ≡ spec.total (block_as M.kind level word merge) }
 {
-    if holds(level, sum) {
-        return Summed {
-            over: false,
-            word: sum,
-            merge: ones(level),
-        };
+    if is_merged(level, merge) {
+        return M::read(level, word);
     }
-    Summed {
-        over: true,
-        word: sum,
-        merge: 0,
+    let half = level - 1;
+    let left = left_half(half, word, merge);
+    let right = right_half(half, word, merge);
+    M::plus(
+        total::<M>(half, left.word, left.merge),
+        total::<M>(half, right.word, right.merge),
+    )
+}
+
+// A sum stored in the one counter of a block, or the sum if the counter does not hold it.
+pub fn held<M: MeterKind>(level: u32, sum: M::Figure) -> Result<Packed, M::Figure>
+    requires fact_1 { level ≤ 3 }
+    requires fact_2 { sum ≡ M.made (M.means sum) }
+    ensures { result ≡ summed_as M.kind M.made (sum_spec.held level (M.means sum)) }
+{
+    if !M::holds(level, sum) {
+        return Err(sum);
     }
+    Ok(Packed {
+        word: M::bits(level, sum),
+        merge: ones(level),
+    })
 }
 
 // The total of what an addition or a union left.
-fn sum_total(level: u32, s: Summed) -> u64
+fn sum_total<M: MeterKind>(level: u32, s: Result<Packed, M::Figure>) -> M::Figure
     requires fact_1 { level ≤ 3 }
-    requires fact_2 { Apt level s }
-    ensures { result ≡ sum_total (sum_of level s) }
+    requires fact_2 { AptAs M.kind level s }
+    ensures { M.means result ≡ sum_total (sum_as M.kind M.means level s) }
 {
-    if s.over {
-        return s.word;
+    match s {
+        Ok(block) => total::<M>(level, block.word, block.merge),
+        Err(sum) => sum,
     }
-    total(level, s.word, s.merge)
 }
 
-// The sum of two halves as one counter.
-fn formed(half: u32, left: Summed, right: Summed) -> Summed
+// Two halves side by side or, where one is a sum, their sum as one counter.
+pub fn join<M: MeterKind>(
+    half: u32,
+    left: Result<Packed, M::Figure>,
+    right: Result<Packed, M::Figure>,
+) -> Result<Packed, M::Figure>
     requires fact_1 { half ≤ 2 }
-    requires fact_2 { Apt half left }
-    requires fact_3 { Apt half right }
-    requires fact_4 { sum_total (sum_of half left) + sum_total (sum_of half right) < 2 ^ 64 }
-    ensures { result ≡ summed (sum_spec.held (half + 1) (sum_total (sum_of half left) + sum_total (sum_of half right))) }
+    requires fact_2 { AptAs M.kind half left }
+    requires fact_3 { AptAs M.kind half right }
+    requires fact_4 { M.kind.size (sum_total (sum_as M.kind M.means half left)) + M.kind.size (sum_total (sum_as M.kind M.means half right)) < 2 ^ 64 }
+    ensures { result ≡ summed_as M.kind M.made (sum_spec.join (sum_as M.kind M.means half left) (sum_as M.kind M.means half right)) }
 {
-    held(half + 1, sum_total(half, left) + sum_total(half, right))
-}
-
-// Two halves side by side or, where one is over, their sum as one counter.
-pub fn join(half: u32, left: Summed, right: Summed) -> Summed
-    requires fact_1 { half ≤ 2 }
-    requires fact_2 { Apt half left }
-    requires fact_3 { Apt half right }
-    requires fact_4 { sum_total (sum_of half left) + sum_total (sum_of half right) < 2 ^ 64 }
-    ensures { result ≡ summed (sum_spec.join (sum_of half left) (sum_of half right)) }
-{
-    if left.over {
-        return formed(half, left, right);
-    }
-    if right.over {
-        return formed(half, left, right);
-    }
-    Summed {
-        over: false,
-        word: beside_word(half, left.word, right.word),
-        merge: beside(half, left.merge, right.merge),
-    }
+    let (Ok(l), Ok(r)) = (left, right) else {
+        return held::<M>(
+            half + 1,
+            M::plus(sum_total::<M>(half, left), sum_total::<M>(half, right)),
+        );
+    };
+    Ok(Packed {
+        word: beside_word(half, l.word, r.word),
+        merge: beside(half, l.merge, r.merge),
+    })
 }
 
 // An amount added to the counter of a slot.
-pub fn add(level: u32, word: u64, merge: u8, slot: usize, amount: u64) -> Summed
-    requires { (level ≤ 3) × ((Sane level word merge) × (spec.total (block level word merge) + amount < 2 ^ 64)) }
-    ensures { result ≡ summed (sum_spec.add (block level word merge) slot amount) }
+pub fn add<M: MeterKind>(
+    level: u32,
+    word: u64,
+    merge: u8,
+    slot: usize,
+    amount: M::Figure,
+) -> Result<Packed, M::Figure>
+    requires level_bound { level ≤ 3 }
+    requires sane { Sane level word merge }
+    requires clean { all_clean M.kind (layout level merge) word ≡ true }
+    requires room { spec.sizes (block_as M.kind level word merge) + M.kind.size (M.means amount) < 2 ^ 64 }
+    ensures { result ≡ summed_as M.kind M.made (sum_spec.add (block_as M.kind level word merge) slot (M.means amount)) }
 {
     if is_merged(level, merge) {
-        return held(level, word + amount);
+        return held::<M>(level, M::plus(M::read(level, word), amount));
     }
     let half = level - 1;
     let left = left_half(half, word, merge);
     let right = right_half(half, word, merge);
     let size = slots(half) as usize;
     if slot < size {
-        return join(half, add(half, left.word, left.merge, slot, amount), right);
+        return join::<M>(
+            half,
+            add::<M>(half, left.word, left.merge, slot, amount),
+            Ok(right),
+        );
     }
-    join(
+    join::<M>(
         half,
-        left,
-        add(half, right.word, right.merge, slot - size, amount),
+        Ok(left),
+        add::<M>(half, right.word, right.merge, slot - size, amount),
+    )
+}
+
+// Two blocks united.
+pub fn unite<M: MeterKind>(
+    level: u32,
+    word: u64,
+    merge: u8,
+    other_word: u64,
+    other_merge: u8,
+) -> Result<Packed, M::Figure>
+    requires level_bound { level ≤ 3 }
+    requires sane { Sane level word merge }
+    requires clean { all_clean M.kind (layout level merge) word ≡ true }
+    requires other_sane { Sane level other_word other_merge }
+    requires other_clean { all_clean M.kind (layout level other_merge) other_word ≡ true }
+    requires room { spec.sizes (block_as M.kind level word merge) + spec.sizes (block_as M.kind level other_word other_merge) < 2 ^ 64 }
+    ensures { result ≡ summed_as M.kind M.made (sum_spec.unite (block_as M.kind level word merge) (block_as M.kind level other_word other_merge)) }
+{
+    if is_merged(level, merge) {
+        return held::<M>(
+            level,
+            M::plus(
+                M::read(level, word),
+                total::<M>(level, other_word, other_merge),
+            ),
+        );
+    }
+    if is_merged(level, other_merge) {
+        return held::<M>(
+            level,
+            M::plus(total::<M>(level, word, merge), M::read(level, other_word)),
+        );
+    }
+    let half = level - 1;
+    let left = left_half(half, word, merge);
+    let right = right_half(half, word, merge);
+    let other_left = left_half(half, other_word, other_merge);
+    let other_right = right_half(half, other_word, other_merge);
+    let united = unite::<M>(
+        half,
+        left.word,
+        left.merge,
+        other_left.word,
+        other_left.merge,
+    );
+    join::<M>(
+        half,
+        united,
+        unite::<M>(
+            half,
+            right.word,
+            right.merge,
+            other_right.word,
+            other_right.merge,
+        ),
     )
 }

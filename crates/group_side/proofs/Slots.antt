@@ -1,5 +1,5 @@
 -- Unmerged blocks of any kind united slot by slot, where each slot holds its sum.
-use Rattle.std.proofs.Common.{◌≡◌, ℕ, zero, suc, ◌+◌, ◌-◌, ◌*◌, ◌/◌, ◌%◌, ◌^◌, ◌<◌, true, false, eqb, List, [], ◌∷◌, length, get_or, take, drop, refl, ap, ◌∙◌, zero-mul, mul_left_comm, arith, length-drop, length-take-le, get_or-drop, get_or-take, pow-add, lt-ltb}
+use Rattle.std.proofs.Common.{Ok, ◌≡◌, ℕ, zero, suc, ◌+◌, ◌-◌, ◌*◌, ◌/◌, ◌%◌, ◌^◌, ◌<◌, true, eqb, List, [], ◌∷◌, length, get_or, take, drop, refl, ap, ◌∙◌, zero-mul, mul_left_comm, arith, length-drop, length-take-le, get_or-drop, get_or-take, pow-add, lt-ltb}
 use mathlib.Core.Bool.{or-true}
 use native.Mathlib.Nat.{zero-div, zero-mod}
 use lib.Arith.{digits_div, digits_mod}
@@ -10,7 +10,7 @@ use Rattle.group_layout.specs.Layout.{halves, bit, ones, layout, valid}
 use Rattle.group_block.specs.Kind.{Kind}
 use Rattle.group_block.specs.Block.{counter, cap, fill, all_clean, block_as, total}
 use Rattle.group_block.specs.Sum.{fits, held, join, unite}
-use Rattle.group_block.specs.Passed.{Passing, summed_as}
+use Rattle.group_block.specs.Passed.{summed_as}
 use Rattle.group_block.proofs.Codes.{Codes}
 use Rattle.group_block.proofs.Laws.{word_block_of, marks_block_of}
 
@@ -177,9 +177,9 @@ module _ {K : Kind} (C : Codes K) where
     sums_united = slots_united n l s
 
     -- as the code passes it
-    pub sums_passed : (P : Passing K)
-        → record { over = false; word = number zs; merge = 0 } ≡ summed_as P (unite (block_as K n (number xs) 0) (block_as K n (number ys) 0))
+    pub sums_passed : {F : Type 0} (made : K.Value → F)
+        → Ok (record { word = number zs; merge = 0 }) ≡ summed_as K made (unite (block_as K n (number xs) 0) (block_as K n (number ys) 0))
     unfolding summed_as
-    sums_passed P =
+    sums_passed made =
         let clean = slots_clean K n zs (each_slots n l s).2 (λ i h. each_clean s i (omega arith)) in
         rw (sums_united, word_block_of C n (number zs) 0 sums_below clean, marks_block_of K n (number zs) 0 (clear_valid n))

@@ -13,7 +13,7 @@ use Rattle.group.specs.declared.Group.{Group}
 use Rattle.group.specs.Results.{Outcome}
 use Rattle.group.specs.Group.{decode, united_groups, valid_merge}
 use Rattle.group.specs.Stored.{stored}
-use Rattle.group.proofs.Laws.{Eight, number_in, united_stored, united_fits}
+use Rattle.group.proofs.Laws.{Eight, number_in, united_status, united_fits}
 use Rattle.group_side.proofs.Bytes.{fit_split}
 use Rattle.group_side.proofs.Slots.{clear_halves, clear_valid, Each, none, more, each_long, Holds, each_bytes, sums_below, sums_united}
 use Rattle.group_side.specs.Side.{fit, sums, unmerged, united_side}
@@ -42,12 +42,10 @@ unfolding cap
 below_64 = omega arith
 
 pub unmerged_status : (counts source : List ℕ) → Eight counts → Eight source → (united_groups (unmerged counts) (unmerged source)).status ≡ 0
-unfolding stored
 unmerged_status counts source e f =
     let h = number_in counts e in
     let k = number_in source f in
-    ap (λ (o : Outcome). o.status)
-    (united_stored (unmerged counts) (unmerged source) h k unmerged_valid unmerged_valid (omega (arith, small_total counts h, small_total source k, below_64)))
+    united_status (unmerged counts) (unmerged source) h k unmerged_valid unmerged_valid (omega (arith, small_total counts h, small_total source k, below_64))
 
 -- the sums of two lists of bytes, where none passes 255
 fit_sums : (xs ys : List ℕ) → length xs ≡ length ys → fit xs ys ≡ true → Each (Holds ordinary) xs ys (sums xs ys)

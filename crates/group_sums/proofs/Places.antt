@@ -1,6 +1,7 @@
 -- A counter's place in a group's count bytes, taken as one number; an addition that the counter holds, and another value in it.
+use Rattle.std.proofs.Common.{Ok}
 use mathlib.Core.Path.{◌≡◌, sym, ap, ◌∙◌}
-use mathlib.Core.Bool.{true, false}
+use mathlib.Core.Bool.{true}
 use Prim.Native.Nat.{ℕ, ◌+◌, ◌-◌, ◌*◌, ◌/◌, ◌%◌, ◌^◌, ◌<◌}
 use native.Mathlib.Omega.{arith}
 use native.Mathlib.Decide.{dec_lt}
@@ -16,7 +17,7 @@ use Rattle.group_block.specs.Change.{change}
 use Rattle.group_block.specs.Sum.{add}
 use Rattle.group_block.specs.Passed.{summed, summed_as}
 use Rattle.group_block.proofs.Adding.{Sound}
-use Rattle.group_block.proofs.Coded.{Coded, ordinary_coded}
+use Rattle.group_block.specs.Figure.{Coded, ordinary_coded}
 use Rattle.group_block.proofs.Laws.{word_lt, shape_fill_of, word_block, marks_block, block_fits, block_fits_of}
 use Rattle.group_block.proofs.Adding.{add_sound}
 use Rattle.group_slots.proofs.Changing.{change_fits}
@@ -50,7 +51,7 @@ module _ (w m k L q : ℕ) (h : w < cap 3) (i : k < 8) (e : (counter_at (block 3
     unfolding Sound cap
     sum_in = rw (← word_is) (word_lt stays.0 (rw stays.1 at (add_sound (block 3 w m) k a (block_fits 3 w m h))))
 
-    pub in_place_is : valid 3 m ≡ true → record { over = false; word = w + a * 2 ^ q; merge = m } ≡ summed (add (block 3 w m) k a)
+    pub in_place_is : valid 3 m ≡ true → Ok (record { word = w + a * 2 ^ q; merge = m }) ≡ summed (add (block 3 w m) k a)
     unfolding summed_as
     in_place_is v = rw (stays.1, word_is, stays.2, marks_block 3 w m v)
 
@@ -70,7 +71,7 @@ module _ (w m k L q : ℕ) (h : w < cap 3) (i : k < 8) (e : (counter_at (block 3
     value_put r f = omega (arith, new_word)
 
 -- a group whose own bit is clear has two halves
-pub bit_total_of : {K : Kind} (D : Coded K) (w m : ℕ) → w < cap 3 → m / 8 % 2 ≡ 0 → K.size (total (block_as K 3 w m)) < K.bound 2 + K.bound 2
+pub bit_total_of : {K : Kind} {F : Type 0} {means : F → K.Value} {made : K.Value → F} (D : Coded K means made) (w m : ℕ) → w < cap 3 → m / 8 % 2 ≡ 0 → K.size (total (block_as K 3 w m)) < K.bound 2 + K.bound 2
 unfolding block_as bit
 bit_total_of {K} D w m h z =
     halves_sum D.sums (block_as K 3 w m) (block_fits_of D.codes 3 w m h)

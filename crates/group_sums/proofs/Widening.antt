@@ -1,6 +1,7 @@
 -- Two counters of a group side by side that become one, in the group's count bytes taken as one number. For any kind of counter.
+use Rattle.std.proofs.Common.{Ok}
 use mathlib.Core.Path.{◌≡◌, sym, ap, ◌∙◌}
-use mathlib.Core.Bool.{true, false}
+use mathlib.Core.Bool.{true}
 use Prim.Native.Nat.{ℕ, suc, ◌+◌, ◌-◌, ◌*◌, ◌/◌, ◌%◌, ◌^◌, ◌≤◌, ◌<◌}
 use native.Mathlib.Nat.{mul_assoc, add-mul, one-mul, mod-lt, mul-div_cancel, div-mul-le_self, lt-div-mul-add, div-add-mod'}
 use native.Mathlib.Numerals.{add-one}
@@ -13,7 +14,7 @@ use Rattle.group_block.specs.Block.{BlockOf, cap, shape, number_of, all_clean, b
 use Rattle.group_block.specs.Sum.{SumOf, add}
 use Rattle.group_block.specs.Passed.{summed_as}
 use Rattle.group_block.proofs.Adding.{Sound, add_sound}
-use Rattle.group_block.proofs.Coded.{Coded}
+use Rattle.group_block.specs.Figure.{Coded}
 use Rattle.group_block.proofs.Sums.{Sums}
 use Rattle.group_block.proofs.Laws.{cap_pos, high_lt, word_lt_of, word_block_of, marks_block_of, block_fits_of, shape_fill_of}
 use Rattle.group_slots.proofs.AnyKind.{bits_at, value_of, clean_at}
@@ -51,7 +52,7 @@ widen_at : {K : Kind} (S : Sums K) {n : ℕ} (b : BlockOf K n) (k : ℕ) (a : K.
 widen_at S b k a L p u v e g kn t o s =
     rw e (widens S b k a L (k / 2 ^ suc L) u v g kn (div-mul-le_self k (2 ^ suc L)) (lt-div-mul-add {a = k} {b = 2 ^ suc L} (pow_pos (suc L))) (rw e at t) o s)
 
-module _ {K : Kind} (D : Coded K) (w m k : ℕ) (a : K.Value) (L p : ℕ) (h : w < cap 3) (v : valid 3 m ≡ true) (c : all_clean K (layout 3 m) w ≡ true)
+module _ {K : Kind} {F : Type 0} {means : F → K.Value} {made : K.Value → F} (D : Coded K means made) (w m k : ℕ) (a : K.Value) (L p : ℕ) (h : w < cap 3) (v : valid 3 m ≡ true) (c : all_clean K (layout 3 m) w ≡ true)
     (k_lt : k < 8) (L-le : L ≤ 2) (p_is : p ≡ k / 2 ^ suc L * 2 ^ suc L) where
   abbrev both : ℕ
   both = w / 2 ^ (8 * p) % cap (suc L)
@@ -143,19 +144,19 @@ module _ {K : Kind} (D : Coded K) (w m k : ℕ) (a : K.Value) (L p : ℕ) (h : w
       sum_in = omega (arith, word_is, new_lt)
 
       pub sum_is : (x : ℕ) → x + both * 2 ^ (8 * p) ≡ w + K.bits (suc L) sum * 2 ^ (8 * p)
-          → record { over = false; word = x; merge = m + 2 ^ (2 ^ L - 1) * 2 ^ p } ≡ summed_as D.passing (add (block_as K 3 w m) k a)
+          → Ok (record { word = x; merge = m + 2 ^ (2 ^ L - 1) * 2 ^ p }) ≡ summed_as K made (add (block_as K 3 w m) k a)
       unfolding summed_as
       sum_is x e =
           let f : x ≡ number_of result.0 = omega (arith, word_is) in
           let g : m + 2 ^ (2 ^ L - 1) * 2 ^ p ≡ marks (shape result.0) = sym (rw (marks_block_of K 3 w m v) at result.3) in
-          rw (f, g) (sym (ap (λ (y : SumOf K 3). summed_as D.passing y) result.1))
+          rw (f, g) (sym (ap (λ (y : SumOf K 3). summed_as K made y) result.1))
 
 pub second_in : (k L p : ℕ) → k < 8 → L ≤ 2 → p ≡ k / 2 ^ suc L * 2 ^ suc L → p + 2 ^ L < 8
 second_in k L p k_lt L-le p_is =
     rw p_is (omega (arith, whole_left 3 L (k / 2 ^ suc L) k (omega arith) (div-mul-le_self k (2 ^ suc L)) k_lt, pow_pos L))
 
 -- the same as the code has it: the place q, the level L + 1 and the sum t
-module _ {K : Kind} (D : Coded K) (w m k : ℕ) (a : K.Value) (L q : ℕ) (h : w < cap 3) (v : valid 3 m ≡ true) (c : all_clean K (layout 3 m) w ≡ true)
+module _ {K : Kind} {F : Type 0} {means : F → K.Value} {made : K.Value → F} (D : Coded K means made) (w m k : ℕ) (a : K.Value) (L q : ℕ) (h : w < cap 3) (v : valid 3 m ≡ true) (c : all_clean K (layout 3 m) w ≡ true)
     (k_lt : k < 8) (L-le : L ≤ 2) (q-is : q ≡ 8 * (k / 2 ^ (L + 1) * 2 ^ (L + 1)))
     (one : level_of (layout 3 m) (q / 8) ≡ L) (two : level_of (layout 3 m) (q / 8 + 2 ^ L) ≡ L)
     (over : K.bound L ≤ K.size (K.plus (counter_value (block_as K 3 w m) k) a))
@@ -180,7 +181,7 @@ module _ {K : Kind} (D : Coded K) (w m k : ℕ) (a : K.Value) (L q : ℕ) (h : w
   put_in = rw (sum_of, eight, ← add-one L) at (sum_in D w m k a L (q / 8) h v c k_lt L-le from_is one two over small_is)
 
   pub put_is : (x y : ℕ) → x + w / 2 ^ q % cap (L + 1) * 2 ^ q ≡ w + K.bits (L + 1) t * 2 ^ q → y ≡ m + 2 ^ (2 ^ L - 1) * 2 ^ (q / 8)
-      → record { over = false; word = x; merge = y } ≡ summed_as D.passing (add (block_as K 3 w m) k a)
+      → Ok (record { word = x; merge = y }) ≡ summed_as K made (add (block_as K 3 w m) k a)
   put_is x y e f =
       let g : x + parts * 2 ^ (8 * (q / 8)) ≡ w + K.bits (suc L) (K.plus (K.plus (K.read L (parts % cap L)) (K.read L (parts / cap L))) a) * 2 ^ (8 * (q / 8)) =
       rw (sum_of, eight, ← add-one L) e in

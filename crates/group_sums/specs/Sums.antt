@@ -1,5 +1,5 @@
 -- Whether a counter holds a sum. The code's own terms: the count bytes of a group taken as one number, and its merge byte.
-use Rattle.std.specs.Prelude.{ℕ, ◌+◌, ◌≡◌, Bool, false, ltb}
+use Rattle.std.specs.Prelude.{ℕ, ◌+◌, ◌≡◌, Bool, false, ltb, Ok}
 use Rattle.group_block.specs.Block.{cap, block, counter_at}
 use Rattle.group_block.specs.Sum.{add}
 use Rattle.group_block.specs.Passed.{summed}
@@ -14,4 +14,4 @@ NotHeld w m k a = holds_at w m k a ≡ false
 
 -- what an addition that the counter holds leaves: the layout, another number, and the counter's value with the amount
 abbrev pub Stays : ℕ → ℕ → ℕ → ℕ → ℕ → ℕ → Type 0
-Stays w m k a word value = (record { over = false; word = word; merge = m } ≡ summed (add (block 3 w m) k a)) × (value ≡ (counter_at (block 3 w m) k).value + a)
+Stays w m k a word value = (Ok (record { word = word; merge = m }) ≡ summed (add (block 3 w m) k a)) × (value ≡ (counter_at (block 3 w m) k).value + a)

@@ -1,7 +1,7 @@
 -- Two blocks of one layout united where no counter's sum is too large: the number of the union is the sum of their numbers. That no
 -- sum leaves its counter is seen in the carries between counters. For any level.
 use mathlib.Core.Path.{◌≡◌, refl, sym, ap, ◌∙◌}
-use mathlib.Core.Bool.{Bool, true, not, ◌&&◌, and-eq-true_iff, true≢false}
+use mathlib.Core.Bool.{true, ◌&&◌, and-eq-true_iff, true≢false}
 use Prim.Native.Nat.{ℕ, suc, ◌+◌, ◌-◌, ◌*◌, ◌/◌, ◌%◌, ◌^◌, ◌≤◌, ◌<◌, min}
 use native.Mathlib.Nat.{add-mul, mod-lt, zero-div, zero-mod, div-add-mod', zero-mul, one-mul, mod-eq_of_lt}
 use native.Mathlib.Decide.{dec_lt}
@@ -16,7 +16,8 @@ use Rattle.group_layout.proofs.Laws.{layout_marks, marks_layout}
 use Rattle.group_block.specs.Kind.{ordinary}
 use Rattle.group_block.specs.Block.{cap, shape, fill, block, total, block_as}
 use Rattle.group_block.specs.Sum.{Sum, fits, over, held, join, unite}
-use Rattle.group_block.specs.Passed.{summed, Sane, summed_as}
+use Rattle.group_block.specs.Passed.{Sane}
+use Rattle.group_union.specs.Passed.{keeps}
 use Rattle.group_block_laws.specs.Least.{Suits, Least}
 use Rattle.group_block.proofs.Laws.{cap_square, high_lt, shape_fill}
 use Rattle.group_block_laws.proofs.Least.{unite_least}
@@ -189,13 +190,9 @@ suits_no_carry (halves {n} l r) a b h k s =
     let parts = and_block j (carries (a / 2 ^ j) (b / 2 ^ j)) (1 + bounds r) low (bounds l) (carries_lt j (a % 2 ^ j) (b % 2 ^ j) p.0) small in
     (sum, rw (carries_parts j a b p.0, parts, none, p.1, zero-mul (2 ^ j)))
 
--- whether a union is a block with these merge bits
-abbrev pub keeps : {n : ℕ} → ℕ → Sum n → Bool
-keeps m u = not (summed u).over && eqb (summed u).merge m
-
 module _ (n a b m : ℕ) (v : valid n m ≡ true) (h : a < cap n) (k : b < cap n) where
   pub keeps_no_carry : keeps m (unite (block n a m) (block n b m)) ≡ true → (a + b < cap n) × (bit_and (carries a b) (bounds (layout n m)) ≡ 0)
-  unfolding block_as summed_as Least
+  unfolding block_as Least
   keeps_no_carry = go (unite (fill (layout n m) a) (fill (layout n m) b)) (unite_least (fill (layout n m) a) (fill (layout n m) b))
     where
       go : (u : Sum n) → Least (fill (layout n m) a) (fill (layout n m) b) u → keeps m u ≡ true
@@ -206,7 +203,7 @@ module _ (n a b m : ℕ) (v : valid n m ≡ true) (h : a < cap n) (k : b < cap n
       go (over t) l e = absurd (true≢false (sym e))
 
   pub no_carry_keeps : a + b < cap n → bit_and (carries a b) (bounds (layout n m)) ≡ 0 → keeps m (unite (block n a m) (block n b m)) ≡ true
-  unfolding block_as summed_as
+  unfolding block_as
   no_carry_keeps s z = rw (unite_in_place (layout n m) a b s z, shape_fill (layout n m) (a + b), marks_layout n m v) (eq-eqb m m refl)
 
   keeps_unite : keeps m (unite (block n a m) (block n b m)) ≡ true → (a + b < cap n) × (unite (block n a m) (block n b m) ≡ fits (block n (a + b) m))

@@ -11,9 +11,8 @@ use Rattle.group_layout.proofs.Laws.{layout_marks}
 use Rattle.group_block.specs.Kind.{ordinary}
 use Rattle.group_block.specs.Block.{counter, split, cap, shape, fill, block, total, block_as}
 use Rattle.group_block.specs.Sum.{Sum, fits, held, join, unite}
-use Rattle.group_block.specs.Passed.{summed_as}
 use Rattle.group_block.proofs.Adding.{held_cases, held_total}
-use Rattle.group_union.proofs.Carries.{keeps}
+use Rattle.group_union.specs.Passed.{keeps}
 
 -- the merge bits of two counters of level n
 abbrev pub pair : ℕ → ℕ
@@ -26,7 +25,7 @@ pair_block n w = rw (layout_marks (halves {n = n} merged merged))
 -- either the union is two counters too, or one of them is over
 unite_pairs : {n : ℕ} (a b c d : ℕ) → let u = unite (split {n = n} (counter a) (counter b)) (split (counter c) (counter d)) in
     keeps (pair n) u ≡ false → u ≡ held (suc n) (a + b + (c + d))
-unfolding unite total join summed_as shape
+unfolding unite total join shape
 unite_pairs {n} a b c d =
     held_cases n (a + c) (λ x. Widens x (held n (b + d)))
     (λ h. held_cases n (b + d) (Widens (fits (counter (a + c))))

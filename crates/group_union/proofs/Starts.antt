@@ -19,7 +19,8 @@ use Rattle.group_block_laws.specs.Least.{together}
 use Rattle.group_slots.proofs.Bits.{ones_bit, low_bit, high_bit}
 use Rattle.group_slots.proofs.Gaps.{bounds, gaps, gaps_add, gaps_even, gaps_lt, gaps_bounds, starts, spread_byte}
 use Rattle.group_block.proofs.Laws.{cap_mono}
-use Rattle.group_union.proofs.Carries.{carries, carries_lt, mask_mod, end_no_carry, no_carry_end, keeps, keeps_no_carry, no_carry_keeps}
+use Rattle.group_union.proofs.Carries.{carries, carries_lt, mask_mod, end_no_carry, no_carry_end, keeps_no_carry, no_carry_keeps}
+use Rattle.group_union.specs.Passed.{keeps}
 use Rattle.laws.proofs.Tests.{both_ways}
 
 -- Merge bit k is set where slots k and k + 1 are in one counter.

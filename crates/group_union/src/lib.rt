@@ -10,7 +10,9 @@ ghost use Rattle.group_block.specs.Sum as sum_spec;
 ghost use Rattle.group_block.specs.Passed.{summed, Sane};
 ghost use Rattle.group_union.specs.Passed.{SumFits, adds_in_place};
 
-use group_block::{Summed, held, high_word, join, left_half, low_word, right_half, total};
+use group_block::{
+    Ordinary, Packed, held, high_word, join, left_half, low_word, right_half, total,
+};
 use group_layout::{beside, is_merged, ones};
 
 // Whether the count bytes of two blocks, taken as numbers, may be added for their union: the layouts are the same and each counter
@@ -59,34 +61,39 @@ fn block_total(level: u32, word: u64, merge: u8) -> u64
     if merge == pair_bits(half) {
         return pair_sum(half, word);
     }
-    total(level, word, merge)
+    total::<Ordinary>(level, word, merge)
 }
 
 // Two blocks united. Where both have the same layout and each counter holds its sum, the layout stays. Where both are two counters
 // and one does not hold its sum, they become one counter.
-pub fn unite(level: u32, word: u64, merge: u8, other_word: u64, other_merge: u8) -> Summed
+pub fn unite(
+    level: u32,
+    word: u64,
+    merge: u8,
+    other_word: u64,
+    other_merge: u8,
+) -> Result<Packed, u64>
     requires { (level ≤ 3) × ((Sane level word merge) × ((Sane level other_word other_merge) × (SumFits level word merge other_word other_merge))) }
     ensures { result ≡ summed (sum_spec.unite (block level word merge) (block level other_word other_merge)) }
 {
     if may_add(word, merge, other_word, other_merge) {
-        return Summed {
-            over: false,
+        return Ok(Packed {
             word: word + other_word,
             merge,
-        };
+        });
     }
     if is_merged(level, merge) {
-        return held(level, word + block_total(level, other_word, other_merge));
+        return held::<Ordinary>(level, word + block_total(level, other_word, other_merge));
     }
     if is_merged(level, other_merge) {
-        return held(level, block_total(level, word, merge) + other_word);
+        return held::<Ordinary>(level, block_total(level, word, merge) + other_word);
     }
     let half = level - 1;
     let pair = pair_bits(half);
     if merge == pair {
         if other_merge == pair {
             // the bytes may not be added, so one of the counters does not hold its sum
-            return held(level, pair_sum(half, word) + pair_sum(half, other_word));
+            return held::<Ordinary>(level, pair_sum(half, word) + pair_sum(half, other_word));
         }
     }
     let left = left_half(half, word, merge);
@@ -100,7 +107,7 @@ pub fn unite(level: u32, word: u64, merge: u8, other_word: u64, other_merge: u8)
         other_left.word,
         other_left.merge,
     );
-    join(
+    join::<Ordinary>(
         half,
         united,
         unite(

@@ -1,5 +1,6 @@
 -- Laws of signed groups: which are refused, encoding, and what the code's additions and unions come to.
-use mathlib.Core.Path.{◌≡◌, refl, sym, ap, ◌∙◌}
+use Rattle.std.proofs.Common.{Ok, Err}
+use mathlib.Core.Path.{◌≡◌, refl, ap, ◌∙◌}
 use mathlib.Core.Bool.{Bool, true, false}
 use Prim.Native.Nat.{ℕ, ◌%◌, ◌≤◌, ◌<◌}
 use native.Mathlib.Omega.{arith}
@@ -9,7 +10,7 @@ use Rattle.little_endian.specs.Bytes.{number}
 use Rattle.group_layout.specs.Layout.{ones, layout, valid}
 use Rattle.group_layout.proofs.Laws.{layout_marks}
 use Rattle.group_block.specs.Block.{BlockOf, cap, Fits, shape, all_clean, total}
-use Rattle.group_block.specs.declared.Summed.{Summed}
+use Rattle.group_block.specs.declared.Packed.{Packed}
 use Rattle.group_block.specs.Sum.{SumOf, add, unite, sum_total}
 use Rattle.group_block.proofs.Adding.{Sound, unite_sound, unite_total_of}
 use Rattle.group_block.proofs.Laws.{word_clean, block_fits_of}
@@ -20,10 +21,11 @@ use Rattle.group.specs.declared.Group.{Group}
 use Rattle.group.specs.Results.{Outcome}
 use Rattle.group.specs.Group.{encode, unchanged, settle}
 use Rattle.group.specs.Stored.{stored}
-use Rattle.group.proofs.Laws.{decode_encode_of, encode_valid, number_encode, settle_summed, settle_past, fits_of, over_of_lem}
-use Rattle.signed_number.specs.Number.{times_sign}
+use Rattle.group.proofs.Laws.{decode_encode_of, encode_valid, number_encode, settle_stored, settle_past, settle_accepted, settle_full}
+use Rattle.signed_number.specs.declared.Signed.{Signed}
+use Rattle.signed_number.specs.Number.{times_sign, signed_of}
 use Rattle.signed_block.specs.Signed.{top, signed, times_block}
-use Rattle.signed_block.specs.Passed.{signed_passing, signed_summed}
+use Rattle.signed_block.specs.Passed.{signed_summed}
 use Rattle.signed_block.proofs.Counters.{signed_codes, signed_sums}
 use Rattle.signed_block.proofs.Times.{times_fits, times_total}
 use Rattle.signed_group.specs.Group.{decode, bad_group, bad_pair, added, combined}
@@ -92,12 +94,12 @@ unfolding decode
 decode_fits g h = block_fits_of signed_codes 3 (number g.counts) g.merge h
 
 -- the code's answer, by what an addition or a union left
-module _ (g : Group) (s : Summed) (x : SumOf signed 3) (e : s ≡ signed_summed x) where
-  pub stored_is : s.over ≡ false → stored s ≡ settle g x
-  stored_is o = ap stored e ∙ sym (settle_summed signed_passing g x (sym (ap (λ (t : Summed). t.over) e) ∙ o))
+module _ (g : Group) (x : SumOf signed 3) where
+  pub stored_is : (p : Packed) → Ok p ≡ signed_summed x → stored p ≡ settle g x
+  stored_is p e = settle_stored signed_of g x p e
 
-  pub full_is : s.over ≡ true → unchanged counter_full g ≡ settle g x
-  full_is o = sym (settle_past signed_passing g x (sym (ap (λ (t : Summed). t.over) e) ∙ o))
+  pub full_is : (s : Signed) → Err s ≡ signed_summed x → unchanged counter_full g ≡ settle g x
+  full_is s e = settle_past signed_of g x s e
 
 -- additions and unions, by the lines that refuse them
 module _ (g : Group) (slot : ℕ) (a : ℤ) where
@@ -130,12 +132,7 @@ module _ (minus : Bool) (g h : Group) where
     united_total = unite_total_of signed_sums (decode g) (times_block minus (decode h)) ∙ ap (λ (x : ℤ). total (decode g) +ℤ x) (times_total minus (decode h))
 
     pub status_fits : bad_pair g h ≡ 0 → nat_abs (total (decode g) +ℤ times_sign minus (total (decode h))) < top 3 → (combined minus g h).status ≡ 0
-    unfolding stored
-    status_fits e s =
-        ap (λ (o : Outcome). o.status)
-        (combined_settled e ∙ settle_summed signed_passing g united (fits_of signed_passing united united_sound (rw united_total s)))
+    status_fits e s = ap (λ (o : Outcome). o.status) (combined_settled e) ∙ settle_accepted g united united_sound (rw united_total s)
 
     pub status_full : bad_pair g h ≡ 0 → top 3 ≤ nat_abs (total (decode g) +ℤ times_sign minus (total (decode h))) → (combined minus g h).status ≡ counter_full
-    status_full e s =
-        ap (λ (o : Outcome). o.status)
-        (combined_settled e ∙ settle_past signed_passing g united (over_of_lem signed_sums signed_passing united united_sound (rw united_total s)))
+    status_full e s = ap (λ (o : Outcome). o.status) (combined_settled e ∙ settle_full signed_sums g united united_sound (rw united_total s))

@@ -1,6 +1,6 @@
 -- What the code's results come to.
 use mathlib.Core.Path.{◌≡◌, sym, ap, ap₂, ◌∙◌}
-use mathlib.Core.Bool.{Bool, true, false}
+use mathlib.Core.Bool.{Bool}
 use Prim.Native.Nat.{ℕ, ◌%◌}
 use native.Mathlib.Omega.{arith}
 use borrow.Author.Tests.{eq-eqb, ne_eqb}
@@ -13,7 +13,7 @@ use Rattle.answer.specs.Refusals.{number}
 use Rattle.answer.proofs.Refusals.{positive}
 use Rattle.group_layout.specs.Layout.{layout, level_of}
 use Rattle.group_block.specs.Block.{counter_value}
-use Rattle.group_block.specs.declared.Summed.{Summed}
+use Rattle.group_block.specs.declared.Packed.{Packed}
 use Rattle.group_block.specs.Sum.{SumOf}
 use Rattle.group.specs.declared.Group.{Group}
 use Rattle.group.specs.Group.{unchanged, settle}
@@ -49,14 +49,14 @@ pub status_refused : (minus : Bool) (g h : Group) (r : Refusal) → number r ≡
 status_refused minus g h r e = e ∙ sym (ap (λ (o : Outcome). o.status) (combined_refused minus g h (some r (bad_pair g h) e)))
 
 -- the group that an addition or a union left
-module _ (g : Group) (s : Summed) (x : SumOf signed 3) (e : s ≡ signed_summed x) where
-  pub outcome_stored : (h : Group) → h ≡ (stored s).group → s.over ≡ false → outcome_of g (Ok h) ≡ settle g x
+module _ (g : Group) (x : SumOf signed 3) where
+  pub outcome_stored : (p : Packed) → Ok p ≡ signed_summed x → (h : Group) → h ≡ (stored p).group → outcome_of g (Ok h) ≡ settle g x
   unfolding stored
-  outcome_stored h i o = ap (λ (k : Group). record { status = 0; group = k }) i ∙ stored_is g s x e o
+  outcome_stored p e h i = ap (λ (k : Group). record { status = 0; group = k }) i ∙ stored_is g x p e
 
-  pub outcome_full : s.over ≡ true → outcome_of g (Err CounterFull) ≡ settle g x
+  pub outcome_full : (s : Signed) → Err s ≡ signed_summed x → outcome_of g (Err CounterFull) ≡ settle g x
   unfolding number
-  outcome_full o = full_is g s x e o
+  outcome_full s e = full_is g x s e
 
 -- where none is left, the group as it was
 pub left_of : (g : Group) (r : Result Group Refusal) (o : Outcome) → outcome_of g r ≡ o → result_unwrap_or r g ≡ o.group

@@ -15,7 +15,7 @@ ghost use Rattle.signed_group.specs.Results.{reading_of};
 
 use answer::{Refusal, first};
 use group::{Group, is_valid, settled};
-use group_block::Summed;
+use group_block::Packed;
 use little_endian::number_of;
 use signed_number::Signed;
 use signed_widening::add_widening;
@@ -44,13 +44,13 @@ pub fn counter(g: Group, slot: usize) -> Result<Counter, Refusal>
 }
 
 // The group that an addition or a union left, if a counter holds the sum.
-fn outcome(s: Summed) -> Result<Group, Refusal>
+fn outcome(s: Result<Packed, Signed>) -> Result<Group, Refusal>
     ensures { (g : Group) (x : SumOf signed 3) → s ≡ signed_summed x → outcome_of g result ≡ settle g x }
 {
-    if s.over {
-        return Err(Refusal::CounterFull);
+    match s {
+        Ok(block) => Ok(settled(block)),
+        Err(_) => Err(Refusal::CounterFull),
     }
-    Ok(settled(s))
 }
 
 // An amount added to the counter that a slot is in.
@@ -65,8 +65,7 @@ pub fn add(g: Group, slot: usize, minus: bool, magnitude: u32) -> Result<Group, 
         magnitude: magnitude as u64,
     };
     if let Some(sum) = add_in_place(word, g.merge, k, amount) {
-        return Ok(settled(Summed {
-            over: false,
+        return Ok(settled(Packed {
             word: sum,
             merge: g.merge,
         }));

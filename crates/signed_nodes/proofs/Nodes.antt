@@ -1,4 +1,5 @@
 -- The union of two blocks by the unions of their halves, for any level.
+use Rattle.std.proofs.Common.{Ok}
 use mathlib.Core.Path.{◌≡◌, refl, sym, ap, ap₂, ◌∙◌}
 use mathlib.Core.Bool.{Bool, true, false, cond, ◌&&◌, ◌||◌, true≢false}
 use Prim.Native.Nat.{ℕ, suc, ◌+◌, ◌*◌, ◌/◌, ◌%◌, ◌^◌, ◌≤◌, ◌<◌}
@@ -11,7 +12,6 @@ use lib.IntN.{ℤ, ◌+ℤ◌, nat_abs}
 use Rattle.group_layout.specs.Layout.{ones, marks, layout}
 use Rattle.group_layout.specs.Merged.{is_merged}
 use Rattle.group_layout.proofs.Laws.{marks_in}
-use Rattle.group_block.specs.declared.Summed.{Summed}
 use Rattle.group_block.specs.Block.{BlockOf, cap, shape, number_of, total}
 use Rattle.group_block.specs.Sum.{SumOf, fits, over, held, join, unite, sum_total}
 use Rattle.group_block.specs.Passed.{summed_as}
@@ -23,26 +23,27 @@ use Rattle.signed_block.specs.Signed.{signed, top, sign_bits, sign_read}
 use Rattle.signed_block.specs.Passed.{signed_block, signed_summed}
 use Rattle.signed_block.proofs.Counters.{top_half, signed_sums, signed_codes}
 use Rattle.signed_nodes.specs.declared.Node.{Node}
+use Rattle.signed_nodes.specs.declared.Tried.{Tried}
 use Rattle.signed_nodes.proofs.Integers.{bias_small, raised_lt}
-use Rattle.signed_nodes.specs.Nodes.{bias, Raised, Tells, passed, Sides, BesideAs}
+use Rattle.signed_nodes.specs.Nodes.{bias, Raised, told, Tells, passed, Sides, BesideAs}
 
 -- a sum that is tried
 pub held_tells : (n : ℕ) (v : ℤ) → Tells (record { over = leb (top n) (nat_abs v); word = sign_bits n v; merge = ones n }) (held {K = signed} n v)
-unfolding held summed_as number_of shape marks
+unfolding held told number_of shape marks
 held_tells n v = elim (dec_lt (nat_abs v) (top n)) [
   | yes h ↦ rw (lt-ltb (nat_abs v) (top n) h, lt-leb (top n) (nat_abs v) h) (record { whether = refl; block = λ e. refl })
   | no h ↦ rw (le-ltb (nat_abs v) (top n) (omega arith), le-leb (top n) (nat_abs v) (omega arith)) (record { whether = refl; block = λ e. absurd (true≢false e) })
 ]
 
 -- two halves, one of which is over
-join_over : {n : ℕ} (x y : SumOf signed n) → ((signed_summed x).over || (signed_summed y).over) ≡ true → join x y ≡ held (suc n) (sum_total x +ℤ sum_total y)
-unfolding join summed_as sum_total
+join_over : {n : ℕ} (x y : SumOf signed n) → ((told x).over || (told y).over) ≡ true → join x y ≡ held (suc n) (sum_total x +ℤ sum_total y)
+unfolding join told sum_total
 join_over (fits l) (fits r) e = absurd (true≢false (sym e))
 join_over (fits l) (over t) e = refl
 join_over (over s) y e = refl
 
 -- two halves that are blocks
-record Kept {n : ℕ} (s : Summed) (x : SumOf signed n) : Type 0 where
+record Kept {n : ℕ} (s : Tried) (x : SumOf signed n) : Type 0 where
   word_in : s.word < cap n
   merge_in : s.merge < 2 ^ (2 ^ n)
   block : BlockOf signed n
@@ -50,16 +51,16 @@ record Kept {n : ℕ} (s : Summed) (x : SumOf signed n) : Type 0 where
   word_is : s.word ≡ number_of block
   merge_is : s.merge ≡ marks (shape block)
 
-kept : {n : ℕ} (s : Summed) (x : SumOf signed n) → Sound x → Tells s x → s.over ≡ false → Kept s x
-unfolding summed_as Sound
+kept : {n : ℕ} (s : Tried) (x : SumOf signed n) → Sound x → Tells s x → s.over ≡ false → Kept s x
+unfolding told Sound
 kept s (fits b) f t e =
-    let w : s.word ≡ number_of b = ap (λ (u : Summed). u.word) (t.block e) in
-    let m : s.merge ≡ marks (shape b) = ap (λ (u : Summed). u.merge) (t.block e) in
+    let w : s.word ≡ number_of b = ap (λ (u : Tried). u.word) (t.block e) in
+    let m : s.merge ≡ marks (shape b) = ap (λ (u : Tried). u.merge) (t.block e) in
     record { word_in = rw w (word_lt_of signed_codes b f); merge_in = rw m (marks_in (shape b)); block = b; is = refl; word_is = w; merge_is = m }
 kept s (over v) f t e = absurd (true≢false (sym t.whether ∙ e))
 
-join_kept : {n : ℕ} (l r s : Summed) (x y : SumOf signed n) → Kept l x → Kept r y → BesideAs n l r s → s.over ≡ false → s ≡ signed_summed (join x y)
-unfolding join summed_as number_of shape marks
+join_kept : {n : ℕ} (l r s : Tried) (x y : SumOf signed n) → Kept l x → Kept r y → BesideAs n l r s → s.over ≡ false → s ≡ told (join x y)
+unfolding join told number_of shape marks
 join_kept {n} l r s x y p q b e =
     let w : s.word ≡ number_of q.block * cap n + number_of p.block = rw (← q.word_is, ← p.word_is) (b.words p.word_in q.word_in) in
     let m : s.merge ≡ marks (shape q.block) * 2 ^ (2 ^ n) + marks (shape p.block) = rw (← q.merge_is, ← p.merge_is) (b.merges p.merge_in q.merge_in) in
@@ -90,7 +91,7 @@ module _ (n w m w' m' : ℕ) (h : w < cap (suc n)) (h' : w' < cap (suc n)) where
   rights_sound = unite_sound r r' (block_fits_of signed_codes n _ _ (high_lt n w h)) (block_fits_of signed_codes n _ _ (high_lt n w' h'))
 
   module _ (s : Node) (a-is : Raised (suc n) s.a (total l +ℤ total r)) (b-is : Raised (suc n) s.b (total l' +ℤ total r'))
-      (p q : Summed) (p_is : Tells p (unite l l')) (q-is : Tells q (unite r r')) (s-is : BesideAs n p q (passed s)) where
+      (p q : Tried) (p_is : Tells p (unite l l')) (q-is : Tells q (unite r r')) (s-is : BesideAs n p q (passed s)) where
     pub sides_are : Sides (suc n) s w m w' m'
     unfolding unite total
     sides_are = record {
@@ -123,18 +124,18 @@ module _ (n w m w' m' : ℕ) (sides : Node) (known : Sides n sides w m w' m') wh
   one_counter false false false e f g o = absurd (true≢false (sym o))
 
   sides_apart : (a b c : Bool) → is_merged (layout n m) ≡ a → is_merged (layout n m') ≡ b → sides.over ≡ c → ((a || b) || c) ≡ false
-      → record { over = false; word = sides.word; merge = sides.merge } ≡ signed_summed (unite x y)
+      → record { over = false; word = sides.word; merge = sides.merge } ≡ told (unite x y)
   sides_apart true b c e f g o = absurd (true≢false o)
   sides_apart false true c e f g o = absurd (true≢false o)
   sides_apart false false true e f g o = absurd (true≢false o)
   sides_apart false false false e f g o = ap (λ (b : Bool). record { over = b; word = sides.word; merge = sides.merge }) (sym g) ∙ known.both e f g
 
   -- the union as the code chooses it
-  pub chosen_tells : (t : Summed) → Tells t (held {K = signed} n (total x +ℤ total y)) → (one : Bool) → ((is_merged (layout n m) || is_merged (layout n m')) || sides.over) ≡ one
+  pub chosen_tells : (t : Tried) → Tells t (held {K = signed} n (total x +ℤ total y)) → (one : Bool) → ((is_merged (layout n m) || is_merged (layout n m')) || sides.over) ≡ one
       → Tells (record { over = one && t.over; word = cond one t.word sides.word; merge = cond one t.merge sides.merge }) (unite x y)
   chosen_tells t k true e = rw (one_counter _ _ _ refl refl refl e) k
   chosen_tells t k false e = let s = sides_apart _ _ _ refl refl refl e in
-      record { whether = ap (λ (u : Summed). u.over) s; block = λ o. s }
+      record { whether = ap (λ (u : Tried). u.over) s; block = λ o. s }
 
 -- a block's total is held by one counter of its level
 pub total_in : (n w m : ℕ) → w < cap n → nat_abs (total (signed_block n w m)) < top n
@@ -155,9 +156,15 @@ apart_in n w m h e =
     rw (block_suc signed n w m e) (omega (arith, signed_sums.triangle (total (signed_block n (w % cap n) (m % 2 ^ (2 ^ n)))) (total (signed_block n (w / cap n) (m / 2 ^ (2 ^ n))))))
 
 -- a sum that its counter holds
-pub held_is : (n : ℕ) (v : ℤ) (t : Summed) → Tells t (held {K = signed} n v) → nat_abs v < top n
-    → record { over = false; word = t.word; merge = t.merge } ≡ signed_summed (held {K = signed} n v)
-unfolding held summed_as
+pub held_is : (n : ℕ) (v : ℤ) (t : Tried) → Tells t (held {K = signed} n v) → nat_abs v < top n
+    → record { over = false; word = t.word; merge = t.merge } ≡ told (held {K = signed} n v)
+unfolding held told
 held_is n v t k h =
     let o : t.over ≡ false = k.whether ∙ rw (lt-ltb (nat_abs v) (top n) h) in
     ap (λ (b : Bool). record { over = b; word = t.word; merge = t.merge }) (sym o) ∙ k.block o
+
+-- one that is a block, as group_block passes it
+pub told_passed : {n : ℕ} (x : SumOf signed n) (w m : ℕ) → record { over = false; word = w; merge = m } ≡ told x → Ok (record { word = w; merge = m }) ≡ signed_summed x
+unfolding told summed_as
+told_passed (fits b) w m e = ap₂ (λ (w m : ℕ). Ok (record { word = w; merge = m })) (ap (λ (t : Tried). t.word) e) (ap (λ (t : Tried). t.merge) e)
+told_passed (over s) w m e = absurd (true≢false (sym (ap (λ (t : Tried). t.over) e)))

@@ -12,9 +12,17 @@ ghost use Rattle.signed_block.specs.Passed.{signed_block};
 ghost use Rattle.signed_nodes.specs.Nodes.{Raised, RaisedApart, Tells, passed, IsNode, Sides, BesideAs};
 ghost use Rattle.signed_nodes.specs.Nodes as spec;
 
-use group_block::Summed;
 use group_layout::{is_merged, ones, slots};
 use signed_block::top;
+
+// A sum that was tried: whether it is over and, where it is not, the block's count bytes as one number and its merge bits. These are
+// computed in either case, so that no branch is taken on whether a counter holds a sum.
+#[derive(Clone, Copy)]
+pub struct Tried {
+    pub over: bool,
+    pub word: u64,
+    pub merge: u8,
+}
 
 // What is known of two blocks: their totals, raised, and of their union whether it is over and, where it is not, its count bytes as one
 // number and its merge bits.
@@ -63,11 +71,11 @@ fn sum_bits(level: u32, sum: u64) -> u64
 }
 
 // A sum that was raised twice, stored in the one counter of a block, if it holds it.
-pub fn held(level: u32, sum: u64) -> Summed
+pub fn held(level: u32, sum: u64) -> Tried
     requires { level ≤ 3 }
     ensures { Tells result (sum_spec.held level (sub_ℕ sum (spec.bias (level + 1)))) }
 {
-    Summed {
+    Tried {
         over: sum.abs_diff(bias(level + 1)) >= top(level),
         word: sum_bits(level, sum),
         merge: ones(level),

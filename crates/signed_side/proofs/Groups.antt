@@ -1,5 +1,5 @@
 -- Unmerged groups whose slots are not minus zero: none is refused, and slots that hold the sums are the groups combined.
-use Rattle.std.proofs.Common.{◌≡◌, ℕ, zero, suc, ◌+◌, ◌*◌, ◌^◌, ◌<◌, Bool, true, false, List, map, length, get_or, take, drop, nat_abs, sym, refl, ap, ◌∙◌, ap₂, arith, get_or-drop, get_or-take, ltb-true, ne_eqb}
+use Rattle.std.proofs.Common.{Ok, ◌≡◌, ℕ, zero, suc, ◌+◌, ◌*◌, ◌^◌, ◌<◌, Bool, true, false, List, map, length, get_or, take, drop, nat_abs, sym, refl, ap, ◌∙◌, ap₂, arith, get_or-drop, get_or-take, ltb-true, ne_eqb}
 use lib.ListN.{length-map, get_or-map}
 use Rattle.laws.proofs.Lists.{Bytes}
 use Rattle.little_endian.specs.Bytes.{number, bytes}
@@ -8,16 +8,15 @@ use Rattle.group_layout.specs.Layout.{layout}
 use Rattle.group_block.specs.Kind.{cap}
 use Rattle.group_block.specs.Block.{counter, split, fill, block_as}
 use Rattle.group_block.specs.Sum.{unite}
-use Rattle.group_block.specs.declared.Summed.{Summed}
 use Rattle.group.specs.Stored.{stored}
 use Rattle.group.proofs.Laws.{Eight, number_in}
 use Rattle.group_side.specs.Side.{unmerged, part}
 use Rattle.group_side.proofs.Parts.{part_long, part_eight, part_at}
 use Rattle.group_side.proofs.Slots.{clear_halves, Slots, low_slots, high_slots, number_halves, number_slot, slots_clean, Each, each_of, Holds, each_bytes, sums_passed}
-use Rattle.signed_number.specs.Number.{times_sign}
+use Rattle.signed_number.specs.Number.{times_sign, signed_of}
 use Rattle.signed_number.proofs.Integers.{abs_times}
 use Rattle.signed_block.specs.Signed.{top, sign_bits, sign_read, not_minus_zero, signed, times_block}
-use Rattle.signed_block.specs.Passed.{signed_passing, signed_summed}
+use Rattle.signed_block.specs.Passed.{signed_summed}
 use Rattle.signed_block.proofs.Counters.{signed_codes}
 use Rattle.signed_words.proofs.Totals.{halves_fit}
 use Rattle.signed_group.specs.Group.{decode, bad_pair, combined}
@@ -114,10 +113,9 @@ module _ (minus : Bool) (xs ys : List ℕ) (e : Eight xs) (f : Eight ys) (n : (k
     unfolding decode stored
     pair_combined =
         let united = unite (decode (unmerged xs)) (times_block minus (decode (unmerged ys))) in
-        let sum : Summed = record { over = false; word = number zs; merge = 0 } in
-        let is : sum ≡ signed_summed united = rw turns_block at (sums_passed signed_codes 3 e.long held signed_passing) in
+        let is : Ok (record { word = number zs; merge = 0 }) ≡ signed_summed united = rw turns_block at (sums_passed signed_codes 3 e.long held signed_of) in
         let back : bytes 8 (number zs) ≡ zs = rw l at (bytes_number zs (each_bytes signed_codes held).2) in
-        combined_settled minus (unmerged xs) (unmerged ys) good ∙ sym (stored_is (unmerged xs) sum united is refl) ∙ rw back
+        combined_settled minus (unmerged xs) (unmerged ys) good ∙ sym (stored_is (unmerged xs) united _ is) ∙ rw back
 
 -- n groups side by side
 module _ (n : ℕ) (xs ys : List ℕ) (l : length xs ≡ 8 * n) (m : length ys ≡ 8 * n) (b : Bytes xs) (c : Bytes ys) where

@@ -10,7 +10,7 @@ use Rattle.little_endian.specs.Bytes.{number, bytes}
 use Rattle.little_endian.proofs.Bytes.{number_bytes}
 use Rattle.group_side.proofs.Slots.{Each, none, more, Holds, sums_passed}
 use Rattle.signed_block.specs.Signed.{signed}
-use Rattle.signed_block.specs.Passed.{signed_passing}
+use Rattle.signed_number.specs.Number.{signed_of}
 use Rattle.signed_block.proofs.Counters.{signed_codes}
 use Rattle.signed_slots.specs.Slots.{ones, lows, signs, magnitudes, spread, folded, apart, total, past, size, minus, sums, over, rep, Stay}
 use Rattle.signed_slots.proofs.Lanes.{zip, lanes, lanes_lt, total_lt, size_le, total_lanes, raised_lanes, sums_lanes, over_lanes}
@@ -57,7 +57,7 @@ module _ (w v : ℕ) (h : w < 2 ^ 64) (k : v < 2 ^ 64) where
       let s : number (zip (sums 1 127) xs ys) ≡ sums ones lows w v =
       sym (lanes sums sums_lanes xs ys refl (bytes_small 8 w) (bytes_small 8 v)) ∙ eight_lanes sums w v h k in
       rw (s, number_bytes 8 w h, number_bytes 8 v k) at
-      (sums_passed signed_codes 3 {xs = xs} {ys = ys} refl (each_held xs ys refl (bytes_small 8 w) (bytes_small 8 v) o) signed_passing)
+      (sums_passed signed_codes 3 {xs = xs} {ys = ys} refl (each_held xs ys refl (bytes_small 8 w) (bytes_small 8 v) o) signed_of)
 
 -- the code's sums
 module _ (w v : ℕ) (h : w < 2 ^ 64) (k : v < 2 ^ 64) where

@@ -1,6 +1,6 @@
 -- Unmerged slots of a signed group in the bytes of a number. The code's own terms.
 -- Of any number of bytes: o has a 1 and l has 127 in each.
-use Rattle.std.specs.Prelude.{ℕ, zero, suc, ◌+◌, ◌*◌, ◌/◌, ◌^◌, ◌≡◌, false}
+use Rattle.std.specs.Prelude.{ℕ, zero, suc, ◌+◌, ◌*◌, ◌/◌, ◌^◌, ◌≡◌, Ok}
 use Rattle.std.specs.Int.Bits.{bit_and, bit_or, bit_xor}
 use Rattle.group_block.specs.Sum.{unite}
 use Rattle.signed_block.specs.Passed.{signed_block, signed_summed}
@@ -66,4 +66,4 @@ over_of n w v = over (rep 1 (2 ^ n)) (rep 127 (2 ^ n)) w v
 
 -- the union of two groups is not merged and has these count bytes, taken as one number
 abbrev pub Stay : ℕ → ℕ → ℕ → ℕ → ℕ → Type 0
-Stay w m w' m' sum = record { over = false; word = sum; merge = 0 } ≡ signed_summed (unite (signed_block 3 w m) (signed_block 3 w' m'))
+Stay w m w' m' sum = Ok (record { word = sum; merge = 0 }) ≡ signed_summed (unite (signed_block 3 w m) (signed_block 3 w' m'))

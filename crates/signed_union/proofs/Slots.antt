@@ -10,28 +10,27 @@ use lib.Dec.{eqb}
 use lib.Pow.{pow_pos, shr_lt, shr_mod}
 use lib.IntN.{◌+ℤ◌, nat_abs}
 use Rattle.group_layout.specs.Layout.{ones, marks, layout}
-use Rattle.group_block.specs.declared.Summed.{Summed}
 use Rattle.group_block.specs.Block.{cap, shape, number_of, fill, block_as, total}
 use Rattle.group_block.specs.Sum.{held, unite}
-use Rattle.group_block.specs.Passed.{summed_as}
 use Rattle.group_block.proofs.Laws.{cap_pos, high_lt}
 use Rattle.signed_block.specs.Signed.{top, sign_read}
 use Rattle.signed_block.specs.Passed.{signed_block}
 use Rattle.signed_slots.specs.Slots.{sums_of, over_of}
 use Rattle.signed_slots.proofs.Blocks.{sums_halves, over_halves, sums_lt, over_lt, sums_parts, over_parts, slot_held, slot_over}
 use Rattle.signed_nodes.specs.declared.Node.{Node}
+use Rattle.signed_nodes.specs.declared.Tried.{Tried}
 use Rattle.signed_union.specs.declared.Blocks.{Blocks}
-use Rattle.signed_nodes.specs.Nodes.{Raised, Tells, passed, BesideAs}
+use Rattle.signed_nodes.specs.Nodes.{Raised, told, Tells, passed, BesideAs}
 use Rattle.signed_union.specs.Slotted.{NodeOf, SidesOf, Slotted, lefts_of, rights_of, halves_of}
 use Rattle.signed_nodes.proofs.Integers.{raised_sum}
 use Rattle.signed_nodes.proofs.Nodes.{sides_are, raised_in}
 
 -- one slot
-abbrev slot : ℕ → ℕ → Summed
+abbrev slot : ℕ → ℕ → Tried
 slot x y = record { over = not (eqb (over_of 0 x y) 0); word = sums_of 0 x y; merge = 0 }
 
 slot_tells : (x y : ℕ) → x < cap 0 → y < cap 0 → Tells (slot x y) (unite (signed_block 0 x 0) (signed_block 0 y 0))
-unfolding cap block_as layout fill unite total held summed_as number_of shape marks ones
+unfolding cap block_as layout fill unite total held told number_of shape marks ones
 slot_tells x y h k =
     let v = sign_read 0 x +ℤ sign_read 0 y in
     elim (dec_lt 0 (over_of 0 x y)) [

@@ -1,6 +1,7 @@
 -- Two blocks and the sums of their slots, as the code passes them. The code's own terms; no public contract cites them.
-use Rattle.std.specs.Prelude.{ℕ, ◌/◌, ◌%◌, ◌^◌, ◌<◌, ◌≡◌, cond, eqb}
-use Rattle.group_block.specs.declared.Summed.{Summed}
+use Rattle.std.specs.Prelude.{ℕ, ◌/◌, ◌%◌, ◌^◌, ◌<◌, ◌≡◌, cond, eqb, Result}
+use Rattle.group_block.specs.declared.Packed.{Packed}
+use Rattle.signed_number.specs.declared.Signed.{Signed}
 use Rattle.group_block.specs.Block.{cap}
 use Rattle.group_block.specs.Sum.{unite}
 use Rattle.signed_block.specs.Passed.{signed_block, signed_summed}
@@ -17,7 +18,7 @@ abbrev pub SidesOf : ℕ → Node → Blocks → Type 0
 SidesOf n s b = Sides n s b.word b.merge b.other_word b.other_merge
 
 -- the union as the code passes it
-abbrev pub united : Blocks → Summed
+abbrev pub united : Blocks → Result Packed Signed
 united b = signed_summed (unite (signed_block 3 b.word b.merge) (signed_block 3 b.other_word b.other_merge))
 
 -- blocks of level n, with the words of their slots

@@ -12,9 +12,11 @@ ghost use Rattle.signed_nodes.specs.Nodes.{Raised};
 ghost use Rattle.signed_union.specs.Slotted.{Slotted, NodeOf, SidesOf, halves_of};
 ghost use Rattle.signed_union.specs.Slotted as spec;
 
-use group_block::{Summed, high_word, low_word};
+use group_block::{Packed, high_word, low_word};
 use group_layout::{is_merged, low, slots};
+use signed_block::SignedMeter;
 use signed_nodes::{Node, beside, formed, held, raised};
+use signed_number::Signed;
 use signed_slots::{over, sums};
 
 // Two blocks by their count bytes as numbers and their merge bits; and of their slots, taken as unmerged, the sums and which are over.
@@ -121,30 +123,28 @@ fn eight_slots(b: Blocks) -> Node
 }
 
 // Two groups united, neither of them merged into one counter: the counter of a group that is formed holds any sum of theirs.
-fn united(b: Blocks) -> Summed
+fn united(b: Blocks) -> Packed
     requires fact_1 { Slotted 3 b }
     requires fact_2 { is_merged (layout 3 b.merge) ≡ false }
     requires fact_3 { is_merged (layout 3 b.other_merge) ≡ false }
-    ensures { result ≡ spec.united b }
+    ensures { Ok result ≡ spec.united b }
 {
     let sides = eight_slots(b);
     if sides.over {
         let sum = held(3, sides.a + sides.b);
-        return Summed {
-            over: false,
+        return Packed {
             word: sum.word,
             merge: sum.merge,
         };
     }
-    Summed {
-        over: false,
+    Packed {
         word: sides.word,
         merge: sides.merge,
     }
 }
 
 // Two groups united: most are not merged, and few of their sums need more than a slot; few are one counter.
-pub fn unite(word: u64, merge: u8, other_word: u64, other_merge: u8) -> Summed
+pub fn unite(word: u64, merge: u8, other_word: u64, other_merge: u8) -> Result<Packed, Signed>
     requires fact_1 { SignedSane 3 word merge }
     requires fact_2 { SignedSane 3 other_word other_merge }
     ensures { result ≡ signed_summed (sum_spec.unite (signed_block 3 word merge) (signed_block 3 other_word other_merge)) }
@@ -159,15 +159,14 @@ pub fn unite(word: u64, merge: u8, other_word: u64, other_merge: u8) -> Summed
     };
     if merge | other_merge == 0 {
         if b.overs == 0 {
-            return Summed {
-                over: false,
+            return Ok(Packed {
                 word: b.sums,
                 merge: 0,
-            };
+            });
         }
     }
     if is_merged(3, merge) | is_merged(3, other_merge) {
-        return signed_block::unite(3, word, merge, other_word, other_merge);
+        return group_block::unite::<SignedMeter>(3, word, merge, other_word, other_merge);
     }
-    united(b)
+    Ok(united(b))
 }

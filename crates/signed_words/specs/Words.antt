@@ -1,5 +1,5 @@
 -- The sign bits of a signed group in its count bytes taken as one number, and whether a counter holds a sum. The code's own terms.
-use Rattle.std.specs.Prelude.{ℕ, ◌+◌, ◌-◌, ◌*◌, ◌/◌, ◌%◌, ◌≡◌, Bool, false, cond, ltb, eqb, ℤ, ◌+ℤ◌, nat_abs}
+use Rattle.std.specs.Prelude.{ℕ, ◌+◌, ◌-◌, ◌*◌, ◌/◌, ◌%◌, ◌≡◌, Bool, cond, ltb, eqb, ℤ, ◌+ℤ◌, nat_abs, Ok}
 use Rattle.group_layout.specs.Layout.{Layout, merged, halves, layout, level_of}
 use Rattle.group_block.specs.Block.{cap, counter_value, total}
 use Rattle.group_block.specs.Sum.{add}
@@ -38,7 +38,7 @@ moved x a = cond a.minus (x - a.magnitude) (x + a.magnitude)
 
 -- what an addition that the counter holds leaves: the layout, and another number
 abbrev pub Stays : ℕ → ℕ → ℕ → ℤ → ℕ → Type 0
-Stays w m k a word = record { over = false; word = word; merge = m } ≡ signed_summed (add (signed_block 3 w m) k a)
+Stays w m k a word = Ok (record { word = word; merge = m }) ≡ signed_summed (add (signed_block 3 w m) k a)
 
 -- whether the sum of a block's counters and of another's times a sign has a magnitude that one counter of level 3 holds
 abbrev pub sum_fits : Bool → ℕ → ℕ → ℕ → ℕ → Bool

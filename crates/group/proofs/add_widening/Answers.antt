@@ -11,7 +11,7 @@ use Rattle.group_block.specs.Block.{cap, total, counter_at}
 use Rattle.group_slots.proofs.Slots.{level_block, whole_total}
 use Rattle.group_sums.specs.Sums.{holds_at}
 use Rattle.group.specs.Group.{decode}
-use Rattle.group.proofs.Laws.{cap_three, holds_valid, not_held, added_invalid, added_full, added_summed}
+use Rattle.group.proofs.Laws.{cap_three, holds_valid, not_held, added_invalid, added_full, added_stored}
 use Rattle.group.proofs.add_widening.Goals as goal
 use Rattle.group.proofs.add_widening.Goals.{After-level_at-level, Else-not-is_valid}
 
@@ -57,5 +57,4 @@ pub returns : goal.returns
 unfolding decode stored
 returns c = let a = c.args in
     ap (λ (h : Group). record { status = 0; group = h }) c.settled.ensures
-    ∙ added_summed a.g a.slot a.amount c.add_widening.result (is_sane (goal.at.returns c).Else-not-is_valid) c.add_widening.ensures.over_value
-    (rw (← c.number_of-word.ensures) c.add_widening.ensures.value)
+    ∙ added_stored a.g a.slot a.amount c.add_widening.result (is_sane (goal.at.returns c).Else-not-is_valid) (rw (← c.number_of-word.ensures) c.add_widening.ensures)

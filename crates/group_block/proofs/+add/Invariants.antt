@@ -1,5 +1,4 @@
-use Prim.Native.Nat.{◌-◌}
 use Rattle.group_block.proofs.+add.Given as goal
 
 abbrev pub decreases-add : goal.decreases-add
-decreases-add l = l.level
+decreases-add g l = l.level

@@ -1,5 +1,4 @@
-use Prim.Native.Nat.{◌-◌}
 use Rattle.group_block.proofs.+total.Given as goal
 
 abbrev pub decreases-total : goal.decreases-total
-decreases-total l = l.level
+decreases-total g l = l.level

@@ -1,15 +1,11 @@
-use native.Mathlib.Omega.{arith}
 use Rattle.group_block.specs.Sum.{sum_total}
 use Rattle.group_block.specs.Passed.{sum_as}
 use Rattle.group_block.proofs.sum_total.Goals as goal
 
-pub returns-then-s : goal.returns-then-s
+pub returns-in-Ok : goal.returns-in-Ok
 unfolding sum_as sum_total
-returns-then-s c = rw c.if-s.true
+returns-in-Ok g c = rw c.in-Ok.is c.total.ensures
 
-pub total-requires : goal.total-requires
-total-requires c = (omega arith, (c.requires.fact_2 c.if-s.false).0.0)
-
-pub returns : goal.returns
+pub returns-in-Err : goal.returns-in-Err
 unfolding sum_as sum_total
-returns c = rw c.if-s.false c.total.ensures
+returns-in-Err g c = rw c.in-Err.is

@@ -1,5 +1,5 @@
 use mathlib.Core.Path.{◌≡◌, sym, ap, ◌∙◌}
-use mathlib.Core.Bool.{true, false, true≢false}
+use mathlib.Core.Bool.{true, false}
 use Prim.Native.Nat.{ℕ, ◌+◌, ◌-◌, ◌*◌, ◌/◌, ◌%◌, ◌^◌, ◌≤◌, ◌<◌}
 use native.Mathlib.Nat.{mod-eq_of_lt, mod-lt}
 use native.Mathlib.Omega.{arith}
@@ -57,7 +57,7 @@ pub overflow_sub-room : goal.overflow_sub-room
 overflow_sub-room c = omega (arith, value_lt c, c.most.ensures)
 
 pub returns-then-room-amount : goal.returns-then-room-amount
-returns-then-room-amount c = record { held_value = sym (holds_not (goal.at.returns-then-room-amount c).After-most c.if-room-amount.true); stays = λ e. absurd (true≢false (sym e)) }
+returns-then-room-amount c = record { held_value = sym (holds_not (goal.at.returns-then-room-amount c).After-most c.if-room-amount.true); stays = tt }
 
 pub overflow_add-sum : goal.overflow_add-sum
 overflow_add-sum c = omega (arith, shifted (goal.at.overflow_add-sum c).After-most c.if-room-amount.false, in_word (goal.at.overflow_add-sum c).After-most c.if-room-amount.false)
@@ -65,7 +65,7 @@ overflow_add-sum c = omega (arith, shifted (goal.at.overflow_add-sum c).After-mo
 pub returns : goal.returns
 returns c = let fits = c.if-room-amount.false in record {
   held_value = sym (holds_sum (goal.at.returns c).After-most fits);
-  stays = λ e. (
+  stays = (
     rw (shifted (goal.at.returns c).After-most fits)
         (in_place_is c.args.word c.args.merge c.args.slot c.level_at-level.result c.place-at.result (word_in (goal.at.returns c).After-most) c.requires.fact_2 (level_is (goal.at.returns c).After-most) c.place-at.ensures.value c.args.amount (small (goal.at.returns c).After-most fits) c.requires.fact_1),
     ap (λ (x : ℕ). x + c.args.amount) (sym (value_is (goal.at.returns c).After-most)),

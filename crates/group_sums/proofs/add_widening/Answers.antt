@@ -1,14 +1,14 @@
-use mathlib.Core.Path.{◌≡◌, sym, ap, ◌∙◌}
-use mathlib.Core.Bool.{false}
+use Rattle.std.proofs.Common.{IsOk}
+use mathlib.Core.Path.{◌≡◌, sym, ◌∙◌}
 use Prim.Native.Nat.{ℕ, ◌+◌, ◌^◌, ◌≤◌, ◌<◌}
 use native.Mathlib.Omega.{arith}
-use borrow.Author.Tests.{not-true, ltb-false}
-use Rattle.group_block.specs.declared.Summed.{Summed}
+use borrow.Author.Tests.{ltb-false}
+use Rattle.group_layout.specs.Layout.{layout}
 use Rattle.group_block.specs.Block.{cap, total, block, counter_at}
-use Rattle.group_block.specs.Sum.{Sum, add}
+use Rattle.group_block.specs.Sum.{add}
 use Rattle.group_block.specs.Passed.{summed, summed_as}
-use Rattle.group_block.proofs.Laws.{block_fits}
-use Rattle.group_block.proofs.Adding.{add_total, add_sound, no_over}
+use Rattle.group_block.proofs.Laws.{block_fits, all_clean_lem}
+use Rattle.group_block.proofs.Adding.{add_total, add_sound, no_over, sizes_total}
 use Rattle.group_slots.proofs.Slots.{halves_total}
 use Rattle.group_sums.proofs.Places.{has_level}
 use Rattle.group_sums.proofs.add_widening.Goals as goal
@@ -38,22 +38,28 @@ module _ (s : Start) where
   halves_lt =
       omega (arith, halves_total (block 3 w m) s.args.slot (block_fits 3 w m word_in) (λ f. omega (arith, sym level_is ∙ f, s.requires.fact_4)))
 
-  fits_is : (summed (add (block 3 w m) s.args.slot s.args.amount)).over ≡ false
+  -- no sum is over
+  fits_is : IsOk (summed (add (block 3 w m) s.args.slot s.args.amount))
   unfolding summed_as cap
   fits_is =
       let x = add (block 3 w m) s.args.slot s.args.amount in
       let sound = add_sound (block 3 w m) s.args.slot s.args.amount (block_fits 3 w m word_in) in
-      ap (λ (y : Sum 3). (summed y).over) (no_over x sound (omega (arith, halves_lt, add_total (block 3 w m) s.args.slot s.args.amount))).1
+      rw (no_over x sound (omega (arith, halves_lt, add_total (block 3 w m) s.args.slot s.args.amount))).1
 
-pub widened-wider-requires : goal.widened-wider-requires
-widened-wider-requires c = record { fact_1 = c.requires.fact_1; fact_2 = c.requires.fact_4; fact_3 = c.requires.fact_2; fact_4 = past c }
-
-pub returns-then-not-wider : goal.returns-then-not-wider
-returns-then-not-wider c = record { value = c.widened-wider.ensures (not-true _ c.if-not-wider.true); over_value = not-true _ c.if-not-wider.true }
+pub widened-requires : goal.widened-requires
+widened-requires c = record { fact_1 = c.requires.fact_1; fact_2 = c.requires.fact_4; fact_3 = c.requires.fact_2; fact_4 = past c }
 
 pub add-requires : goal.add-requires
 unfolding cap
-add-requires c = (omega arith, ((omega (arith, word_in (goal.at.add-requires c).Start), c.requires.fact_1), halves_lt (goal.at.add-requires c).Start))
+add-requires c = record {
+  level_bound = omega arith;
+  sane = (omega (arith, word_in (goal.at.add-requires c).Start), c.requires.fact_1);
+  clean = all_clean_lem (layout 3 c.args.merge) c.args.word;
+  room = omega (arith, halves_lt (goal.at.add-requires c).Start, sizes_total (block 3 c.args.word c.args.merge));
+}
+
+pub unwrap-requires : goal.unwrap-requires
+unwrap-requires c = rw c.add.ensures (fits_is (goal.at.unwrap-requires c).Start)
 
 pub returns : goal.returns
-returns c = record { value = c.add.ensures; over_value = ap (λ (x : Summed). x.over) c.add.ensures ∙ fits_is (goal.at.returns c).Start }
+returns c = sym c.unwrap.ensures ∙ c.add.ensures

@@ -1,5 +1,5 @@
 use mathlib.Core.Path.{◌≡◌, sym, ap, ◌∙◌}
-use mathlib.Core.Bool.{true, true≢false, and-eq-true_iff}
+use mathlib.Core.Bool.{true, and-eq-true_iff}
 use Prim.Native.Nat.{ℕ, suc, ◌+◌, ◌*◌, ◌/◌, ◌%◌, ◌^◌, ◌≤◌, ◌<◌}
 use native.Mathlib.Nat.{mul-mod_left}
 use native.Mathlib.Numerals.{add-one}
@@ -8,7 +8,7 @@ use borrow.Author.Tests.{eqb-true}
 use Rattle.group_layout.specs.Layout.{layout, level_of}
 use Rattle.group_block.specs.Kind.{ordinary}
 use Rattle.group_block.specs.Block.{cap, all_clean, block_as, block, counter_value}
-use Rattle.group_block.proofs.Coded.{ordinary_coded}
+use Rattle.group_block.specs.Figure.{ordinary_coded}
 use Rattle.group_block.proofs.Laws.{cap_pos, all_clean_lem}
 use Rattle.group_slots.proofs.AnyKind.{value_of}
 use Rattle.group_sums.proofs.Widening.{second_in, put_in, put_is}
@@ -71,12 +71,6 @@ module _ (c : Else-most-sum) where
 pub twins-requires : goal.twins-requires
 twins-requires c = record { fact_1 = c.requires.fact_1; fact_2 = c.requires.fact_2; fact_3 = p_in c }
 
-pub returns-then-not-twins : goal.returns-then-not-twins
-returns-then-not-twins c = λ e. absurd (true≢false e)
-
-pub returns-then-most-sum : goal.returns-then-most-sum
-returns-then-most-sum c = λ e. absurd (true≢false e)
-
 pub put-requires : goal.put-requires
 put-requires c = record { fact_1 = omega arith; fact_2 = c.place-at.ensures.upper_bound; fact_3 = number_in c }
 
@@ -84,7 +78,7 @@ pub formed-requires : goal.formed-requires
 formed-requires c = record { fact_1 = c.requires.fact_1; fact_2 = c.requires.fact_2; fact_3 = p_in (goal.at.formed-requires c).After-place-at; fact_4 = (p_multiple (goal.at.formed-requires c).After-place-at, (both (goal.at.formed-requires c).Else-most-sum).0) }
 
 pub returns : goal.returns
-returns c = λ z. let a = c.args in
+returns c = let a = c.args in
     put_is ordinary_coded a.word a.merge a.slot a.amount a.level c.place-at.result (word_in (goal.at.returns c).Start) c.requires.fact_1
     (clean (goal.at.returns c).Else-most-sum) c.requires.fact_3 c.requires.fact_2 c.place-at.ensures.value (both (goal.at.returns c).Else-most-sum).0 (both (goal.at.returns c).Else-most-sum).1 (past (goal.at.returns c).Else-most-sum) (sum (goal.at.returns c).Else-most-sum) (sum_is (goal.at.returns c).Else-most-sum) (small (goal.at.returns c).Else-most-sum)
     c.put.result c.formed.result c.put.ensures c.formed.ensures

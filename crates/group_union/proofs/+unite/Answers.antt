@@ -1,4 +1,4 @@
-use mathlib.Core.Path.{◌≡◌, refl, sym, ap, ap₂, ◌∙◌}
+use mathlib.Core.Path.{◌≡◌, sym, ap, ap₂, ◌∙◌}
 use Prim.Native.Nat.{◌+◌, ◌-◌, ℕ, ◌<◌}
 use mathlib.Core.Bool.{false, ◌&&◌}
 use lib.Dec.{eqb}
@@ -9,9 +9,10 @@ use Rattle.group_block.specs.Block.{cap, block, total as total_of}
 use Rattle.group_block.specs.Sum.{fits, unite as unite-of, held as held_of}
 use Rattle.group_block.specs.Passed.{summed}
 use Rattle.group_block.proofs.Laws.{cap_mono, block_merged, all_clean_lem}
-use Rattle.group_union.proofs.Carries.{keeps, kept}
+use Rattle.group_union.specs.Passed.{keeps}
+use Rattle.group_union.proofs.Carries.{kept}
 use Rattle.group_block.proofs.Halves.{block_summed, Apart}
-use Rattle.group_block.proofs.Coded.{ordinary_coded}
+use Rattle.group_block.specs.Figure.{ordinary_coded}
 use Rattle.group_block.proofs.Uniting.{unite_counter, both_join, both_sum}
 use Rattle.group_union.proofs.Steps.{halves_room, lefts_asked, rights_asked}
 use Rattle.group_union.proofs.Pairs.{pair, pair_total, pairs_unite}
@@ -85,7 +86,7 @@ overflow_add-result t c = omega (arith, cap_mono c.args.level 3 c.requires.0, (a
 
 pub returns-then-may_add : goal.returns-then-may_add
 returns-then-may_add t c = let a = c.args in
-    block_summed ordinary_coded a.level (record { over = false; word = a.word + a.other_word; merge = a.merge }) refl ((added c).0, c.requires.1.0.1)
+    block_summed ordinary_coded a.level (record { word = a.word + a.other_word; merge = a.merge }) ((added c).0, c.requires.1.0.1)
     (all_clean_lem (layout a.level a.merge) (a.word + a.other_word))
     ∙ sym (ap summed (added c).1)
 

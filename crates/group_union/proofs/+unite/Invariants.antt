@@ -1,4 +1,3 @@
-use Prim.Native.Nat.{◌-◌}
 use Rattle.group_union.proofs.+unite.Given as goal
 
 abbrev pub decreases-unite : goal.decreases-unite

@@ -1,4 +1,4 @@
-use mathlib.Core.Path.{◌≡◌, refl, sym, ap, ◌∙◌}
+use mathlib.Core.Path.{◌≡◌, sym, ap, ◌∙◌}
 use mathlib.Core.Bool.{true}
 use Prim.Native.Nat.{◌%◌}
 use native.Mathlib.Omega.{arith}
@@ -43,7 +43,7 @@ add_in_place-requires c = record { fact_1 = (clean c).merges; fact_2 = omega ari
 pub returns-in-Some : goal.returns-in-Some
 unfolding decode
 returns-in-Some c = let a = c.args in
-    outcome_stored a.g _ (add (decode a.g) (a.slot % 8) (amount (goal.at.returns-in-Some c).After-number_of-word)) (rw (← c.number_of-word.ensures) c.in-Some.ensures.stays) c.settled.result c.settled.ensures refl
+    outcome_stored a.g (add (decode a.g) (a.slot % 8) (amount (goal.at.returns-in-Some c).After-number_of-word)) _ (rw (← c.number_of-word.ensures) c.in-Some.ensures.stays) c.settled.result c.settled.ensures
     ∙ sym (added_settled a.g a.slot (amount (goal.at.returns-in-Some c).After-number_of-word) (good (goal.at.returns-in-Some c).After-number_of-word))
 
 pub add_widening-requires : goal.add_widening-requires

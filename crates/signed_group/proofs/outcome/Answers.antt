@@ -1,8 +1,9 @@
+use mathlib.Core.Path.{sym, ◌∙◌}
 use Rattle.signed_group.proofs.Results.{outcome_stored, outcome_full}
 use Rattle.signed_group.proofs.outcome.Goals as goal
 
-pub returns-then-s : goal.returns-then-s
-returns-then-s c = λ g x e. outcome_full g c.args.s x e c.if-s.true
+pub returns-in-Ok : goal.returns-in-Ok
+returns-in-Ok c = λ g x e. outcome_stored g x c.in-Ok.block (sym c.in-Ok.is ∙ e) c.settled.result c.settled.ensures
 
-pub returns : goal.returns
-returns c = λ g x e. outcome_stored g c.args.s x e c.settled.result c.settled.ensures c.if-s.false
+pub returns-in-Err : goal.returns-in-Err
+returns-in-Err c = λ g x e. outcome_full g x _ (sym c.in-Err.is ∙ e)

@@ -6,6 +6,7 @@ use Rattle.group_layout.specs.Layout.{layout}
 use Rattle.group_layout.specs.Merged.{is_merged}
 use Rattle.group_layout.proofs.Laws.{valid_in}
 use Rattle.group_block.specs.Block.{cap}
+use Rattle.signed_block.proofs.Counters.{sizes_in}
 use Rattle.signed_slots.proofs.Unions.{stay}
 use Rattle.signed_slots.proofs.Blocks.{sums_eight, over_eight}
 use Rattle.signed_nodes.proofs.Nodes.{or_false}
@@ -21,7 +22,16 @@ returns-then-b-eq0 c = let a = c.args in
     (stay a.word a.other_word c.requires.fact_1.0.0 c.requires.fact_2.0.0 (sym c.over.ensures ∙ c.if-b-eq0.true))
 
 pub unite-requires : goal.unite-requires
-unite-requires c = (omega arith, (c.requires.fact_1, c.requires.fact_2))
+unite-requires c = let a = c.args in
+    let p = c.requires in
+    record {
+      level_bound = omega arith;
+      sane = p.fact_1.0;
+      clean = p.fact_1.1;
+      other_sane = p.fact_2.0;
+      other_clean = p.fact_2.1;
+      room = omega (arith, sizes_in 3 a.word a.merge (omega arith) p.fact_1.0.0, sizes_in 3 a.other_word a.other_merge (omega arith) p.fact_2.0.0);
+    }
 
 pub returns-then-is_merged : goal.returns-then-is_merged
 returns-then-is_merged c = c.unite.ensures

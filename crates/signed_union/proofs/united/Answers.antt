@@ -10,7 +10,7 @@ use Rattle.signed_block.specs.Passed.{signed_block, signed_summed}
 use Rattle.signed_block.proofs.Counters.{signed_sums}
 use Rattle.signed_nodes.specs.Nodes.{bias, Raised}
 use Rattle.signed_nodes.proofs.Integers.{raised_lt, raised_next}
-use Rattle.signed_nodes.proofs.Nodes.{apart_in, held_is}
+use Rattle.signed_nodes.proofs.Nodes.{apart_in, held_is, told_passed}
 use Rattle.signed_union.proofs.united.Goals as goal
 use Rattle.signed_union.proofs.united.Goals.{After-eight_slots-sides}
 
@@ -42,10 +42,11 @@ overflow_add-sides c = let r = c.eight_slots-sides.result in
 pub returns-then-sides : goal.returns-then-sides
 unfolding top
 returns-then-sides c = let sum = raised_next 3 _ _ _ _ (first_is (goal.at.returns-then-sides c).After-eight_slots-sides) (second_is (goal.at.returns-then-sides c).After-eight_slots-sides) in
-    held_is 3 (first (goal.at.returns-then-sides c).After-eight_slots-sides +ℤ second (goal.at.returns-then-sides c).After-eight_slots-sides) c.held-sum.result (rw sum at c.held-sum.ensures) (omega (arith, signed_sums.triangle (first (goal.at.returns-then-sides c).After-eight_slots-sides) (second (goal.at.returns-then-sides c).After-eight_slots-sides), first_in (goal.at.returns-then-sides c).After-eight_slots-sides, second_in (goal.at.returns-then-sides c).After-eight_slots-sides))
+    told_passed _ _ _ (held_is 3 (first (goal.at.returns-then-sides c).After-eight_slots-sides +ℤ second (goal.at.returns-then-sides c).After-eight_slots-sides) c.held-sum.result (rw sum at c.held-sum.ensures) (omega (arith, signed_sums.triangle (first (goal.at.returns-then-sides c).After-eight_slots-sides) (second (goal.at.returns-then-sides c).After-eight_slots-sides), first_in (goal.at.returns-then-sides c).After-eight_slots-sides, second_in (goal.at.returns-then-sides c).After-eight_slots-sides)))
     ∙ ap (λ (x : SumOf signed 3). signed_summed x) (sym (c.eight_slots-sides.ensures.one c.requires.fact_2 c.requires.fact_3 c.if-sides.true))
 
 pub returns : goal.returns
 returns c = let r = c.eight_slots-sides.result in
-    ap (λ (o : Bool). record { over = o; word = r.word; merge = r.merge }) (sym c.if-sides.false)
-    ∙ c.eight_slots-sides.ensures.both c.requires.fact_2 c.requires.fact_3 c.if-sides.false
+    told_passed _ _ _
+    (ap (λ (o : Bool). record { over = o; word = r.word; merge = r.merge }) (sym c.if-sides.false)
+    ∙ c.eight_slots-sides.ensures.both c.requires.fact_2 c.requires.fact_3 c.if-sides.false)

@@ -1,5 +1,6 @@
+use Rattle.std.proofs.Common.{Ok}
 use mathlib.Core.Path.{◌≡◌, refl, sym, ap, ◌∙◌}
-use mathlib.Core.Bool.{false, true≢false, and-eq-true_iff}
+use mathlib.Core.Bool.{and-eq-true_iff}
 use Prim.Native.Nat.{ℕ, suc, ◌+◌, ◌-◌, ◌*◌, ◌/◌, ◌%◌, ◌^◌, ◌<◌}
 use native.Mathlib.Nat.{mul-mod_left}
 use native.Mathlib.Numerals.{add-one}
@@ -71,7 +72,7 @@ module _ (c : Else-top-sum) where
   number_is : (x y : ℕ) → x + c.args.word / 2 ^ c.place-at.result % cap (c.args.level + 1) * 2 ^ c.place-at.result
       ≡ c.args.word + sign_bits (c.args.level + 1) (integer_of c.plus-sum.result) * 2 ^ c.place-at.result
       → y ≡ c.args.merge + 2 ^ (2 ^ c.args.level - 1) * 2 ^ (c.place-at.result / 8)
-      → record { over = false; word = x; merge = y } ≡ signed_summed (add (signed_block 3 c.args.word c.args.merge) c.args.slot (integer_of c.args.amount))
+      → Ok (record { word = x; merge = y }) ≡ signed_summed (add (signed_block 3 c.args.word c.args.merge) c.args.slot (integer_of c.args.amount))
   number_is =
       put_is signed_coded c.args.word c.args.merge c.args.slot (integer_of c.args.amount) c.args.level c.place-at.result c.requires.fact_1.0.0
       c.requires.fact_1.0.1 c.requires.fact_1.1 c.requires.fact_3 c.requires.fact_2 c.place-at.ensures.value (both (goal.at.Else-top-sum c).After-plus-sum).0 (both (goal.at.Else-top-sum c).After-plus-sum).1 c.requires.fact_5
@@ -79,12 +80,6 @@ module _ (c : Else-top-sum) where
 
 pub twins-requires : goal.twins-requires
 twins-requires c = let a = c.requires in record { fact_1 = a.fact_1.0.1; fact_2 = a.fact_2; fact_3 = p_in c }
-
-pub returns-then-not-twins : goal.returns-then-not-twins
-returns-then-not-twins c = λ e. absurd (true≢false (sym c.none_holds.ensures ∙ e))
-
-pub returns-then-top-sum : goal.returns-then-top-sum
-returns-then-top-sum c = λ e. absurd (true≢false (sym c.none_holds-then-top-sum.ensures ∙ e))
 
 pub bits-requires : goal.bits-requires
 bits-requires c = record { fact_1 = omega arith; fact_2 = small c; fact_3 = canonical_is c.plus-sum.result (integer_of c.twin_sum.result +ℤ integer_of c.args.amount) c.plus-sum.ensures.value }
@@ -96,5 +91,5 @@ pub formed-requires : goal.formed-requires
 formed-requires c = record { fact_1 = c.requires.fact_1.0.1; fact_2 = c.requires.fact_2; fact_3 = p_in (goal.at.formed-requires c).After-place-at; fact_4 = (p_multiple (goal.at.formed-requires c).After-place-at, (both (goal.at.formed-requires c).After-plus-sum).0) }
 
 pub returns : goal.returns
-returns c = λ z. number_is (goal.at.returns c).Else-top-sum c.put.result c.formed.result
+returns c = number_is (goal.at.returns c).Else-top-sum c.put.result c.formed.result
     (c.put.ensures ∙ ap (λ (x : ℕ). c.args.word + x * 2 ^ c.place-at.result) c.bits.ensures) c.formed.ensures

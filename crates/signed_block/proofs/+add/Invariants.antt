@@ -1,4 +1,0 @@
-use Rattle.signed_block.proofs.+add.Given as goal
-
-abbrev pub decreases-add : goal.decreases-add
-decreases-add l = l.level
