@@ -18,17 +18,18 @@ fn differs(list: &[u8], k: usize, key: &[u8], sought: u64) -> bool
     digest(list, 65 + k * 64, key.len()) != sought
 }
 
-// Whether none of eight places can have a key. Without a branch, so that the compiler takes them at once.
+// Whether none of eight places can have a key: eight to a turn of a loop, which the compiler unrolls.
 fn eight_differ(list: &[u8], k: usize, key: &[u8], sought: u64) -> bool
     requires fact_1 { Sought list.now key.now sought }
     requires fact_2 { k + 8 ≤ 64 }
     ensures { result ≡ true → AllDiffer list.now k 8 key.now }
 {
-    let mut all = true;
     for i in 0..8 {
-        all &= differs(list, k + i, key, sought);
+        if !differs(list, k + i, key, sought) {
+            return false;
+        }
     }
-    all
+    true
 }
 
 // A place in use before which none has a key: the first of eight of which one may have it, else where fewer than eight are left.
