@@ -12,9 +12,8 @@ pub fn write(d: usize, w: usize, memory: &[u8], words: &mut [u32]) -> Answer
     ensures value { result ≡ (written d w memory.now words.old).answer }
     ensures words_after { words.new ≡ (written d w memory.now words.old).words }
 {
-    let status = geometry::bad_shape(d, w, memory.len());
-    if status != 0 {
-        return answer::refused(status);
+    if let Err(why) = geometry::check_shape(d, w, memory.len()) {
+        return answer::refused(why.number());
     }
     if !image_size::rows_valid(memory, d, w) {
         return answer::refused(answer::INVALID_CONTENT);
@@ -39,9 +38,8 @@ pub fn read(d: usize, w: usize, memory: &mut [u8], words: &[u32]) -> Answer
     ensures memory_after { memory.new ≡ (taken d w memory.old words.now).memory }
     ensures position_in_bounds { result.position ≤ length words.now }
 {
-    let status = geometry::bad_shape(d, w, memory.len());
-    if status != 0 {
-        return answer::refused(status);
+    if let Err(why) = geometry::check_shape(d, w, memory.len()) {
+        return answer::refused(why.number());
     }
     let n = image_layouts::table_size(words.len(), d, w);
     let layouts = image_layouts::layout_table(n);

@@ -88,13 +88,7 @@ pub fn update_checked(
 }
 
 // Adds an amount to the key's counter in each row. Stores in no row before every row is known to take it.
-pub fn update(
-    d: usize,
-    w: usize,
-    memory: &mut [u8],
-    key: &[u8],
-    amount: u32,
-) -> Result<(), Refusal>
+pub fn update(d: usize, w: usize, memory: &mut [u8], key: &[u8], amount: u32) -> Result<(), Refusal>
     ensures value { done result ≡ (updated d w memory.old key.now amount).answer }
     ensures memory_after { memory.new ≡ (updated d w memory.old key.now amount).memory }
 {

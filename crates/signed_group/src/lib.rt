@@ -19,7 +19,8 @@ use group_block::Packed;
 use little_endian::number_of;
 use signed_number::Signed;
 use signed_widening::add_widening;
-use signed_words::{Counter, add_in_place, counter_at, no_minus_zero, sum_fits, times_sign};
+pub use signed_words::Counter;
+use signed_words::{add_in_place, counter_at, no_minus_zero, sum_fits, times_sign};
 
 // Why a group is refused: its merge byte is not valid, or a counter is minus zero.
 pub fn bad_group(g: Group) -> Result<(), Refusal>

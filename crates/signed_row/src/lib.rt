@@ -19,7 +19,7 @@ use answer::{Refusal, first};
 use group::Group;
 use meter_memory::{load, store};
 use meter_runs::eight_unmerged;
-use signed_words::Counter;
+use signed_group::Counter;
 
 // The counter of a slot.
 pub fn read_row(row: &[u8], w: usize, slot: usize) -> Result<Counter, Refusal>
