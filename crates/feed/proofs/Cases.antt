@@ -12,10 +12,10 @@ use Rattle.answer.specs.Answers.{leaves}
 use Rattle.answer.proofs.Answers.{left_before, finish_kept}
 use Rattle.geometry.specs.Checks.{bad_shape}
 use Rattle.meter.specs.Meter.{updated}
-use Rattle.feed_records.specs.declared.Opening.{Opening}
-use Rattle.feed_records.specs.declared.Opening.TheVariants as opening
-use Rattle.feed_records.specs.declared.Body.{Body}
-use Rattle.feed_records.specs.declared.Body.TheVariants as body
+use Rattle.feed_records.specs.Openings.{Opening}
+use Rattle.feed_records.specs.Openings as opening
+use Rattle.feed_records.specs.Bodies.{Body}
+use Rattle.feed_records.specs.Bodies as body
 use Rattle.feed_records.specs.Words.{opened, amount_of, update_step, body_of, update_body}
 use Rattle.feed_keys.specs.Keys.{key_of}
 use Rattle.feed.specs.declared.Recorded.{Recorded}

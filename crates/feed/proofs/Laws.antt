@@ -3,38 +3,16 @@ use mathlib.Core.Path.{◌≡◌, refl, sym, ap, ◌∙◌}
 use mathlib.Core.List.{List}
 use Prim.Native.Nat.{ℕ, zero, suc, ◌-◌}
 use native.Mathlib.Nat.{sub-zero}
-use native.Mathlib.Omega.{arith}
 use lib.ListN.{length, take}
 use Rattle.geometry.specs.Checks.{bad_shape, bad_key}
-use Rattle.meter.specs.Meter.{bad_call, estimated}
+use Rattle.meter.specs.Meter.{bad_call}
 use Rattle.meter.proofs.Calls.{call_key}
-use Rattle.feed_records.specs.declared.Body.{Body}
-use Rattle.feed_records.specs.declared.Body.TheVariants as body
 use Rattle.feed.specs.declared.Recorded.TheVariants as case
-use Rattle.feed_records.specs.Answers.{body_answer}
-use Rattle.feed.specs.Record.{refusal, outcome_of, update_outcome, queried, record_outcome, recorded}
+use Rattle.feed.specs.Record.{record_outcome, recorded}
 use Rattle.feed_keys.specs.Keys.{key_of}
 use Rattle.feed_records.specs.Words.{opened}
 use Rattle.feed_keys.proofs.Laws.{key_length}
-use Rattle.feed_records.proofs.Laws.{HasTag}
-use Rattle.feed.proofs.Cases.{carried_update, carried, carried_after, by_cases}
-
-pub update_refused : (d w : ℕ) (memory : List ℕ) (n : ℕ) (words : List ℕ) (b : Body) → HasTag 1 b
-    → carried_update d w memory n words b ≡ record { outcome = refusal (body_answer b); memory = memory }
-unfolding carried_update update_outcome
-update_refused d w memory n words (body.Sound a) h = absurd (omega arith)
-update_refused d w memory n words (body.Refused s p) h = refl
-
-pub query_refused : (d w : ℕ) (memory : List ℕ) (n : ℕ) (words : List ℕ) (b : Body) → HasTag 1 b → queried d w memory n words b ≡ refusal (body_answer b)
-unfolding queried
-query_refused d w memory n words (body.Sound a) h = absurd (omega arith)
-query_refused d w memory n words (body.Refused s p) h = refl
-
-pub query_sound : (d w : ℕ) (memory : List ℕ) (n : ℕ) (words : List ℕ) (b : Body) → HasTag 0 b
-    → queried d w memory n words b ≡ outcome_of (estimated d w memory (key_of n words)) (case.Estimate (estimated d w memory (key_of n words)).value)
-unfolding queried
-query_sound d w memory n words (body.Sound a) h = refl
-query_sound d w memory n words (body.Refused s p) h = absurd (omega arith)
+use Rattle.feed.proofs.Cases.{carried, carried_after, by_cases}
 
 -- a call with a record's key passes the tests that the record has passed
 pub call_passes : (d w : ℕ) (memory : List ℕ) (n : ℕ) (words key : List ℕ) → bad_shape d w (length memory) ≡ 0 → bad_key n ≡ 0 → key ≡ key_of n words

@@ -5,10 +5,10 @@ use Prim.Native.Nat.{ℕ, zero, suc, ◌≤◌}
 use native.Mathlib.Omega.{arith}
 use lib.ListN.{length, take}
 use Rattle.geometry.specs.Checks.{bad_shape}
-use Rattle.feed_records.specs.declared.Opening.{Opening}
-use Rattle.feed_records.specs.declared.Opening.TheVariants as opening
-use Rattle.feed_records.specs.declared.Body.{Body}
-use Rattle.feed_records.specs.declared.Body.TheVariants as body
+use Rattle.feed_records.specs.Openings.{Opening}
+use Rattle.feed_records.specs.Openings as opening
+use Rattle.feed_records.specs.Bodies.{Body}
+use Rattle.feed_records.specs.Bodies as body
 use Rattle.feed_keys.specs.Keys.{key_of}
 use Rattle.feed_lengths.specs.Lengths.{words_needed}
 use Rattle.feed_records.specs.Words.{opened, update_body, query_body}

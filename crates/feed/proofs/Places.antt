@@ -11,9 +11,9 @@ use Rattle.answer.specs.declared.Answer.{Answer}
 use Rattle.answer.specs.Answers.{answer_of, finish, leaves}
 use Rattle.geometry.specs.Checks.{bad_shape}
 use Rattle.meter.specs.Meter.{updated, estimated}
-use Rattle.feed_records.specs.declared.Opening.{Opening}
-use Rattle.feed_records.specs.declared.Opening.TheVariants as opening
-use Rattle.feed_records.specs.declared.Body.TheVariants as body
+use Rattle.feed_records.specs.Openings.{Opening}
+use Rattle.feed_records.specs.Openings as opening
+use Rattle.feed_records.specs.Bodies as body
 use Rattle.feed.specs.declared.Recorded.{Recorded}
 use Rattle.feed.specs.declared.Recorded.TheVariants as case
 use Rattle.feed.specs.Answers.{record_answer}

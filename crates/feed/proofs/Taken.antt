@@ -7,8 +7,8 @@ use native.Mathlib.Omega.{arith}
 use borrow.Author.Tests.{ne_eqb}
 use lib.ListN.{length}
 use Rattle.geometry.specs.Checks.{bad_shape}
-use Rattle.feed_records.specs.declared.Opening.{Opening}
-use Rattle.feed_records.specs.declared.Opening.TheVariants as opening
+use Rattle.feed_records.specs.Openings.{Opening}
+use Rattle.feed_records.specs.Openings as opening
 use Rattle.feed_lengths.specs.Lengths.{words_taken}
 use Rattle.feed_records.specs.Words.{opened, update_step, query_step, body_of, update_body, query_body}
 use Rattle.feed_lengths.proofs.Laws.{some_taken}

@@ -4,10 +4,10 @@ use Rattle.answer.specs.declared.Answer.{Answer}
 use Rattle.answer.specs.Answers.{leaves}
 use Rattle.geometry.specs.Checks.{bad_shape}
 use Rattle.meter.specs.Meter.{updated, estimated}
-use Rattle.feed_records.specs.declared.Opening.{Opening}
-use Rattle.feed_records.specs.declared.Opening.TheVariants as opening
-use Rattle.feed_records.specs.declared.Body.{Body}
-use Rattle.feed_records.specs.declared.Body.TheVariants as body
+use Rattle.feed_records.specs.Openings.{Opening}
+use Rattle.feed_records.specs.Openings as opening
+use Rattle.feed_records.specs.Bodies.{Body}
+use Rattle.feed_records.specs.Bodies as body
 use Rattle.feed.specs.declared.Recorded.{Recorded}
 use Rattle.feed.specs.declared.Recorded.TheVariants as case
 use Rattle.feed_records.specs.Answers.{opening_answer, body_answer}

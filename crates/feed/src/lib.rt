@@ -3,6 +3,7 @@
 
 ghost use Rattle.std.specs.Prelude.{◌≡◌, ◌≤◌, length};
 ghost use Rattle.geometry.specs.Checks.{bad_shape, bad_key};
+ghost use Rattle.feed_records.specs.Bodies.{as_body};
 ghost use Rattle.feed_records.specs.Answers.{body_answer};
 ghost use Rattle.feed.specs.Answers.{record_answer};
 ghost use Rattle.feed_records.specs.Words.{update_body, query_body};
@@ -12,10 +13,11 @@ ghost use Rattle.feed.specs.Record.{update_outcome, queried, update_memory, fini
 use answer::Answer;
 pub use feed_head::{head, head_depth, head_width};
 pub use feed_lengths::{words_needed, words_taken};
-use feed_records::{Body, Opening};
+use feed_records::Opening;
+use word::Fault;
 
 // What a record or the end did.
-#[derive(Clone, Copy)]
+#[derive(Clone, Copy, Debug, PartialEq, Eq)]
 pub enum Recorded {
     Updated,
     Estimate { value: u64 },
@@ -45,15 +47,18 @@ fn refusal(a: Answer) -> Recorded
 }
 
 // A refusal by a faulty word.
-fn refused(b: Body) -> Recorded
-    ensures { result ≡ spec.refusal (body_answer b) }
+fn refused(body: Result<u32, Fault>) -> Recorded
+    ensures { result ≡ spec.refusal (body_answer (as_body body)) }
 {
-    match b {
-        Body::Sound { amount: _ } => Recorded::Refused {
+    match body {
+        Ok(_) => Recorded::Refused {
             status: 0,
             position: 0,
         },
-        Body::Refused { status, position } => Recorded::Refused { status, position },
+        Err(fault) => Recorded::Refused {
+            status: fault.refusal.number(),
+            position: fault.position as u64,
+        },
     }
 }
 
@@ -65,9 +70,9 @@ fn update(d: usize, w: usize, memory: &mut [u8], n: usize, words: &[u32]) -> Rec
     ensures memory_after { memory.new ≡ (finish_record result (update_memory d w memory.old n words.now) memory.old).memory }
 {
     let mut key = [0u8; 66];
-    let b = feed_records::update_body(words, n, &mut key);
-    let Body::Sound { amount } = b else {
-        return refused(b);
+    let body = feed_records::update_body(words, n, &mut key);
+    let Ok(amount) = body else {
+        return refused(body);
     };
     let a = meter::update_checked(d, w, memory, &key[0..n], amount);
     if a.status != 0 {
@@ -83,9 +88,9 @@ fn query(d: usize, w: usize, memory: &[u8], n: usize, words: &[u32]) -> Recorded
     ensures { result ≡ queried d w memory.now n words.now (query_body n words.now) }
 {
     let mut key = [0u8; 66];
-    let b = feed_records::query_body(words, n, &mut key);
-    let Body::Sound { amount: _ } = b else {
-        return refused(b);
+    let body = feed_records::query_body(words, n, &mut key);
+    let Ok(_) = body else {
+        return refused(body);
     };
     let a = meter::estimate_checked(d, w, memory, &key[0..n]);
     if a.status != 0 {
@@ -107,13 +112,12 @@ pub fn record(d: usize, w: usize, memory: &mut [u8], before: u64, words: &[u32])
             position: 0,
         };
     }
-    let first = feed_records::first_word(before, words);
-    match first {
-        Opening::Update { length } => update(d, w, memory, length, words),
-        Opening::Query { length } => query(d, w, memory, length, words),
-        Opening::End => Recorded::Ended,
-        Opening::Refused { status } => Recorded::Refused {
-            status,
+    match feed_records::first_word(before, words) {
+        Ok(Opening::Update { length }) => update(d, w, memory, length, words),
+        Ok(Opening::Query { length }) => query(d, w, memory, length, words),
+        Ok(Opening::End) => Recorded::Ended,
+        Err(refusal) => Recorded::Refused {
+            status: refusal.number(),
             position: 0,
         },
     }

@@ -37,7 +37,7 @@ some_taken words = update (is_due words 0 update_kind)
     update false = query (is_due words 0 query_kind)
 
 -- a record whose key length passes has at most 25 words
-taken_most : (words : List ℕ) → bad_key (payload words 0) ≡ 0 → words_taken words ≤ 25
+pub taken_most : (words : List ℕ) → bad_key (payload words 0) ≡ 0 → words_taken words ≤ 25
 unfolding words_taken
 taken_most words h =
     let l = key_short (payload words 0) h in

@@ -5,7 +5,7 @@ ghost use Rattle.std.specs.Prelude.{◌≡◌};
 ghost use Rattle.feed_line.specs.Line as spec;
 ghost use Rattle.feed_line.specs.Line.{is_end};
 
-#[derive(Clone, Copy)]
+#[derive(Clone, Copy, Debug, PartialEq, Eq)]
 pub enum Line {
     Geometry { d: usize, w: usize },
     Updated,
@@ -16,53 +16,37 @@ pub enum Line {
 }
 
 // Whether a record follows.
+#[tactic(auto, unfolding(crate::specs::Line::continues))]
 pub fn continues(l: Line) -> bool
     ensures { result ≡ spec.continues l }
 {
-    match l {
-        Line::Geometry { d: _, w: _ } => true,
-        Line::Updated => true,
-        Line::Estimate { value: _ } => true,
-        Line::End { records: _ } => false,
-        Line::Refused { status: _ } => true,
-        Line::Stopped {
-            status: _,
-            index: _,
-        } => false,
-    }
+    !matches!(l, Line::End { .. } | Line::Stopped { .. })
 }
 
 // Whether a line is the end's.
+#[tactic(auto, unfolding(crate::specs::Line::is_end))]
 pub fn is_end(l: Line) -> bool
     ensures { result ≡ is_end l }
 {
-    if let Line::End { records: _ } = l {
-        true
-    } else {
-        false
-    }
+    matches!(l, Line::End { .. })
 }
 
 #[tactic(auto, unfolding(crate::specs::Line::stops))]
 fn stops(status: u8) -> bool
     ensures { result ≡ spec.stops status }
 {
-    if status == answer::INVALID_DEPTH {
-        return true;
-    }
-    if status == answer::INVALID_WIDTH {
-        return true;
-    }
-    if status == answer::INVALID_KEY_LENGTH {
-        return true;
-    }
-    if status == answer::BAD_WORD {
-        return true;
-    }
-    status == answer::BAD_PAYLOAD
+    matches!(
+        status,
+        answer::INVALID_DEPTH
+            | answer::INVALID_WIDTH
+            | answer::INVALID_KEY_LENGTH
+            | answer::BAD_WORD
+            | answer::BAD_PAYLOAD
+    )
 }
 
 // The line of a call that was refused, by its number and the index of its word.
+#[tactic(auto, unfolding(crate::specs::Line::refused_line))]
 pub fn refused_line(status: u8, index: u64) -> Line
     ensures { result ≡ spec.refused_line status index }
 {

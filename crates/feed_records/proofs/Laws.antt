@@ -1,49 +1,44 @@
 -- Laws of a record's words that the code's proofs use.
 use mathlib.Core.Path.{◌≡◌, refl, ◌∙◌}
-use mathlib.Core.Bool.{Bool, true, false, cond}
-use mathlib.Core.List.{List, [], ◌∷◌}
-use Prim.Native.Nat.{ℕ, zero, suc, ◌%◌, ◌^◌}
+use mathlib.Core.Bool.{Bool, true, false, cond, ◌&&◌}
+use mathlib.Core.List.{List}
+use Prim.Native.Nat.{ℕ, ◌%◌, ◌^◌}
 use native.Mathlib.Omega.{arith}
-use lib.Dec.{eqb}
+use lib.Dec.{eqb, leb}
 use borrow.Author.Tests.{eqb-true, ne_eqb}
 use Rattle.geometry.specs.Checks.{bad_key}
 use Rattle.word.specs.Step.{Step}
 use Rattle.word.specs.Word.{end_kind, payload, is_due}
-use types.Run.{OneOf}
-use denote.Enum.Declared.{tag_of}
-use Rattle.feed_records.specs.declared.Opening.{Opening}
-use Rattle.feed_records.specs.declared.Opening.TheVariants as opening
-use Rattle.feed_records.specs.declared.Body.{Body}
-use Rattle.feed_records.specs.declared.Body.TheVariants as body
-use Rattle.answer.specs.Answers.{accepted}
-use Rattle.feed_records.specs.contracts.Opening as the-opening
-use Rattle.feed_records.specs.contracts.Body as the-body
-use Rattle.feed_records.specs.Answers.{body_answer}
+use Rattle.feed_records.specs.Openings.{Opening}
+use Rattle.feed_records.specs.Openings as opening
+use Rattle.feed_records.specs.Bodies.{Body}
+use Rattle.feed_records.specs.Bodies as body
+use Rattle.std.specs.Prelude.{Result, Ok, Err, IsErrAnd}
+use Rattle.word.specs.declared.Fault.{Fault}
+use Rattle.word.specs.Step.{step}
+use Rattle.word.proofs.Results.{number_above}
+use Rattle.answer.specs.Refusals.{number}
+use Rattle.answer.specs.Order.{unless}
+use Rattle.feed_records.specs.Bodies.{as_body}
 use Rattle.feed_records.specs.Words.{update_kind, query_kind, opens_key, opened, body_of}
 
--- The tag of a body: 0 where its words are sound, 1 where it is refused. A branch that binds no field knows the tag alone.
-abbrev pub HasTag : ℕ → Body → Type 0
-HasTag t b = OneOf (t ∷ []) (tag_of the-body.the_type b)
-
-pub sound_answer : (b : Body) → HasTag 0 b → body_answer b ≡ accepted 0
-sound_answer (body.Sound a) h = refl
-sound_answer (body.Refused s p) h = absurd (omega arith)
-
--- a body whose words are sound
-pub all_sound : (s : Step) (a : ℕ) (b : Body) → b ≡ body_of s a → (body_answer b).status ≡ 0 → s.status ≡ 0
+-- a body whose words are sound, and one whose words are not
+pub sound_body : (s : Step) (q a : ℕ) → step (Ok q) ≡ s → body.Sound a ≡ body_of s a
 unfolding body_of
-all_sound s a b e h = number s.status (rw e at h)
-  where
-    number : (n : ℕ) → (body_answer (cond (eqb n 0) (body.Sound a) (body.Refused n s.position))).status ≡ 0 → n ≡ 0
-    number zero k = refl
-    number (suc n) k = rw (ne_eqb (suc n) 0 (λ e. omega arith)) at k
+sound_body s q a e = rw (← e)
 
--- the third of the cases of an opening
-pub is_end_lem : (o : Opening) → OneOf (2 ∷ []) (tag_of the-opening.the_type o) → o ≡ opening.End
-is_end_lem (opening.Update n) h = absurd (omega arith)
-is_end_lem (opening.Query n) h = absurd (omega arith)
-is_end_lem opening.End h = refl
-is_end_lem (opening.Refused s) h = absurd (omega arith)
+pub faulty_body : (r : Result ℕ Fault) (f : Fault) (s : Step) (a : ℕ) → IsErrAnd r (λ x. x ≡ f) → step (Err f) ≡ s → as_body r ≡ body_of s a
+unfolding body_of
+faulty_body (Ok q) f s a h e = absurd h
+faulty_body (Err x) f s a h e = rw (h, ← e, ne_eqb (number f.refusal) 0 (λ z. omega (arith, number_above f.refusal)))
+
+-- the one number that a key's length is refused by
+pub key_refused : (n s : ℕ) → s ≡ bad_key n → (s ≡ 0 → ⊥) → s ≡ 4
+key_refused n s e h = test (leb 1 n && leb n 64) e
+  where
+    test : (t : Bool) → s ≡ unless t 4 → s ≡ 4
+    test true k = absurd (h k)
+    test false k = k
 
 -- what is wrong with an opened record's key length; the length has passed, so nothing is
 abbrev pub bad_key_in : Opening → ℕ

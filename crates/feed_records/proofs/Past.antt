@@ -13,8 +13,8 @@ use Rattle.word.specs.Word.{end_kind, next, payload, is_due, below}
 use Rattle.word.proofs.Places.{below_on}
 use Rattle.word.proofs.Before.{next_same, payload_same, due_same, below_same}
 use Rattle.feed_keys.proofs.Places.{key_on, key_words_same}
-use Rattle.feed_records.specs.declared.Opening.{Opening}
-use Rattle.feed_records.specs.declared.Opening.TheVariants as opening
+use Rattle.feed_records.specs.Openings.{Opening}
+use Rattle.feed_records.specs.Openings as opening
 use Rattle.feed_keys.specs.Keys.{key_words, check_key}
 use Rattle.feed_lengths.specs.Lengths.{words_taken, words_needed}
 use Rattle.feed_records.specs.Words.{update_kind, query_kind, amount_kind, opens_key, opened, check_amount, amount_of, update_step, query_step, update_body, query_body}

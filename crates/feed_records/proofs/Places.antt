@@ -7,7 +7,7 @@ use Rattle.answer.specs.Numbers.{bad_word}
 use Rattle.word.specs.Word.{is_due, below}
 use Rattle.word.proofs.Places.{In, below_in, next_in}
 use Rattle.feed_keys.proofs.Places.{key_in}
-use Rattle.feed_records.specs.declared.Opening.TheVariants as opening
+use Rattle.feed_records.specs.Openings as opening
 use Rattle.feed_keys.specs.Keys.{key_words, check_key}
 use Rattle.feed_records.specs.Words.{amount_kind, opened, check_amount, update_step}
 

@@ -15,8 +15,8 @@ use Rattle.word.specs.Word.{end_kind, go, payload, is_due, below}
 use Rattle.word.proofs.Laws.{due_in}
 use Rattle.word.proofs.Passed.{goes, passed, below_is}
 use Rattle.word.proofs.Places.{tested_status, next_status}
-use Rattle.feed_records.specs.declared.Opening.{Opening}
-use Rattle.feed_records.specs.declared.Opening.TheVariants as opening
+use Rattle.feed_records.specs.Openings.{Opening}
+use Rattle.feed_records.specs.Openings as opening
 use Rattle.feed_keys.specs.Keys.{key_words, check_key}
 use Rattle.feed_lengths.specs.Lengths.{words_taken}
 use Rattle.feed_records.specs.Words.{update_kind, query_kind, amount_kind, opens_key, opened, check_amount, update_step, query_step}

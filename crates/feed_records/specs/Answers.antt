@@ -1,10 +1,10 @@
 -- Document 01's number, place and figure for each case of a record's words. Cited by contracts.
 use Rattle.answer.specs.declared.Answer.{Answer}
 use Rattle.answer.specs.Answers.{accepted, refused, refused_at}
-use Rattle.feed_records.specs.declared.Opening.{Opening}
-use Rattle.feed_records.specs.declared.Opening.TheVariants as opening
-use Rattle.feed_records.specs.declared.Body.{Body}
-use Rattle.feed_records.specs.declared.Body.TheVariants as body
+use Rattle.feed_records.specs.Openings.{Opening}
+use Rattle.feed_records.specs.Openings as opening
+use Rattle.feed_records.specs.Bodies.{Body}
+use Rattle.feed_records.specs.Bodies as body
 
 -- the first word of a record: whatever it opens, no fault is found yet
 abbrev pub opening_answer : Opening → Answer

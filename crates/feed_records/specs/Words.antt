@@ -4,10 +4,10 @@ use Rattle.answer.specs.Numbers.{bad_payload, bad_word}
 use Rattle.geometry.specs.Checks.{bad_key}
 use Rattle.word.specs.Step.{Step}
 use Rattle.word.specs.Word.{end_kind, next, payload, is_due, below}
-use Rattle.feed_records.specs.declared.Opening.{Opening}
-use Rattle.feed_records.specs.declared.Opening.TheVariants as opening
-use Rattle.feed_records.specs.declared.Body.{Body}
-use Rattle.feed_records.specs.declared.Body.TheVariants as body
+use Rattle.feed_records.specs.Openings.{Opening}
+use Rattle.feed_records.specs.Openings as opening
+use Rattle.feed_records.specs.Bodies.{Body}
+use Rattle.feed_records.specs.Bodies as body
 -- the kinds of a first word and the key words, for those who cite them with the rest
 pub use Rattle.feed_lengths.specs.Lengths.{update_kind, query_kind}
 pub use Rattle.feed_keys.specs.Keys.{key_kind, key_words, key_of}

@@ -1,5 +1,5 @@
 use mathlib.Core.Path.{◌≡◌, sym, ap, ◌∙◌}
-use Prim.Native.Nat.{◌-◌}
+use Prim.Native.Nat.{ℕ, ◌-◌}
 use lib.ListN.{take}
 use borrow.Author.Rules.{rules}
 use Rattle.answer.specs.declared.Answer.{Answer}
@@ -10,11 +10,14 @@ use Rattle.feed_keys.specs.Keys.{key_of}
 use Rattle.feed_records.specs.Words.{query_body}
 use Rattle.feed.specs.Record.{refusal, outcome_of, queried}
 use Rattle.feed_lengths.proofs.Laws.{key_short}
-use Rattle.feed_records.proofs.Laws.{sound_answer}
+use Rattle.std.specs.Prelude.{Result}
+use Rattle.word.specs.declared.Fault.{Fault}
+use Rattle.feed_records.specs.Bodies.{as_body}
+use Rattle.feed_records.specs.Answers.{body_answer}
 use Rattle.feed.proofs.Cases.{outcome_refused, outcome_accepted}
-use Rattle.feed.proofs.Laws.{lent, call_passes, query_refused, query_sound}
+use Rattle.feed.proofs.Laws.{lent, call_passes}
 use Rattle.feed.proofs.query.Goals as goal
-use Rattle.feed.proofs.query.Goals.{After-estimate_checked-a, In-Sound}
+use Rattle.feed.proofs.query.Goals.{After-estimate_checked-a, In-Ok}
 
 -- the estimate that was called, and what the record makes of it
 abbrev called : After-estimate_checked-a → Answer
@@ -28,38 +31,37 @@ meant k =
     queried a.d a.w a.memory.now a.n a.words.now (query_body a.n a.words.now)
 
 -- the key that is lent is the record's
-key_is : (m : In-Sound) →
+key_is : (m : In-Ok) →
     let a = m.args in
-    take (a.n - 0) m.query_body-b.new.key ≡ key_of a.n a.words.now
+    take (a.n - 0) m.query_body-body.new.key ≡ key_of a.n a.words.now
 key_is m =
     let a = m.args in
-    lent a.n _ (key_of a.n a.words.now) (m.query_body-b.ensures.key_after (ap (λ (x : Answer). x.status) (sound_answer m.query_body-b.result (rw m.in-Sound.is))))
+    lent a.n _ (key_of a.n a.words.now) (m.query_body-body.ensures.key_after (ap (λ (x : Result ℕ Fault). (body_answer (as_body x)).status) m.in-Ok.is))
 
 called_is : (k : After-estimate_checked-a) → k.estimate_checked-a.result ≡ called k
 called_is k =
     let a = k.args in
-    k.estimate_checked-a.ensures ∙ ap (estimated a.d a.w a.memory.now) (key_is (goal.at.After-estimate_checked-a k).In-Sound)
+    k.estimate_checked-a.ensures ∙ ap (estimated a.d a.w a.memory.now) (key_is (goal.at.After-estimate_checked-a k).In-Ok)
 
 meant_is : (k : After-estimate_checked-a) → meant k ≡ outcome_of (called k) (case.Estimate (called k).value)
+unfolding queried
 meant_is k =
-    let a = k.args in
-    rw (← k.query_body-b.ensures.value) (query_sound a.d a.w a.memory.now a.n a.words.now k.query_body-b.result (rw k.in-Sound.is))
+    rw (sym k.query_body-body.ensures.value ∙ ap as_body k.in-Ok.is)
 
-pub query_body-b-requires : goal.query_body-b-requires
-query_body-b-requires c = record { fact_1 = key_short _ c.requires.fact_2; fact_2 = search rules }
+pub query_body-body-requires : goal.query_body-body-requires
+query_body-body-requires c = record { fact_1 = key_short _ c.requires.fact_2; fact_2 = search rules }
 
 pub returns-in_default : goal.returns-in_default
-returns-in_default c = let u = c.query_body-b in
-    let a = c.args in
-    let e = query_refused a.d a.w a.memory.now a.n a.words.now u.result (rw c.in_default.is) in
-    rw (← u.ensures.value, e) c.refused.ensures
+unfolding queried
+returns-in_default c = let e = c.in_default.is in
+    rw (← c.query_body-body.ensures.value, e) (rw e at c.refused.ensures)
 
 pub slice_bounds-estimate_checked-end : goal.slice_bounds-estimate_checked-end
 slice_bounds-estimate_checked-end c = search (rules, key_short c.args.n c.requires.fact_2)
 
 pub estimate_checked-a-requires : goal.estimate_checked-a-requires
 estimate_checked-a-requires c = let a = c.args in
-    call_passes a.d a.w a.memory.now a.n a.words.now _ c.requires.fact_1 c.requires.fact_2 (key_is (goal.at.estimate_checked-a-requires c).In-Sound)
+    call_passes a.d a.w a.memory.now a.n a.words.now _ c.requires.fact_1 c.requires.fact_2 (key_is (goal.at.estimate_checked-a-requires c).In-Ok)
 
 pub returns-then-a-ne0 : goal.returns-then-a-ne0
 returns-then-a-ne0 c = let z = called_is (goal.at.returns-then-a-ne0 c).After-estimate_checked-a in

@@ -6,7 +6,9 @@ use borrow.Author.Rules.{rules}
 use Rattle.answer.specs.declared.Answer.{Answer}
 use Rattle.answer.specs.Answers.{Done}
 use Rattle.meter.specs.Meter.{updated}
-use Rattle.feed_records.specs.declared.Body.{Body}
+use Rattle.std.specs.Prelude.{Result}
+use Rattle.word.specs.declared.Fault.{Fault}
+use Rattle.feed_records.specs.Bodies.{as_body}
 use Rattle.feed.specs.declared.Recorded.TheVariants as case
 use Rattle.feed_records.specs.Answers.{body_answer}
 use Rattle.feed_keys.specs.Keys.{key_of}
@@ -15,15 +17,15 @@ use Rattle.feed.specs.declared.Recorded.{Recorded}
 use Rattle.feed.specs.Record.{Carried, refusal, outcome_of, update_outcome, update_memory, finish_record}
 use Rattle.feed_lengths.proofs.Laws.{key_short}
 use Rattle.feed.proofs.Cases.{carried_update, outcome_refused, outcome_accepted, tell}
-use Rattle.feed.proofs.Laws.{lent, call_passes, update_refused}
+use Rattle.feed.proofs.Laws.{lent, call_passes}
 use Rattle.feed.proofs.update.Goals as goal
-use Rattle.feed.proofs.update.Goals.{After-update_checked-a, In-Sound}
+use Rattle.feed.proofs.update.Goals.{After-update_checked-a, In-Ok}
 
 -- the update that was called, and what the record makes of it
 abbrev called : After-update_checked-a → Done
 called k =
     let a = k.args in
-    updated a.d a.w a.memory.now (key_of a.n a.words.now) k.in-Sound.amount
+    updated a.d a.w a.memory.now (key_of a.n a.words.now) k.in-Ok.amount
 
 abbrev meant : After-update_checked-a → Carried
 meant k =
@@ -31,18 +33,18 @@ meant k =
     carried_update a.d a.w a.memory.now a.n a.words.now (update_body a.n a.words.now)
 
 -- the key that is lent is the record's
-key_is : (b : In-Sound) →
+key_is : (b : In-Ok) →
     let a = b.args in
-    take (a.n - 0) b.update_body-b.new.key ≡ key_of a.n a.words.now
+    take (a.n - 0) b.update_body-body.new.key ≡ key_of a.n a.words.now
 key_is b =
     let a = b.args in
-    lent a.n _ (key_of a.n a.words.now) (b.update_body-b.ensures.key_after (ap (λ (x : Body). (body_answer x).status) b.in-Sound.is))
+    lent a.n _ (key_of a.n a.words.now) (b.update_body-body.ensures.key_after (ap (λ (x : Result ℕ Fault). (body_answer (as_body x)).status) b.in-Ok.is))
 
 called_is : (k : After-update_checked-a) → (k.update_checked-a.result ≡ (called k).answer) × (k.update_checked-a.new.memory ≡ (called k).memory)
 called_is k =
     let a = k.args in
-    let v = k.in-Sound.amount in
-    let q = key_is (goal.at.After-update_checked-a k).In-Sound in (
+    let v = k.in-Ok.amount in
+    let q = key_is (goal.at.After-update_checked-a k).In-Ok in (
       k.update_checked-a.ensures.value ∙ ap (λ (x : List ℕ). (updated a.d a.w a.memory.now x v).answer) q,
       k.update_checked-a.ensures.memory_after ∙ ap (λ (x : List ℕ). (updated a.d a.w a.memory.now x v).memory) q,
     )
@@ -50,7 +52,7 @@ called_is k =
 meant_is : (k : After-update_checked-a) → meant k ≡ record { outcome = outcome_of (called k).answer case.Updated; memory = (called k).memory }
 unfolding carried_update update_outcome
 meant_is k =
-    rw (sym k.update_body-b.ensures.value ∙ k.in-Sound.is)
+    rw (sym k.update_body-body.ensures.value ∙ ap as_body k.in-Ok.is)
 
 -- the contract, by the outcome and memory of that update
 told_as : (k : After-update_checked-a) (r : Recorded) (m : List ℕ) → r ≡ outcome_of (called k).answer case.Updated → m ≡ (called k).memory →
@@ -62,15 +64,15 @@ told_as k r m e f =
     let z = sym (meant_is k) in
     tell a.d a.w a.memory.now a.n a.words.now r m (e ∙ ap (λ (c : Carried). c.outcome) z) (f ∙ ap (λ (c : Carried). c.memory) z)
 
-pub update_body-b-requires : goal.update_body-b-requires
-update_body-b-requires c = record { fact_1 = key_short _ c.requires.fact_2; fact_2 = search rules }
+pub update_body-body-requires : goal.update_body-body-requires
+update_body-body-requires c = record { fact_1 = key_short _ c.requires.fact_2; fact_2 = search rules }
 
 pub returns-in_default : goal.returns-in_default
-returns-in_default c = let u = c.update_body-b in
-    let a = c.args in
-    let e = update_refused a.d a.w a.memory.now a.n a.words.now u.result (rw c.in_default.is) in
-    let b = c.update_body-b.ensures.value in
-    let r = tell a.d a.w a.memory.now a.n a.words.now _ _ (rw (← b, e) c.refused.ensures) (rw (← b, e)) in
+unfolding carried_update update_outcome
+returns-in_default c = let a = c.args in
+    let b = c.update_body-body.ensures.value in
+    let e = c.in_default.is in
+    let r = tell a.d a.w a.memory.now a.n a.words.now _ _ (rw (← b, e) (rw e at c.refused.ensures)) (rw (← b, e)) in
     record { value = r.0; memory_after = r.1 }
 
 pub slice_bounds-update_checked-end : goal.slice_bounds-update_checked-end
@@ -78,7 +80,7 @@ slice_bounds-update_checked-end c = search (rules, key_short c.args.n c.requires
 
 pub update_checked-a-requires : goal.update_checked-a-requires
 update_checked-a-requires c = let a = c.args in
-    call_passes a.d a.w a.memory.now a.n a.words.now _ c.requires.fact_1 c.requires.fact_2 (key_is (goal.at.update_checked-a-requires c).In-Sound)
+    call_passes a.d a.w a.memory.now a.n a.words.now _ c.requires.fact_1 c.requires.fact_2 (key_is (goal.at.update_checked-a-requires c).In-Ok)
 
 pub returns-then-a-ne0 : goal.returns-then-a-ne0
 returns-then-a-ne0 c = let z = called_is (goal.at.returns-then-a-ne0 c).After-update_checked-a in
