@@ -28,7 +28,7 @@ pub fn words_needed(words: &[u32]) -> usize
     ensures value { result ≡ words_needed words.now }
     ensures lower_bound { (1 ≤ result) × (result ≤ 25) }
 {
-    if geometry::bad_key(payload(words, 0) as usize) != 0 {
+    if geometry::check_key(payload(words, 0) as usize).is_err() {
         return 1;
     }
     words_taken(words)

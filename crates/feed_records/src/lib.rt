@@ -29,9 +29,7 @@ pub enum Opening {
 fn opens_key(n: u32, o: Opening) -> Result<Opening, Refusal>
     ensures { as_opening result ≡ opens_key n (as_opening (Ok o)) }
 {
-    if geometry::bad_key(n as usize) != 0 {
-        return Err(Refusal::InvalidKeyLength);
-    }
+    geometry::check_key(n as usize)?;
     Ok(o)
 }
 

@@ -1,15 +1,8 @@
-use borrow.Author.Tests.{eq-eqb, ne_eqb}
-use Rattle.answer.specs.Refusals.{number}
-use Rattle.feed_records.specs.Words.{opens_key}
-use Rattle.feed_records.proofs.Laws.{key_refused}
+use Rattle.feed_records.proofs.Laws.{key_refused, key_passed}
 use Rattle.feed_records.proofs.opens_key.Goals as goal
 
-pub returns-then-bad_key-ne0 : goal.returns-then-bad_key-ne0
-unfolding opens_key number
-returns-then-bad_key-ne0 c = let e = c.bad_key.ensures in
-    rw (← e, ne_eqb c.bad_key.result 0 c.if-bad_key-ne0.true, key_refused c.args.n c.bad_key.result e c.if-bad_key-ne0.true)
+pub returns-in_err-check_key : goal.returns-in_err-check_key
+returns-in_err-check_key c = key_refused _ _ _ _ _ c.from_residual.ensures.1 c.in_err-check_key.ensures
 
 pub returns : goal.returns
-unfolding opens_key
-returns c = let e = c.bad_key.ensures in
-    rw (← e, eq-eqb c.bad_key.result 0 c.if-bad_key-ne0.false)
+returns c = key_passed _ _ _ c.in_ok-check_key.ensures
