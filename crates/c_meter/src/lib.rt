@@ -4,6 +4,8 @@
 ghost use Rattle.std.specs.Prelude.{◌≡◌};
 ghost use Rattle.meter.specs.Meter.{cleared, updated, estimated, widest, united};
 
+use answer::{Answer, give};
+
 #[unsafe(no_mangle)]
 pub extern "C" fn meter_clear(
     d: usize,
@@ -17,7 +19,7 @@ pub extern "C" fn meter_clear(
     ensures figure_after { figure.new ≡ (cleared d w memory.old).answer.value }
     ensures memory_after { memory.new ≡ (cleared d w memory.old).memory }
 {
-    answer::give(meter::clear(d, w, memory), place, figure)
+    give(Answer::from(meter::clear(d, w, memory)), place, figure)
 }
 
 #[unsafe(no_mangle)]
@@ -35,7 +37,11 @@ pub extern "C" fn meter_update(
     ensures figure_after { figure.new ≡ (updated d w memory.old key.now amount).answer.value }
     ensures memory_after { memory.new ≡ (updated d w memory.old key.now amount).memory }
 {
-    answer::give(meter::update(d, w, memory, key, amount), place, figure)
+    give(
+        Answer::from(meter::update(d, w, memory, key, amount)),
+        place,
+        figure,
+    )
 }
 
 #[unsafe(no_mangle)]
@@ -51,7 +57,11 @@ pub extern "C" fn meter_estimate(
     ensures place_after { place.new ≡ (estimated d w memory.now key.now).position }
     ensures figure_after { figure.new ≡ (estimated d w memory.now key.now).value }
 {
-    answer::give(meter::estimate(d, w, memory, key), place, figure)
+    give(
+        Answer::from(meter::estimate(d, w, memory, key)),
+        place,
+        figure,
+    )
 }
 
 #[unsafe(no_mangle)]
@@ -66,7 +76,7 @@ pub extern "C" fn meter_widest(
     ensures place_after { place.new ≡ (widest d w memory.now).position }
     ensures figure_after { figure.new ≡ (widest d w memory.now).value }
 {
-    answer::give(meter::widest(d, w, memory), place, figure)
+    give(Answer::from(meter::widest(d, w, memory)), place, figure)
 }
 
 #[unsafe(no_mangle)]
@@ -83,5 +93,9 @@ pub extern "C" fn meter_unite(
     ensures figure_after { figure.new ≡ (united d w memory.old source.now).answer.value }
     ensures memory_after { memory.new ≡ (united d w memory.old source.now).memory }
 {
-    answer::give(meter::unite(d, w, memory, source), place, figure)
+    give(
+        Answer::from(meter::unite(d, w, memory, source)),
+        place,
+        figure,
+    )
 }

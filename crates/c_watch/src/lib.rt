@@ -4,6 +4,8 @@
 ghost use Rattle.std.specs.Prelude.{◌≡◌};
 ghost use Rattle.watch.specs.Watch.{list_cleared, watched, removed};
 
+use answer::{Answer, give};
+
 #[unsafe(no_mangle)]
 pub extern "C" fn meter_watch_clear(list: &mut [u8], place: &mut u64, figure: &mut u64) -> u32
     ensures value { result ≡ (list_cleared list.old).answer.status }
@@ -11,7 +13,7 @@ pub extern "C" fn meter_watch_clear(list: &mut [u8], place: &mut u64, figure: &m
     ensures figure_after { figure.new ≡ (list_cleared list.old).answer.value }
     ensures list_after { list.new ≡ (list_cleared list.old).memory }
 {
-    answer::give(watch::clear(list), place, figure)
+    give(Answer::from(watch::clear(list)), place, figure)
 }
 
 #[unsafe(no_mangle)]
@@ -32,8 +34,8 @@ pub extern "C" fn meter_watch_update(
     ensures memory_after { memory.new ≡ (watched d w memory.old list.old key.now amount threshold).memory }
     ensures list_after { list.new ≡ (watched d w memory.old list.old key.now amount threshold).list }
 {
-    answer::give(
-        watch::update(d, w, memory, list, key, amount, threshold),
+    give(
+        Answer::from(watch::update(d, w, memory, list, key, amount, threshold)),
         place,
         figure,
     )
@@ -51,5 +53,5 @@ pub extern "C" fn meter_watch_remove(
     ensures figure_after { figure.new ≡ (removed list.old key.now).answer.value }
     ensures list_after { list.new ≡ (removed list.old key.now).memory }
 {
-    answer::give(watch::remove(list, key), place, figure)
+    give(Answer::from(watch::remove(list, key)), place, figure)
 }

@@ -5,68 +5,61 @@ ghost use Rattle.std.specs.Prelude.{◌≡◌, ◌≤◌, length};
 ghost use Rattle.geometry.specs.Geometry.{RowsIn};
 ghost use Rattle.geometry.specs.Geometry as geometry;
 ghost use Rattle.answer.specs.Order.{earliest};
+ghost use Rattle.answer.specs.Refusals.{status};
 ghost use Rattle.meter_memory.specs.Rows.{map_rows, of_rows, least, largest};
 ghost use Rattle.meter_row.specs.Row.{row_status, row_level};
 ghost use Rattle.meter_row.specs.Slots.{SlotsIn, slot_status, slot_value};
 ghost use Rattle.meter_union.specs.Union.{source_status, source_added};
 
-use answer::{Answer, earlier};
+use answer::Refusal;
 use meter_memory::row_at;
-use meter_row::smaller;
+use meter_row::{Found, value_of};
 
 // The first status of the counters of a slot in each row, and their least value.
-pub fn read_rows(d: usize, w: usize, memory: &[u8], slots: &[usize; 8]) -> Answer
+pub fn read_rows(d: usize, w: usize, memory: &[u8], slots: &[usize; 8]) -> Found
     requires fact_1 { 1 ≤ d }
     requires fact_2 { RowsIn d w (length memory.now) }
     requires fact_3 { SlotsIn d w slots.now }
-    ensures status_value { result.status ≡ earliest (of_rows (slot_status w slots.now) (geometry.stride w) d 0 memory.now) }
+    ensures status_value { status result.status ≡ earliest (of_rows (slot_status w slots.now) (geometry.stride w) d 0 memory.now) }
     ensures value_value { result.value ≡ least (of_rows (slot_value w slots.now) (geometry.stride w) d 0 memory.now) }
 {
-    let first = meter_row::read_row(row_at(w, memory, 0), w, slots[0]);
-    let mut status = first.status;
-    let mut value = first.value;
+    let c = meter_row::read_row(row_at(w, memory, 0), w, slots[0]);
+    let mut status = c.and(Ok(()));
+    let mut value = value_of(c);
     for r in 1..d {
         let c = meter_row::read_row(row_at(w, memory, r), w, slots[r]);
-        status = earlier(status, c.status);
-        value = smaller(value, c.value);
+        status = answer::first(status, c.and(Ok(())));
+        value = value.min(value_of(c));
     }
-    Answer {
-        status,
-        position: 0,
-        value,
-    }
+    Found { status, value }
 }
 
 // The first status of a meter's groups, and their largest level.
-pub fn widest_rows(d: usize, w: usize, memory: &[u8]) -> Answer
+pub fn widest_rows(d: usize, w: usize, memory: &[u8]) -> Found
     requires { RowsIn d w (length memory.now) }
-    ensures status_value { result.status ≡ earliest (of_rows (row_status w) (geometry.stride w) d 0 memory.now) }
+    ensures status_value { status result.status ≡ earliest (of_rows (row_status w) (geometry.stride w) d 0 memory.now) }
     ensures value_value { result.value ≡ largest (of_rows (row_level w) (geometry.stride w) d 0 memory.now) }
 {
-    let mut status = 0u8;
+    let mut status = Ok(());
     let mut value = 0u64;
     for r in 0..d {
         let c = meter_row::widest_row(row_at(w, memory, r), w);
-        status = earlier(status, c.status);
-        value = meter_row::larger(value, c.value);
+        status = answer::first(status, c.status);
+        value = value.max(c.value);
     }
-    Answer {
-        status,
-        position: 0,
-        value,
-    }
+    Found { status, value }
 }
 
 // Whether every row takes a source's.
-pub fn unite_status(d: usize, w: usize, memory: &[u8], source: &[u8]) -> u8
+pub fn unite_status(d: usize, w: usize, memory: &[u8], source: &[u8]) -> Result<(), Refusal>
     requires fact_1 { RowsIn d w (length memory.now) }
     requires fact_2 { length source.now ≡ length memory.now }
-    ensures { result ≡ earliest (of_rows (source_status w source.now) (geometry.stride w) d 0 memory.now) }
+    ensures { status result ≡ earliest (of_rows (source_status w source.now) (geometry.stride w) d 0 memory.now) }
 {
-    let mut status = 0u8;
+    let mut status = Ok(());
     for r in 0..d {
         let next = meter_union::unite_status(row_at(w, memory, r), row_at(w, source, r), w);
-        status = earlier(status, next);
+        status = answer::first(status, next);
     }
     status
 }

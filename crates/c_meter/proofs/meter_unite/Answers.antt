@@ -4,4 +4,5 @@ use Rattle.c_meter.proofs.meter_unite.Goals as goal
 
 pub returns : goal.returns
 returns c = let a = c.unite.ensures in
-    let g = c.give.ensures in record { value = g.value ∙ ap (λ (x : Answer). x.status) a.value; place_after = g.place_after ∙ ap (λ (x : Answer). x.position) a.value; figure_after = g.figure_after ∙ ap (λ (x : Answer). x.value) a.value; memory_after = a.memory_after }
+    let by = c.from.ensures in
+    let g = c.give.ensures in record { value = g.value ∙ ap (λ (x : Answer). x.status) (by ∙ a.value); place_after = g.place_after ∙ ap (λ (x : Answer). x.position) (by ∙ a.value); figure_after = g.figure_after ∙ ap (λ (x : Answer). x.value) (by ∙ a.value); memory_after = a.memory_after }

@@ -4,11 +4,12 @@ use Rattle.c_watch.proofs.meter_watch_update.Goals as goal
 
 pub returns : goal.returns
 returns c = let a = c.update.ensures in
+    let by = c.from.ensures in
     let g = c.give.ensures in
     record {
-      value = g.value ∙ ap (λ (x : Answer). x.status) a.value;
-      place_after = g.place_after ∙ ap (λ (x : Answer). x.position) a.value;
-      figure_after = g.figure_after ∙ ap (λ (x : Answer). x.value) a.value;
+      value = g.value ∙ ap (λ (x : Answer). x.status) (by ∙ a.value);
+      place_after = g.place_after ∙ ap (λ (x : Answer). x.position) (by ∙ a.value);
+      figure_after = g.figure_after ∙ ap (λ (x : Answer). x.value) (by ∙ a.value);
       memory_after = a.memory_after;
       list_after = a.list_after;
     }

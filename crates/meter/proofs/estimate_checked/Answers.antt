@@ -14,8 +14,8 @@ use Rattle.meter.proofs.estimate_checked.Goals as goal
 pub row_slot-requires : goal.row_slot-requires
 row_slot-requires c = (call_rows _ _ _ _ c.requires).1.0
 
-pub read_row-c-requires : goal.read_row-c-requires
-read_row-c-requires c = let p = (call_rows _ _ _ _ c.requires).1 in record { fact_1 = p.0; fact_2 = one_long _ _ _ c.if-d-eq1.true p.2; fact_3 = c.row_slot.ensures.upper_bound }
+pub read_row-requires : goal.read_row-requires
+read_row-requires c = let p = (call_rows _ _ _ _ c.requires).1 in record { fact_1 = p.0; fact_2 = one_long _ _ _ c.if-d-eq1.true p.2; fact_3 = c.row_slot.ensures.upper_bound }
 
 pub returns-in_err-c : goal.returns-in_err-c
 unfolding status
@@ -28,9 +28,9 @@ returns-in_err-c c = let found = c.in_err-c.ensures in
     let value = ap (λ (x : Reading). x.value) found ∙ one_read_value a.d a.w a.memory.now a.key.now c.if-d-eq1.true long start at in
     told_handed Unit _ _ refl _ c.from_residual.ensures.1 ∙ ap₂ answer_of status_value value ∙ estimated_good a.d a.w a.memory.now a.key.now c.requires
 
-pub returns-in_ok-c : goal.returns-in_ok-c
+pub returns-then-d-eq1 : goal.returns-then-d-eq1
 unfolding told answer_of
-returns-in_ok-c c = let found = c.in_ok-c.ensures in
+returns-then-d-eq1 c = let found = c.in_ok-c.ensures in
     let a = c.args in
     let long = one_long a.d a.w _ c.if-d-eq1.true (call_rows _ _ _ _ c.requires).1.2 in
     let at = c.row_slot.ensures.value ∙ ap (λ (b : List ℕ). key_slot c.start.result.state a.w b 0) c.whole-bytes.ensures in

@@ -23,7 +23,7 @@ unite_status-requires c = let a = c.args in record { fact_1 = (shape_good a.d a.
 pub returns-in_err-unite_status : goal.returns-in_err-unite_status
 returns-in_err-unite_status c = let a = c.args in
     let e = c.in_err-unite_status.ensures in
-    let p = united_full a.d a.w a.memory.now a.source.now (ok_status _ _ c.in_ok-check_shape.ensures) c.if-source-memory.false _ refl (err_status _ _ _ e) in record { value = done_handed _ _ _ e _ c.from_residual.ensures.1 ∙ p.0; memory_after = p.1 }
+    let p = united_full a.d a.w a.memory.now a.source.now (ok_status _ _ c.in_ok-check_shape.ensures) c.if-source-memory.false _ refl (err_status _ _ _ e) in record { value = done_handed _ _ _ e _ c.from_residual-in_err-unite_status.ensures.1 ∙ p.0; memory_after = p.1 }
 
 pub unite_rows-requires : goal.unite_rows-requires
 unite_rows-requires c = let a = c.args in record { fact_1 = (shape_good a.d a.w _ (ok_status _ _ c.in_ok-check_shape.ensures)).1; fact_2 = c.if-source-memory.false }

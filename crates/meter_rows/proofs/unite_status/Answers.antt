@@ -1,8 +1,9 @@
 use mathlib.Core.Path.{sym, ap₂, ◌∙◌}
-use Prim.Native.Nat.{ℕ, ◌-◌}
+use Prim.Native.Nat.{ℕ}
 use native.Mathlib.Omega.{arith}
 use mathlib.Core.List.{List}
 use Rattle.meter_memory.specs.Pairs.{row_status_by}
+use Rattle.answer.specs.Refusals.{status}
 use Rattle.meter_memory.specs.Rows.{row_of}
 use Rattle.meter_union.specs.Union.{source_status}
 use Rattle.meter_union.specs.Union.{unite_status}
@@ -11,6 +12,7 @@ use Rattle.meter_memory.proofs.Gather.{status_turn, status_end, rows_start}
 use Rattle.meter_rows.proofs.unite_status.Goals as goal
 
 pub loop-r-init : goal.loop-r-init
+unfolding status
 loop-r-init c = let a = c.args in
     (omega arith, rows_start (source_status a.w a.source.now) a.w a.d a.memory.now)
 
@@ -30,11 +32,11 @@ loop-r-preserved c = let a = c.args in
     let l = c.loop-r in
     let e = c.unite_status-next.ensures ∙ ap₂ (λ (source row : List ℕ). unite_status a.w source row) c.row_at-in-loop-r.ensures.result_value c.row_at.ensures.result_value in (
       omega arith,
-      rw c.earlier-status.ensures
-          (status_turn (source_status a.w a.source.now) a.w a.d l.r a.memory.now l.status c.unite_status-next.result (omega arith) e ∙ l.invariant.1),
+      rw c.first-status.ensures
+          (status_turn (source_status a.w a.source.now) a.w a.d l.r a.memory.now (status l.status) (status c.unite_status-next.result) (omega arith) e ∙ l.invariant.1),
     )
 
 pub returns : goal.returns
 returns c = let a = c.args in
     let l = c.loop-r in
-    sym (status_end (source_status a.w a.source.now) a.w a.d l.r a.memory.now l.status (omega arith)) ∙ l.invariant.1
+    sym (status_end (source_status a.w a.source.now) a.w a.d l.r a.memory.now (status l.status) (omega arith)) ∙ l.invariant.1

@@ -1,6 +1,6 @@
 use mathlib.Core.Path.{sym, ap, ◌∙◌}
-use Prim.Native.Nat.{◌-◌}
 use native.Mathlib.Omega.{arith}
+use Rattle.answer.specs.Refusals.{status}
 use Rattle.meter_memory.specs.Rows.{row_of}
 use Rattle.meter_row.specs.Row.{row_status, row_level}
 use Rattle.meter_row.specs.Row.{widest_status, widest_row}
@@ -9,6 +9,7 @@ use Rattle.meter_memory.proofs.Gather.{status_turn, status_end, level_turn, leve
 use Rattle.meter_rows.proofs.widest_rows.Goals as goal
 
 pub loop-r-init : goal.loop-r-init
+unfolding status
 loop-r-init c = let a = c.args in
     (omega arith, rows_start (row_status a.w) a.w a.d a.memory.now, levels_start (row_level a.w) a.w a.d a.memory.now)
 
@@ -25,12 +26,11 @@ loop-r-preserved c = let a = c.args in
     let row = c.row_at.ensures.result_value in
     let found = c.widest_row-c in (
       omega arith,
-      rw c.earlier-status.ensures
-          (status_turn (row_status a.w) a.w a.d l.r a.memory.now l.status found.result.status (omega arith) (found.ensures.status_value ∙ ap (widest_status a.w) row) ∙ l.invariant.1),
-      rw c.larger-value.ensures
-          (level_turn (row_level a.w) a.w a.d l.r a.memory.now l.value found.result.value (omega arith) (found.ensures.value_value ∙ ap (widest_row a.w) row) ∙ l.invariant.2),
+      rw c.first-status.ensures
+          (status_turn (row_status a.w) a.w a.d l.r a.memory.now (status l.status) (status found.result.status) (omega arith) (found.ensures.status_value ∙ ap (widest_status a.w) row) ∙ l.invariant.1),
+      omega (arith, level_turn (row_level a.w) a.w a.d l.r a.memory.now l.value found.result.value (omega arith) (found.ensures.value_value ∙ ap (widest_row a.w) row), l.invariant.2),
     )
 
 pub returns : goal.returns
 returns c = let a = c.args in
-    let l = c.loop-r in record { status_value = sym (status_end (row_status a.w) a.w a.d l.r a.memory.now l.status (omega arith)) ∙ l.invariant.1; value_value = sym (level_end (row_level a.w) a.w a.d l.r a.memory.now l.value (omega arith)) ∙ l.invariant.2 }
+    let l = c.loop-r in record { status_value = sym (status_end (row_status a.w) a.w a.d l.r a.memory.now (status l.status) (omega arith)) ∙ l.invariant.1; value_value = sym (level_end (row_level a.w) a.w a.d l.r a.memory.now l.value (omega arith)) ∙ l.invariant.2 }
