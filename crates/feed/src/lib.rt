@@ -2,6 +2,8 @@
 #![tactic(auto)]
 
 ghost use Rattle.std.specs.Prelude.{◌≡◌, ◌≤◌, length};
+ghost use Rattle.answer.specs.Refusals.{number};
+ghost use Rattle.answer.specs.Answers.{refused};
 ghost use Rattle.geometry.specs.Checks.{bad_shape, bad_key};
 ghost use Rattle.feed_records.specs.Bodies.{as_body};
 ghost use Rattle.feed_records.specs.Answers.{body_answer};
@@ -10,7 +12,7 @@ ghost use Rattle.feed_records.specs.Words.{update_body, query_body};
 ghost use Rattle.feed.specs.Record as spec;
 ghost use Rattle.feed.specs.Record.{update_outcome, queried, update_memory, finish_record, recorded};
 
-use answer::Answer;
+use answer::{Answer, Refusal};
 pub use feed_head::{head, head_depth, head_width};
 pub use feed_lengths::{words_needed, words_taken};
 use feed_records::Opening;
@@ -37,17 +39,18 @@ pub fn answer(r: Recorded) -> Answer
     }
 }
 
-fn refusal(a: Answer) -> Recorded
-    ensures { result ≡ spec.refusal a }
+// A refusal that has no place.
+fn refused(refusal: Refusal) -> Recorded
+    ensures { result ≡ spec.refusal (refused (number refusal)) }
 {
     Recorded::Refused {
-        status: a.status,
-        position: a.position,
+        status: refusal.number(),
+        position: 0,
     }
 }
 
 // A refusal by a faulty word.
-fn refused(body: Result<u32, Fault>) -> Recorded
+fn faulty(body: Result<u32, Fault>) -> Recorded
     ensures { result ≡ spec.refusal (body_answer (as_body body)) }
 {
     match body {
@@ -72,13 +75,12 @@ fn update(d: usize, w: usize, memory: &mut [u8], n: usize, words: &[u32]) -> Rec
     let mut key = [0u8; 66];
     let body = feed_records::update_body(words, n, &mut key);
     let Ok(amount) = body else {
-        return refused(body);
+        return faulty(body);
     };
-    let a = meter::update_checked(d, w, memory, &key[0..n], amount);
-    if a.status != 0 {
-        return refusal(a);
+    match meter::update_checked(d, w, memory, &key[0..n], amount) {
+        Ok(()) => Recorded::Updated,
+        Err(refusal) => refused(refusal),
     }
-    Recorded::Updated
 }
 
 // A query, with a key of n bytes, after the same tests.
@@ -90,13 +92,12 @@ fn query(d: usize, w: usize, memory: &[u8], n: usize, words: &[u32]) -> Recorded
     let mut key = [0u8; 66];
     let body = feed_records::query_body(words, n, &mut key);
     let Ok(_) = body else {
-        return refused(body);
+        return faulty(body);
     };
-    let a = meter::estimate_checked(d, w, memory, &key[0..n]);
-    if a.status != 0 {
-        return refusal(a);
+    match meter::estimate_checked(d, w, memory, &key[0..n]) {
+        Ok(value) => Recorded::Estimate { value },
+        Err(refusal) => refused(refusal),
     }
-    Recorded::Estimate { value: a.value }
 }
 
 // One update or query, or the end, after so many words of the feed.
@@ -105,20 +106,13 @@ pub fn record(d: usize, w: usize, memory: &mut [u8], before: u64, words: &[u32])
     ensures memory_after { memory.new ≡ (recorded d w memory.old before words.now).memory }
     ensures result_in_bounds { (record_answer result).position ≤ length words.now }
 {
-    let bad = geometry::bad_shape(d, w, memory.len());
-    if bad != 0 {
-        return Recorded::Refused {
-            status: bad,
-            position: 0,
-        };
+    if let Err(refusal) = geometry::check_shape(d, w, memory.len()) {
+        return refused(refusal);
     }
     match feed_records::first_word(before, words) {
         Ok(Opening::Update { length }) => update(d, w, memory, length, words),
         Ok(Opening::Query { length }) => query(d, w, memory, length, words),
         Ok(Opening::End) => Recorded::Ended,
-        Err(refusal) => Recorded::Refused {
-            status: refusal.number(),
-            position: 0,
-        },
+        Err(refusal) => refused(refusal),
     }
 }

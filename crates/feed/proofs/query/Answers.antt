@@ -8,24 +8,23 @@ use Rattle.feed.specs.declared.Recorded.{Recorded}
 use Rattle.feed.specs.declared.Recorded.TheVariants as case
 use Rattle.feed_keys.specs.Keys.{key_of}
 use Rattle.feed_records.specs.Words.{query_body}
-use Rattle.feed.specs.Record.{refusal, outcome_of, queried}
+use Rattle.feed.specs.Record.{outcome_of, queried}
 use Rattle.feed_lengths.proofs.Laws.{key_short}
 use Rattle.std.specs.Prelude.{Result}
 use Rattle.word.specs.declared.Fault.{Fault}
 use Rattle.feed_records.specs.Bodies.{as_body}
 use Rattle.feed_records.specs.Answers.{body_answer}
-use Rattle.feed.proofs.Cases.{outcome_refused, outcome_accepted}
-use Rattle.feed.proofs.Laws.{lent, call_passes}
+use Rattle.feed.proofs.Laws.{lent, call_passes, told_ok, told_err}
 use Rattle.feed.proofs.query.Goals as goal
-use Rattle.feed.proofs.query.Goals.{After-estimate_checked-a, In-Ok}
+use Rattle.feed.proofs.query.Goals.{After-estimate_checked, In-Ok}
 
 -- the estimate that was called, and what the record makes of it
-abbrev called : After-estimate_checked-a → Answer
+abbrev called : After-estimate_checked → Answer
 called k =
     let a = k.args in
     estimated a.d a.w a.memory.now (key_of a.n a.words.now)
 
-abbrev meant : After-estimate_checked-a → Recorded
+abbrev meant : After-estimate_checked → Recorded
 meant k =
     let a = k.args in
     queried a.d a.w a.memory.now a.n a.words.now (query_body a.n a.words.now)
@@ -38,12 +37,14 @@ key_is m =
     let a = m.args in
     lent a.n _ (key_of a.n a.words.now) (m.query_body-body.ensures.key_after (ap (λ (x : Result ℕ Fault). (body_answer (as_body x)).status) m.in-Ok.is))
 
-called_is : (k : After-estimate_checked-a) → k.estimate_checked-a.result ≡ called k
+called_is : (k : After-estimate_checked) →
+    let a = k.args in
+    estimated a.d a.w a.memory.now (take (a.n - 0) k.query_body-body.new.key) ≡ called k
 called_is k =
     let a = k.args in
-    k.estimate_checked-a.ensures ∙ ap (estimated a.d a.w a.memory.now) (key_is (goal.at.After-estimate_checked-a k).In-Ok)
+    ap (estimated a.d a.w a.memory.now) (key_is (goal.at.After-estimate_checked k).In-Ok)
 
-meant_is : (k : After-estimate_checked-a) → meant k ≡ outcome_of (called k) (case.Estimate (called k).value)
+meant_is : (k : After-estimate_checked) → meant k ≡ outcome_of (called k) (case.Estimate (called k).value)
 unfolding queried
 meant_is k =
     rw (sym k.query_body-body.ensures.value ∙ ap as_body k.in-Ok.is)
@@ -54,21 +55,19 @@ query_body-body-requires c = record { fact_1 = key_short _ c.requires.fact_2; fa
 pub returns-in_default : goal.returns-in_default
 unfolding queried
 returns-in_default c = let e = c.in_default.is in
-    rw (← c.query_body-body.ensures.value, e) (rw e at c.refused.ensures)
+    rw (← c.query_body-body.ensures.value, e) (rw e at c.faulty.ensures)
 
 pub slice_bounds-estimate_checked-end : goal.slice_bounds-estimate_checked-end
 slice_bounds-estimate_checked-end c = search (rules, key_short c.args.n c.requires.fact_2)
 
-pub estimate_checked-a-requires : goal.estimate_checked-a-requires
-estimate_checked-a-requires c = let a = c.args in
-    call_passes a.d a.w a.memory.now a.n a.words.now _ c.requires.fact_1 c.requires.fact_2 (key_is (goal.at.estimate_checked-a-requires c).In-Ok)
+pub estimate_checked-requires : goal.estimate_checked-requires
+estimate_checked-requires c = let a = c.args in
+    call_passes a.d a.w a.memory.now a.n a.words.now _ c.requires.fact_1 c.requires.fact_2 (key_is (goal.at.estimate_checked-requires c).In-Ok)
 
-pub returns-then-a-ne0 : goal.returns-then-a-ne0
-returns-then-a-ne0 c = let z = called_is (goal.at.returns-then-a-ne0 c).After-estimate_checked-a in
-    let t = outcome_refused (called (goal.at.returns-then-a-ne0 c).After-estimate_checked-a) (case.Estimate (called (goal.at.returns-then-a-ne0 c).After-estimate_checked-a).value) (λ h. c.if-a-ne0.true (ap (λ (x : Answer). x.status) z ∙ h)) in
-    c.refusal.ensures ∙ ap refusal z ∙ sym t ∙ sym (meant_is (goal.at.returns-then-a-ne0 c).After-estimate_checked-a)
+pub returns-in-Ok-estimate_checked : goal.returns-in-Ok-estimate_checked
+returns-in-Ok-estimate_checked c = let k = (goal.at.returns-in-Ok-estimate_checked c).After-estimate_checked in
+    sym (told_ok _ _ (c.in-Ok-estimate_checked.ensures ∙ called_is k)) ∙ sym (meant_is k)
 
-pub returns : goal.returns
-returns c = let z = called_is (goal.at.returns c).After-estimate_checked-a in
-    let t = outcome_accepted (called (goal.at.returns c).After-estimate_checked-a) (case.Estimate (called (goal.at.returns c).After-estimate_checked-a).value) (ap (λ (x : Answer). x.status) (sym z) ∙ c.if-a-ne0.false) in
-    ap (λ (x : Answer). case.Estimate x.value) z ∙ sym t ∙ sym (meant_is (goal.at.returns c).After-estimate_checked-a)
+pub returns-in-Err : goal.returns-in-Err
+returns-in-Err c = let k = (goal.at.returns-in-Err c).After-estimate_checked in
+    c.refused.ensures ∙ sym (told_err _ _ _ (c.in-Err.ensures ∙ called_is k)) ∙ sym (meant_is k)

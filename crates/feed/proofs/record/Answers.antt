@@ -3,9 +3,10 @@ use Rattle.feed_records.proofs.Laws.{bad_key_in, opened_good}
 use Rattle.feed_records.specs.Openings.{Opening}
 use Rattle.feed_records.specs.Openings as opening
 use Rattle.feed_records.specs.Words.{opened}
-use Rattle.feed.proofs.Laws.{record_good, record_bad}
+use Rattle.answer.specs.Refusals.{number}
+use Rattle.answer.proofs.Refusals.{no_number, ok_status}
+use Rattle.feed.proofs.Laws.{shape_bad, record_good, record_bad}
 use mathlib.Core.Path.{◌≡◌, refl, sym, ap, ◌∙◌}
-use Prim.Native.Nat.{ℕ}
 use lib.ListN.{length}
 use Rattle.geometry.specs.Checks.{bad_shape}
 use Rattle.feed.specs.Record.{opened_outcome, recorded}
@@ -17,7 +18,7 @@ use Rattle.feed.proofs.record.Goals.{After-first_word}
 shape_good : (f : After-first_word) →
     let a = f.args in
     bad_shape a.d a.w (length a.memory.now) ≡ 0
-shape_good f = sym f.bad_shape-bad.ensures ∙ f.if-bad-ne0.false
+shape_good f = ok_status _ _ f.in_default.ensures
 
 key_good : (f : After-first_word) (o : Opening) →
     let a = f.args in
@@ -33,11 +34,11 @@ opened_is f o e =
     let a = f.args in
     record_good a.d a.w a.memory.now a.before a.words.now (shape_good f) ∙ ap (carried a.d a.w a.memory.now a.words.now) (sym e)
 
-pub returns-then-bad-ne0 : goal.returns-then-bad-ne0
-returns-then-bad-ne0 c = let a = c.args in
-    let s = c.bad_shape-bad in
-    let e = record_bad a.d a.w a.memory.now a.before a.words.now s.result (sym s.ensures) c.if-bad-ne0.true in
-    let r = all_of a.d a.w a.memory.now a.before a.words.now _ _ _ e refl refl in
+pub returns-in-Err : goal.returns-in-Err
+returns-in-Err c = let a = c.args in
+    let s = c.in-Err.ensures in
+    let e = record_bad a.d a.w a.memory.now a.before a.words.now (number c.in-Err.refusal) (shape_bad _ _ _ s) (no_number c.in-Err.refusal) in
+    let r = all_of a.d a.w a.memory.now a.before a.words.now _ _ _ e c.refused.ensures refl in
     record { value = r.0; memory_after = r.1.0; result_in_bounds = r.1.1 }
 
 pub update-requires : goal.update-requires
@@ -70,10 +71,9 @@ returns-in-Ok-End c = let a = c.args in
     let r = all_of a.d a.w a.memory.now a.before a.words.now _ _ _ e refl refl in
     record { value = r.0; memory_after = r.1.0; result_in_bounds = r.1.1 }
 
-pub returns-in-Err : goal.returns-in-Err
+pub returns-in-Err-first_word : goal.returns-in-Err-first_word
 unfolding carried opened_outcome
-returns-in-Err c = let a = c.args in
-    let n = c.number.ensures in
-    let e = opened_is (goal.at.returns-in-Err c).After-first_word (opening.Refused c.number.result) (ap (λ (s : ℕ). opening.Refused s) n ∙ c.in-Err.ensures) in
-    let r = all_of a.d a.w a.memory.now a.before a.words.now _ _ _ e refl refl in
+returns-in-Err-first_word c = let a = c.args in
+    let e = opened_is (goal.at.returns-in-Err-first_word c).After-first_word (opening.Refused (number c.in-Err-first_word.refusal)) c.in-Err-first_word.ensures in
+    let r = all_of a.d a.w a.memory.now a.before a.words.now _ _ _ e c.refused-in-Err-first_word.ensures refl in
     record { value = r.0; memory_after = r.1.0; result_in_bounds = r.1.1 }
