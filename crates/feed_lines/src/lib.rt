@@ -29,6 +29,7 @@ pub struct Progress {
 }
 
 // The line of a head's answer.
+#[tactic(auto, unfolding(crate::specs::Line::head_line))]
 fn head_line(a: Answer) -> Line
     ensures { result ≡ head_line a }
 {
@@ -68,15 +69,16 @@ pub fn size(d: usize, w: usize) -> usize
     d * geometry::stride(w)
 }
 
-// The records start on a cleared meter.
+// The records start on a cleared meter. Its geometry has passed, so nothing is refused.
 pub fn start(d: usize, w: usize, memory: &mut [u8])
     requires { bad_shape d w (length memory.old) ≡ 0 }
     ensures { memory.new ≡ replicate (geometry.size d w) 0 }
 {
-    meter::clear(d, w, memory);
+    let _ = meter::clear(d, w, memory);
 }
 
 // The line of a record or the end, after so many words of the feed and so many records.
+#[tactic(auto, unfolding(crate::specs::Line::line_of))]
 fn line_of(r: Recorded, before: u64, records: u64) -> Line
     requires { before + (record_answer r).position < 2 ^ 64 }
     ensures { result ≡ line_of r before records }
@@ -92,13 +94,11 @@ fn line_of(r: Recorded, before: u64, records: u64) -> Line
 }
 
 // The words that a line's record took. After a stop nothing is read.
+#[tactic(auto, unfolding(crate::specs::Step::taken_by))]
 fn taken(l: Line, words: &[u32]) -> usize
     ensures { result ≡ taken_by l words.now }
 {
-    if feed_line::continues(l) {
-        return feed::words_taken(words);
-    }
-    if feed_line::is_end(l) {
+    if feed_line::continues(l) || feed_line::is_end(l) {
         return feed::words_taken(words);
     }
     0
