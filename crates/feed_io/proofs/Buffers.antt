@@ -6,11 +6,10 @@ use mathlib.Core.List.{List, [], ◌++◌, append-nil}
 use Prim.Native.Nat.{ℕ, ◌+◌, ◌-◌, ◌≤◌, ◌<◌}
 use native.Mathlib.Nat.{sub-zero}
 use native.Mathlib.Omega.{arith}
-use lib.ListN.{length, take, drop, take-append-drop, length-drop, length-append}
+use lib.ListN.{length, take, drop, take-append-drop, length-drop}
 use lib.Seq.{take-take, take_at, drop-drop, length-take-le}
+use Rattle.std.specs.List.{copy_within}
 use Rattle.laws.proofs.Lists.{drop_take}
-use Rattle.feed_text.specs.declared.text.Text.{Text}
-use Rattle.feed_text.specs.Text.{content}
 use Rattle.feed_io.specs.declared.input.Input.{Input}
 use Rattle.feed_io.specs.declared.output.Output.{Output}
 use Rattle.feed_io.specs.Buffers.{Within, unused, Held, advanced, Filled, Refilled, Cleared}
@@ -38,13 +37,13 @@ held n i buffer h k = (
 
 -- bytes are moved to the front, and more are read behind them
 pub refilled : (n : ℕ) (i : Input) (before middle : List ℕ) (r : Input) (after : List ℕ) → Within i before → i.end - i.start < n → i.more ≡ true
-    → middle ≡ take (i.end - i.start) (drop i.start before) ++ drop (i.end - i.start) before
+    → middle ≡ copy_within before i.start i.end 0
     → Filled n (i.end - i.start) middle r after → Refilled n i before r after × Held n r after
 refilled least i before middle r after h short o e f =
     let n = i.end - i.start in
     let inside : Within r after = (rw f.start (omega arith), f.inside) in
     let whole : unused r after ≡ take r.end after = rw (f.start, sub-zero) in
-    let moved : take n middle ≡ unused i before = ap (take n) e ∙ take_at (unused i before) (drop n before) n (unused_length i before h) in
+    let moved : take n middle ≡ unused i before = ap (take n) e ∙ take_at (unused i before) (drop (0 + n) before) n (unused_length i before h) in
     let front : take n (unused r after) ≡ unused i before = ap (take n) whole ∙ take-take n r.end after f.grown ∙ f.kept ∙ moved in (
       record {
         within = inside;
@@ -55,18 +54,6 @@ refilled least i before middle r after h short o e f =
       },
       ⊎_elim (λ l. inl (omega (arith, unused_length r after inside, f.start))) (λ m. inr m) f.enough,
     )
-
--- a line that is put behind the first p bytes
-pub text_put : (out after xs : List ℕ) (p n r : ℕ) → p ≤ length out → length xs ≡ n → r ≡ p + n → after ≡ take p out ++ xs ++ drop r out
-    → take r after ≡ take p out ++ xs
-text_put out after xs p n r h l k e =
-    rw e (take_at (take p out ++ xs) (drop r out) r (length-append (take p out) xs ∙ omega (arith, length-take-le p out h)))
-
--- a line behind those at hand
-pub appended : (out after : List ℕ) (at : ℕ) (t : Text) (r : ℕ) → at + t.length ≤ length out → length t.bytes ≡ 64 → t.length ≤ 64
-    → r ≡ at + t.length → after ≡ take at out ++ content t ++ drop r out → take r after ≡ take at out ++ content t
-appended out after at t r h b k e f =
-    text_put out after (content t) at t.length r (omega arith) (length-take-le t.length t.bytes (omega arith)) e f
 
 -- nothing is written, or all that is at hand
 pub cleared_none : (reads : Bool) (out : List ℕ) (at : ℕ) → at + 64 ≤ length out → (reads ≡ true → at ≡ 0) → Cleared reads out at (record { at = at; failed = false })

@@ -1,5 +1,5 @@
 // Standard input, read in pieces. No byte is lost or read twice, however few a read brings.
-ghost use Rattle.std.specs.Prelude.{◌≡◌, ◌++◌, ◌⊎◌, false, ◌+◌, ◌-◌, ◌≤◌, ◌<◌, length, take, drop};
+ghost use Rattle.std.specs.Prelude.{◌≡◌, ◌⊎◌, false, ◌+◌, ◌-◌, ◌≤◌, ◌<◌, length, take, IfSome};
 ghost use Rattle.feed_io.specs.Buffers.{Within, advanced, Filled, Refilled, Held};
 
 use std::io::{Read, Stdin};
@@ -12,26 +12,15 @@ pub struct Input {
     pub more: bool,
 }
 
-// The n bytes at a place, moved to the front.
-fn shift(buffer: &mut [u8], from: usize, n: usize)
-    requires { from + n ≤ length buffer.old }
-    ensures { buffer.new ≡ take n (drop from buffer.old) ++ drop n buffer.old }
-{
-    for i in 0..n {
-        buffer[i] = buffer[from + i];
-    }
-}
-
-// One read to the place behind the bytes at hand. 0 is the end of the input, or a failed read.
-fn read_more(from: Stdin, buffer: &mut [u8], at: usize) -> usize
+// One read to the place behind the bytes at hand: how many came. None at the end of the input, and where the read failed.
+fn read_more(mut from: Stdin, buffer: &mut [u8], at: usize) -> Option<usize>
     requires { at ≤ length buffer.old }
-    ensures result_in_bounds { at + result ≤ length buffer.new }
+    ensures some_read { IfSome result (λ got. (0 < got) × (at + got ≤ length buffer.new)) }
     ensures buffer_unchanged { take at buffer.new ≡ take at buffer.old }
 {
-    let mut stdin = from;
-    match stdin.read(&mut buffer[at..]) {
-        Ok(got) => got,
-        Err(_) => 0,
+    match from.read(&mut buffer[at..]) {
+        Ok(0) | Err(_) => None,
+        Ok(got) => Some(got),
     }
 }
 
@@ -40,10 +29,7 @@ pub fn is_short(i: Input, n: usize) -> bool
     requires { i.start ≤ i.end }
     ensures { result ≡ false → (n ≤ i.end - i.start) ⊎ (i.more ≡ false) }
 {
-    if n <= i.end - i.start {
-        return false;
-    }
-    i.more
+    i.end - i.start < n && i.more
 }
 
 // Reads on until n bytes are at hand or the input has ended.
@@ -61,7 +47,7 @@ pub fn refill(from: Stdin, buffer: &mut [u8], i: Input, n: usize) -> Input
     if !i.more {
         return i;
     }
-    shift(buffer, i.start, left);
+    buffer.copy_within(i.start..i.end, 0);
     fill(from, buffer, left, n)
 }
 
@@ -73,15 +59,15 @@ fn fill(from: Stdin, buffer: &mut [u8], front: usize, n: usize) -> Input
     ensures { Filled n front buffer.old result buffer.new }
 {
     let mut end = front;
+    // A read may bring fewer bytes than are wanted, so their number is no count of turns.
     while end < n {
-        let got = read_more(from, buffer, end);
-        if got == 0 {
+        let Some(got) = read_more(from, buffer, end) else {
             return Input {
                 start: 0,
                 end,
                 more: false,
             };
-        }
+        };
         end += got;
     }
     Input {
@@ -98,7 +84,6 @@ pub fn after(i: Input, n: usize) -> Input
 {
     Input {
         start: i.start + n,
-        end: i.end,
-        more: i.more,
+        ..i
     }
 }

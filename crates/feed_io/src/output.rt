@@ -9,7 +9,8 @@ use std::io::{Stdout, Write};
 // The most bytes of a line.
 const LINE: usize = 64;
 
-// The bytes of the buffer that are to be written, and whether a write has failed. Then there are none, and nothing more is written.
+// The bytes of the buffer that are to be written, and whether a write has failed. Then there are none, and nothing more is written: with
+// `at` 0 the last flush has no case of its own, as it would for an enum.
 #[derive(Clone, Copy)]
 pub struct Output {
     pub at: usize,
@@ -18,49 +19,24 @@ pub struct Output {
 
 // The text behind the first bytes of the buffer. Gives the number of bytes that are now to be written.
 pub fn append(out: &mut [u8], at: usize, t: Text) -> usize
-    requires fact_1 { at + t.length ≤ length out.old }
-    requires fact_2 { t.length ≤ 64 }
-    ensures value { result ≡ at + t.length }
+    requires fact_1 { at + length (content t) ≤ length out.old }
+    requires fact_2 { length (content t) ≤ 64 }
+    ensures value { result ≡ at + length (content t) }
     ensures out_after { take result out.new ≡ take at out.old ++ content t }
 {
-    let bytes = t.bytes;
-    let n = t.length;
-    for i in 0..n {
-        out[at + i] = bytes[i];
-    }
-    at + n
-}
-
-// One write of bytes. 0 is a write that took none or failed.
-fn write_some(to: Stdout, bytes: &[u8]) -> usize
-    ensures { result ≤ length bytes.now }
-{
-    let mut stdout = to;
-    match stdout.write(bytes) {
-        Ok(put) => put,
-        Err(_) => 0,
-    }
+    let end = at + t.len();
+    out[at..end].copy_from_slice(t.as_slice());
+    end
 }
 
 // All bytes at hand are written, or a write fails.
-pub fn flush(to: Stdout, out: &[u8], at: usize) -> Output
+pub fn flush(mut to: Stdout, out: &[u8], at: usize) -> Output
     requires { at ≤ length out.now }
     ensures { result.at ≡ 0 }
 {
-    let mut done = 0;
-    while done < at {
-        let put = write_some(to, &out[done..at]);
-        if put == 0 {
-            return Output {
-                at: 0,
-                failed: true,
-            };
-        }
-        done += put;
-    }
     Output {
         at: 0,
-        failed: false,
+        failed: to.write_all(&out[..at]).is_err(),
     }
 }
 
@@ -70,13 +46,7 @@ pub fn make_room(to: Stdout, out: &[u8], at: usize, reads: bool) -> Output
     requires fact_2 { 64 ≤ length out.now }
     ensures { Cleared reads out.now at result }
 {
-    if at == 0 {
-        return Output { at, failed: false };
-    }
-    if reads {
-        return flush(to, out, at);
-    }
-    if out.len() - at < LINE {
+    if at > 0 && (reads || out.len() - at < LINE) {
         return flush(to, out, at);
     }
     Output { at, failed: false }

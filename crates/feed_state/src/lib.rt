@@ -36,25 +36,19 @@ pub fn receive(
     requires at_in_bounds_2 { 64 ≤ length output.now }
     ensures { Received n s input.old output.now result input.new }
 {
-    let i = s.input;
-    let reads = feed_io::is_short(i, n);
+    let reads = feed_io::is_short(s.input, n);
     let o = feed_io::make_room(to, output, s.output.at, reads);
     if o.failed {
         return State {
-            input: i,
             output: o,
-            words: s.words,
-            records: s.records,
             runs: false,
             ended: false,
+            ..s
         };
     }
     State {
-        input: feed_io::refill(from, input, i, n),
+        input: feed_io::refill(from, input, s.input, n),
         output: o,
-        words: s.words,
-        records: s.records,
-        runs: s.runs,
-        ended: s.ended,
+        ..s
     }
 }

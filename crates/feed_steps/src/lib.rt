@@ -31,8 +31,10 @@ fn next(memory: &mut [u8], d: usize, w: usize, bytes: &[u8], before: u64, record
     feed_lines::step(d, w, memory, before, records, &words[..n])
 }
 
-// The bytes of the longest record.
+// The bytes of the longest record, and the most of a line.
 const LONGEST: usize = 100;
+
+const LINE: usize = 64;
 
 // The bytes that must be at hand for the record that bytes begin with.
 fn needed(bytes: &[u8]) -> usize
@@ -69,9 +71,7 @@ fn carry_out(
         memory.new result input.now output.new }
 {
     let i = s.input;
-    let start = i.start;
-    let end = i.end;
-    let p = next(memory, d, w, &input[start..end], s.words, s.records);
+    let p = next(memory, d, w, &input[i.start..i.end], s.words, s.records);
     let line = p.line;
     let at = feed_io::append(output, s.output.at, feed_text::text_of(line));
     State {
@@ -114,9 +114,7 @@ fn receive_one(
     if a.output.failed {
         return a;
     }
-    let start = a.input.start;
-    let end = a.input.end;
-    let n = needed(&input[start..end]);
+    let n = needed(&input[a.input.start..a.input.end]);
     let b = receive(from, to, input, output, a, n);
     if b.output.failed {
         return b;
@@ -151,10 +149,8 @@ pub fn step(
         memory.new result input.new output.new }
 {
     let i = s.input;
-    if LONGEST <= i.end - i.start {
-        if 64 <= output.len() - s.output.at {
-            return carry_out(memory, d, w, input, output, s);
-        }
+    if LONGEST <= i.end - i.start && LINE <= output.len() - s.output.at {
+        return carry_out(memory, d, w, input, output, s);
     }
     receive_one(from, to, memory, d, w, input, output, s)
 }

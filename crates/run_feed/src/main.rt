@@ -52,13 +52,11 @@ fn run_records(
         memory.new result input.new output.new }
 {
     let mut s = first;
-    let mut turns = TURNS;
-    while turns > 0 {
+    for _ in 0..TURNS {
         if !s.runs {
             return s;
         }
         s = feed_steps::step(from, to, memory, d, w, input, output, s);
-        turns -= 1;
     }
     s
 }
@@ -78,8 +76,7 @@ fn after_end(from: Stdin, to: Stdout, input: &mut [u8], output: &mut [u8], s: St
     if o.failed {
         return o;
     }
-    let i = a.input;
-    if i.start == i.end {
+    if a.input.start == a.input.end {
         return o;
     }
     let line = Line::Stopped {
@@ -155,9 +152,7 @@ fn run(from: Stdin, to: Stdout, memory: &mut [u8], input: &mut [u8], output: &mu
         more: true,
     };
     let i = feed_io::refill(from, input, unread, 4);
-    let start = i.start;
-    let end = i.end;
-    let line = head(&input[start..end]);
+    let line = head(&input[i.start..i.end]);
     let out = feed_io::append(output, 0, feed_text::text_of(line));
     let Line::Geometry { d, w } = line else {
         return Output {

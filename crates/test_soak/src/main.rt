@@ -2,7 +2,6 @@
 // sum in `stdout` beside src/.
 #![tactic(auto)]
 
-use answer::Answer;
 use std::io;
 use std::io::Stdout;
 
@@ -13,13 +12,9 @@ fn send(memory: &mut [u8]) {
     }
 }
 
-fn show(out: Stdout, a: Answer) -> io::Result<()> {
-    let value = a.value;
-    println!(out; "{value}")
-}
-
 fn ask(out: Stdout, memory: &[u8]) -> io::Result<()> {
-    show(out, meter::estimate(1, 32, memory, b"tenant-7"))
+    let value = meter::estimate(1, 32, memory, b"tenant-7").value;
+    println!(out; "{value}")
 }
 
 fn main(rt: HostRuntime) -> io::Result<()> {

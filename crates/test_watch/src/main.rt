@@ -6,46 +6,29 @@ use hash::Hash;
 use std::io;
 use std::io::Stdout;
 
-fn text(out: Stdout, s: &str) -> io::Result<()> {
-    print!(out; "{s}")
-}
-
-fn decimal(out: Stdout, n: u64) -> io::Result<()> {
-    print!(out; " {n}")
-}
-
 // All bytes of a list or a memory, by their hash.
 fn digest(out: Stdout, bytes: &[u8]) -> io::Result<()> {
-    let h = Hash::start().run(bytes);
-    let state = h.state;
+    let state = Hash::start().run(bytes).state;
     print!(out; " {state:08x}")
-}
-
-fn byte(out: Stdout, b: u8) -> io::Result<()> {
-    decimal(out, b as u64)
 }
 
 // An answer: status, position and value.
 fn show(out: Stdout, a: Answer) -> io::Result<()> {
-    decimal(out, a.status as u64)?;
-    decimal(out, a.position)?;
-    decimal(out, a.value)
+    print!(out; " {} {} {}", a.status, a.position, a.value)
 }
 
 // The first two key lengths, the mark, and all bytes.
 fn list_line(out: Stdout, list: &[u8]) -> io::Result<()> {
-    text(out, " list")?;
+    print!(out; " list")?;
     if 64 < list.len() {
-        byte(out, list[0])?;
-        byte(out, list[1])?;
-        byte(out, list[64])?;
+        print!(out; " {} {} {}", list[0], list[1], list[64])?;
     }
     digest(out, list)?;
-    text(out, "\n")
+    println!(out)
 }
 
 fn clear(out: Stdout, list: &mut [u8]) -> io::Result<()> {
-    text(out, "clear")?;
+    print!(out; "clear")?;
     show(out, watch::clear(list))?;
     list_line(out, list)
 }
@@ -58,7 +41,7 @@ fn update(
     amount: u32,
     threshold: u64,
 ) -> io::Result<()> {
-    text(out, "update")?;
+    print!(out; "update")?;
     show(
         out,
         watch::update(1, 32, memory, list, key, amount, threshold),
@@ -68,7 +51,7 @@ fn update(
 }
 
 fn remove(out: Stdout, list: &mut [u8], key: &[u8]) -> io::Result<()> {
-    text(out, "remove")?;
+    print!(out; "remove")?;
     show(out, watch::remove(list, key))?;
     list_line(out, list)
 }
@@ -97,8 +80,8 @@ fn numbers(out: Stdout, m: &mut [u8], list: &mut [u8]) -> io::Result<()> {
 
 // A key length after a 0.
 fn spoil(list: &mut [u8]) {
-    if 64 < list.len() {
-        list[63] = 8;
+    if let Some(last) = list.get_mut(63) {
+        *last = 8;
     }
 }
 

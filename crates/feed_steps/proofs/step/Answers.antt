@@ -15,11 +15,11 @@ carry_out-requires c = let a = c.args in
       memory_value_3 = c.requires.memory_value_3;
       within_1 = c.requires.within_1;
       within_2 = inl (omega (arith, needed_most (whole_words (unused a.s.input a.input.now)), long, c.if-i-ge-LONGEST.true));
-      at_in_bounds = omega (arith, c.if-output-s-ge64.true, c.requires.at_in_bounds_1);
+      at_in_bounds = omega (arith, c.if-output-s-ge-LINE.true, c.requires.at_in_bounds_1);
       words_bound_1 = c.requires.words_bound_1;
       words_bound_2 = c.requires.words_bound_2;
     }
 
-pub returns-then-output-s-ge64 : goal.returns-then-output-s-ge64
-returns-then-output-s-ge64 c = let g = c.carry_out.ensures in
+pub returns-then-output-s-ge-LINE : goal.returns-then-output-s-ge-LINE
+returns-then-output-s-ge-LINE c = let g = c.carry_out.ensures in
     let counts = c.carry_out.ensures.words_bound_2 in record { within_2_1 = g.within_2_1; within_2_2 = g.within_2_2; words_bound_2 = (counts.0, omega (arith, counts.1), counts.2); stepped = g.stepped }
