@@ -1,8 +1,0 @@
-use mathlib.Core.Path.{ap, ◌∙◌}
-use Rattle.answer.specs.declared.Answer.{Answer}
-use Rattle.c_meter.proofs.meter_clear.Goals as goal
-
-pub returns : goal.returns
-returns c = let a = c.clear.ensures in
-    let by = c.from.ensures in
-    let g = c.give.ensures in record { value = g.value ∙ ap (λ (x : Answer). x.status) (by ∙ a.value); place_after = g.place_after ∙ ap (λ (x : Answer). x.position) (by ∙ a.value); figure_after = g.figure_after ∙ ap (λ (x : Answer). x.value) (by ∙ a.value); memory_after = a.memory_after }
