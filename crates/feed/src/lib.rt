@@ -18,7 +18,7 @@ pub use feed_lengths::{words_needed, words_taken};
 use feed_records::Opening;
 use word::Fault;
 
-// What a record or the end did.
+// What a record or the end did. A refusal is held by its number and place, as the C interface hands it out.
 #[derive(Clone, Copy, Debug, PartialEq, Eq)]
 pub enum Recorded {
     Updated,
