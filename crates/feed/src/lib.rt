@@ -2,8 +2,8 @@
 #![tactic(auto)]
 
 ghost use Rattle.std.specs.Prelude.{◌≡◌, ◌≤◌, length};
-ghost use Rattle.answer.specs.Answers as answers;
 ghost use Rattle.answer.specs.Refusals.{number};
+ghost use Rattle.answer.specs.Answers.{refused};
 ghost use Rattle.geometry.specs.Checks.{bad_shape, bad_key};
 ghost use Rattle.feed_records.specs.Bodies.{as_body};
 ghost use Rattle.feed_records.specs.Answers.{body_answer};
@@ -18,7 +18,7 @@ pub use feed_lengths::{words_needed, words_taken};
 use feed_records::Opening;
 use word::Fault;
 
-// What a record or the end did.
+// What a record or the end did. A refusal is held by its number and place, as the C interface hands it out.
 #[derive(Clone, Copy, Debug, PartialEq, Eq)]
 pub enum Recorded {
     Updated,
@@ -39,18 +39,18 @@ pub fn answer(r: Recorded) -> Answer
     }
 }
 
-// A refusal by no word of the record.
-fn refusal(why: Refusal) -> Recorded
-    ensures { result ≡ spec.refusal (answers.refused (number why)) }
+// A refusal that has no place.
+fn refused(refusal: Refusal) -> Recorded
+    ensures { result ≡ spec.refusal (refused (number refusal)) }
 {
     Recorded::Refused {
-        status: why.number(),
+        status: refusal.number(),
         position: 0,
     }
 }
 
 // A refusal by a faulty word.
-fn refused(body: Result<u32, Fault>) -> Recorded
+fn faulty(body: Result<u32, Fault>) -> Recorded
     ensures { result ≡ spec.refusal (body_answer (as_body body)) }
 {
     match body {
@@ -75,11 +75,11 @@ fn update(d: usize, w: usize, memory: &mut [u8], n: usize, words: &[u32]) -> Rec
     let mut key = [0u8; 66];
     let body = feed_records::update_body(words, n, &mut key);
     let Ok(amount) = body else {
-        return refused(body);
+        return faulty(body);
     };
     match meter::update_checked(d, w, memory, &key[0..n], amount) {
         Ok(()) => Recorded::Updated,
-        Err(why) => refusal(why),
+        Err(refusal) => refused(refusal),
     }
 }
 
@@ -92,11 +92,11 @@ fn query(d: usize, w: usize, memory: &[u8], n: usize, words: &[u32]) -> Recorded
     let mut key = [0u8; 66];
     let body = feed_records::query_body(words, n, &mut key);
     let Ok(_) = body else {
-        return refused(body);
+        return faulty(body);
     };
     match meter::estimate_checked(d, w, memory, &key[0..n]) {
         Ok(value) => Recorded::Estimate { value },
-        Err(why) => refusal(why),
+        Err(refusal) => refused(refusal),
     }
 }
 
@@ -106,13 +106,13 @@ pub fn record(d: usize, w: usize, memory: &mut [u8], before: u64, words: &[u32])
     ensures memory_after { memory.new ≡ (recorded d w memory.old before words.now).memory }
     ensures result_in_bounds { (record_answer result).position ≤ length words.now }
 {
-    if let Err(why) = geometry::check_shape(d, w, memory.len()) {
-        return refusal(why);
+    if let Err(refusal) = geometry::check_shape(d, w, memory.len()) {
+        return refused(refusal);
     }
     match feed_records::first_word(before, words) {
         Ok(Opening::Update { length }) => update(d, w, memory, length, words),
         Ok(Opening::Query { length }) => query(d, w, memory, length, words),
         Ok(Opening::End) => Recorded::Ended,
-        Err(why) => refusal(why),
+        Err(refusal) => refused(refusal),
     }
 }

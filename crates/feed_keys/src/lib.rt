@@ -71,6 +71,7 @@ pub fn take_key(words: &[u32], n: usize, key: &mut [u8]) -> Result<usize, Fault>
     ensures position_value { (step result).status ≡ 0 → (step result).position ≡ 1 + key_words n }
     ensures key_after { (step result).status ≡ 0 → take n key.new ≡ key_of n words.now }
 {
+    // i is the number of a key word, which is tested where it stands
     for i in 0..key_words(n) {
         key_word(words, 1 + i, n - 3 * i)?;
         let v = payload(words, 1 + i);

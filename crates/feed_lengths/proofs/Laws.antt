@@ -8,6 +8,11 @@ use borrow.Author.Tests.{leb-true, eqb-true}
 use borrow.Table.Steps.{cases}
 use lib.Dec.{eqb, leb}
 use lib.ListN.{take}
+use Rattle.std.specs.Prelude.{Result, Ok, Err}
+use Rattle.std.specs.Result.{is_err}
+use Rattle.answer.specs.declared.Refusal.{Refusal}
+use Rattle.answer.specs.Refusals.{status}
+use Rattle.answer.proofs.Refusals.{no_number}
 use Rattle.answer.specs.Order.{unless}
 use Rattle.geometry.specs.Checks.{bad_key}
 use Rattle.word.specs.Word.{payload, is_due}
@@ -15,6 +20,17 @@ use Rattle.word.proofs.Laws.{both}
 use Rattle.word.proofs.Before.{payload_same, due_same}
 use Rattle.feed_keys.specs.Keys.{key_words}
 use Rattle.feed_lengths.specs.Lengths.{update_kind, query_kind, words_taken, words_needed}
+
+-- the status of a result that is refused, and of one that is not
+pub some_refused : {A : Type 0} (r : Result A Refusal) → true ≡ is_err r → status r ≡ 0 → ⊥
+unfolding status
+some_refused (Ok v) e z = absurd (cc)
+some_refused (Err x) e z = no_number x z
+
+pub none_refused : {A : Type 0} (r : Result A Refusal) → false ≡ is_err r → status r ≡ 0
+unfolding status
+none_refused (Ok v) e = refl
+none_refused (Err x) e = absurd (cc)
 
 -- a key whose length passes fits the buffer that it is taken into
 pub key_short : (n : ℕ) → bad_key n ≡ 0 → n ≤ 64

@@ -5,6 +5,7 @@ ghost use Rattle.std.specs.Prelude.{◌≡◌};
 ghost use Rattle.feed_line.specs.Line as spec;
 ghost use Rattle.feed_line.specs.Line.{is_end};
 
+// A line prints a refusal's number, so that is what it holds.
 #[derive(Clone, Copy, Debug, PartialEq, Eq)]
 pub enum Line {
     Geometry { d: usize, w: usize },

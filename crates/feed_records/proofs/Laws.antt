@@ -1,15 +1,15 @@
 -- Laws of a record's words that the code's proofs use.
 use mathlib.Core.Path.{◌≡◌, refl, ◌∙◌}
-use mathlib.Core.Bool.{Bool, true, false, cond, ◌&&◌}
+use mathlib.Core.Bool.{Bool, true, false, cond}
 use mathlib.Core.List.{List}
 use Prim.Native.Nat.{ℕ, ◌%◌, ◌^◌}
 use native.Mathlib.Omega.{arith}
-use lib.Dec.{eqb, leb}
+use lib.Dec.{eqb}
 use borrow.Author.Tests.{eqb-true, ne_eqb}
 use Rattle.geometry.specs.Checks.{bad_key}
 use Rattle.word.specs.Step.{Step}
 use Rattle.word.specs.Word.{end_kind, payload, is_due}
-use Rattle.feed_records.specs.Openings.{Opening}
+use Rattle.feed_records.specs.Openings.{Opening, as_opening}
 use Rattle.feed_records.specs.Openings as opening
 use Rattle.feed_records.specs.Bodies.{Body}
 use Rattle.feed_records.specs.Bodies as body
@@ -17,8 +17,10 @@ use Rattle.std.specs.Prelude.{Result, Ok, Err, IsErrAnd}
 use Rattle.word.specs.declared.Fault.{Fault}
 use Rattle.word.specs.Step.{step}
 use Rattle.word.proofs.Results.{number_above}
-use Rattle.answer.specs.Refusals.{number}
-use Rattle.answer.specs.Order.{unless}
+use Rattle.answer.specs.declared.Refusal.{Refusal}
+use Rattle.answer.specs.Refusals.{number, status}
+use Rattle.answer.proofs.Refusals.{no_number, ok_status}
+use Rattle.feed_records.specs.declared.Opening.{Opening as Found}
 use Rattle.feed_records.specs.Bodies.{as_body}
 use Rattle.feed_records.specs.Words.{update_kind, query_kind, opens_key, opened, body_of}
 
@@ -32,13 +34,15 @@ unfolding body_of
 faulty_body (Ok q) f s a h e = absurd h
 faulty_body (Err x) f s a h e = rw (h, ← e, ne_eqb (number f.refusal) 0 (λ z. omega (arith, number_above f.refusal)))
 
--- the one number that a key's length is refused by
-pub key_refused : (n s : ℕ) → s ≡ bad_key n → (s ≡ 0 → ⊥) → s ≡ 4
-key_refused n s e h = test (leb 1 n && leb n 64) e
-  where
-    test : (t : Bool) → s ≡ unless t 4 → s ≡ 4
-    test true k = absurd (h k)
-    test false k = k
+-- a record whose key length is refused, and one whose key length passes
+pub key_refused : (A : Type 0) (r : Result Found Refusal) (x : Refusal) (n : ℕ) (o : Opening) → IsErrAnd r (λ y. y ≡ x) → status {A = A} (Err x) ≡ bad_key n → as_opening r ≡ opens_key n o
+unfolding opens_key status
+key_refused A (Ok f) x n o h e = absurd h
+key_refused A (Err y) x n o h e = rw (h, ← e, ne_eqb (number x) 0 (no_number x))
+
+pub key_passed : {A : Type 0} (v : A) (n : ℕ) (o : Opening) → status (Ok v) ≡ bad_key n → o ≡ opens_key n o
+unfolding opens_key
+key_passed v n o e = rw (ok_status v (bad_key n) e)
 
 -- what is wrong with an opened record's key length; the length has passed, so nothing is
 abbrev pub bad_key_in : Opening → ℕ

@@ -3,21 +3,18 @@ use Prim.Native.Nat.{ℕ, ◌-◌}
 use lib.ListN.{take}
 use borrow.Author.Rules.{rules}
 use Rattle.answer.specs.declared.Answer.{Answer}
-use Rattle.answer.specs.Answers.{told}
-use Rattle.answer.proofs.Refusals.{no_number}
 use Rattle.meter.specs.Meter.{estimated}
 use Rattle.feed.specs.declared.Recorded.{Recorded}
 use Rattle.feed.specs.declared.Recorded.TheVariants as case
 use Rattle.feed_keys.specs.Keys.{key_of}
 use Rattle.feed_records.specs.Words.{query_body}
-use Rattle.feed.specs.Record.{refusal, outcome_of, queried}
+use Rattle.feed.specs.Record.{outcome_of, queried}
 use Rattle.feed_lengths.proofs.Laws.{key_short}
 use Rattle.std.specs.Prelude.{Result}
 use Rattle.word.specs.declared.Fault.{Fault}
 use Rattle.feed_records.specs.Bodies.{as_body}
 use Rattle.feed_records.specs.Answers.{body_answer}
-use Rattle.feed.proofs.Cases.{outcome_refused, outcome_accepted}
-use Rattle.feed.proofs.Laws.{lent, call_passes}
+use Rattle.feed.proofs.Laws.{lent, call_passes, told_ok, told_err}
 use Rattle.feed.proofs.query.Goals as goal
 use Rattle.feed.proofs.query.Goals.{After-estimate_checked, In-Ok}
 
@@ -40,10 +37,12 @@ key_is m =
     let a = m.args in
     lent a.n _ (key_of a.n a.words.now) (m.query_body-body.ensures.key_after (ap (λ (x : Result ℕ Fault). (body_answer (as_body x)).status) m.in-Ok.is))
 
-called_is : (k : After-estimate_checked) → told k.estimate_checked.result ≡ called k
+called_is : (k : After-estimate_checked) →
+    let a = k.args in
+    estimated a.d a.w a.memory.now (take (a.n - 0) k.query_body-body.new.key) ≡ called k
 called_is k =
     let a = k.args in
-    k.estimate_checked.ensures ∙ ap (estimated a.d a.w a.memory.now) (key_is (goal.at.After-estimate_checked k).In-Ok)
+    ap (estimated a.d a.w a.memory.now) (key_is (goal.at.After-estimate_checked k).In-Ok)
 
 meant_is : (k : After-estimate_checked) → meant k ≡ outcome_of (called k) (case.Estimate (called k).value)
 unfolding queried
@@ -56,7 +55,7 @@ query_body-body-requires c = record { fact_1 = key_short _ c.requires.fact_2; fa
 pub returns-in_default : goal.returns-in_default
 unfolding queried
 returns-in_default c = let e = c.in_default.is in
-    rw (← c.query_body-body.ensures.value, e) (rw e at c.refused.ensures)
+    rw (← c.query_body-body.ensures.value, e) (rw e at c.faulty.ensures)
 
 pub slice_bounds-estimate_checked-end : goal.slice_bounds-estimate_checked-end
 slice_bounds-estimate_checked-end c = search (rules, key_short c.args.n c.requires.fact_2)
@@ -66,15 +65,9 @@ estimate_checked-requires c = let a = c.args in
     call_passes a.d a.w a.memory.now a.n a.words.now _ c.requires.fact_1 c.requires.fact_2 (key_is (goal.at.estimate_checked-requires c).In-Ok)
 
 pub returns-in-Ok-estimate_checked : goal.returns-in-Ok-estimate_checked
-unfolding told
 returns-in-Ok-estimate_checked c = let k = (goal.at.returns-in-Ok-estimate_checked c).After-estimate_checked in
-    let e = ap told (sym c.in-Ok-estimate_checked.is) ∙ called_is k in
-    let t = outcome_accepted (called k) (case.Estimate (called k).value) (ap (λ (x : Answer). x.status) (sym e)) in
-    ap (λ (x : Answer). case.Estimate x.value) e ∙ sym t ∙ sym (meant_is k)
+    sym (told_ok _ _ (c.in-Ok-estimate_checked.ensures ∙ called_is k)) ∙ sym (meant_is k)
 
 pub returns-in-Err : goal.returns-in-Err
-unfolding told
 returns-in-Err c = let k = (goal.at.returns-in-Err c).After-estimate_checked in
-    let e = ap told (sym c.in-Err.is) ∙ called_is k in
-    let t = outcome_refused (called k) (case.Estimate (called k).value) (λ h. no_number c.in-Err.why (ap (λ (x : Answer). x.status) e ∙ h)) in
-    c.refusal.ensures ∙ ap refusal e ∙ sym t ∙ sym (meant_is k)
+    c.refused.ensures ∙ sym (told_err _ _ _ (c.in-Err.ensures ∙ called_is k)) ∙ sym (meant_is k)

@@ -3,13 +3,13 @@ use Rattle.feed_records.proofs.Laws.{bad_key_in, opened_good}
 use Rattle.feed_records.specs.Openings.{Opening}
 use Rattle.feed_records.specs.Openings as opening
 use Rattle.feed_records.specs.Words.{opened}
-use Rattle.feed.proofs.Laws.{record_good, record_bad}
+use Rattle.answer.specs.Refusals.{number}
+use Rattle.answer.proofs.Refusals.{no_number, ok_status}
+use Rattle.feed.proofs.Laws.{shape_bad, record_good, record_bad}
 use mathlib.Core.Path.{◌≡◌, refl, sym, ap, ◌∙◌}
 use lib.ListN.{length}
 use Rattle.geometry.specs.Checks.{bad_shape}
 use Rattle.feed.specs.Record.{opened_outcome, recorded}
-use Rattle.answer.specs.Refusals.{number, status}
-use Rattle.answer.proofs.Refusals.{ok_status, no_number}
 use Rattle.feed.proofs.Cases.{carried, told}
 use Rattle.feed.proofs.record.Goals as goal
 use Rattle.feed.proofs.record.Goals.{After-first_word}
@@ -35,11 +35,10 @@ opened_is f o e =
     record_good a.d a.w a.memory.now a.before a.words.now (shape_good f) ∙ ap (carried a.d a.w a.memory.now a.words.now) (sym e)
 
 pub returns-in-Err : goal.returns-in-Err
-unfolding status
 returns-in-Err c = let a = c.args in
-    let x = c.in-Err.why in
-    let e = record_bad a.d a.w a.memory.now a.before a.words.now (number x) (sym c.in-Err.ensures) (no_number x) in
-    let r = all_of a.d a.w a.memory.now a.before a.words.now _ _ _ e c.refusal.ensures refl in
+    let s = c.in-Err.ensures in
+    let e = record_bad a.d a.w a.memory.now a.before a.words.now (number c.in-Err.refusal) (shape_bad _ _ _ s) (no_number c.in-Err.refusal) in
+    let r = all_of a.d a.w a.memory.now a.before a.words.now _ _ _ e c.refused.ensures refl in
     record { value = r.0; memory_after = r.1.0; result_in_bounds = r.1.1 }
 
 pub update-requires : goal.update-requires
@@ -75,7 +74,6 @@ returns-in-Ok-End c = let a = c.args in
 pub returns-in-Err-first_word : goal.returns-in-Err-first_word
 unfolding carried opened_outcome
 returns-in-Err-first_word c = let a = c.args in
-    let x = c.in-Err-first_word.why in
-    let e = opened_is (goal.at.returns-in-Err-first_word c).After-first_word (opening.Refused (number x)) c.in-Err-first_word.ensures in
-    let r = all_of a.d a.w a.memory.now a.before a.words.now _ _ _ e c.refusal-in-Err-first_word.ensures refl in
+    let e = opened_is (goal.at.returns-in-Err-first_word c).After-first_word (opening.Refused (number c.in-Err-first_word.refusal)) c.in-Err-first_word.ensures in
+    let r = all_of a.d a.w a.memory.now a.before a.words.now _ _ _ e c.refused-in-Err-first_word.ensures refl in
     record { value = r.0; memory_after = r.1.0; result_in_bounds = r.1.1 }

@@ -3,9 +3,7 @@ use mathlib.Core.List.{List}
 use Prim.Native.Nat.{ℕ, ◌-◌}
 use lib.ListN.{take}
 use borrow.Author.Rules.{rules}
-use Rattle.answer.specs.declared.Answer.{Answer}
-use Rattle.answer.specs.Answers.{Done, done}
-use Rattle.answer.proofs.Refusals.{no_number}
+use Rattle.answer.specs.Answers.{Done}
 use Rattle.meter.specs.Meter.{updated}
 use Rattle.std.specs.Prelude.{Result}
 use Rattle.word.specs.declared.Fault.{Fault}
@@ -15,10 +13,10 @@ use Rattle.feed_records.specs.Answers.{body_answer}
 use Rattle.feed_keys.specs.Keys.{key_of}
 use Rattle.feed_records.specs.Words.{update_body}
 use Rattle.feed.specs.declared.Recorded.{Recorded}
-use Rattle.feed.specs.Record.{Carried, refusal, outcome_of, update_outcome, update_memory, finish_record}
+use Rattle.feed.specs.Record.{Carried, outcome_of, update_outcome, update_memory, finish_record}
 use Rattle.feed_lengths.proofs.Laws.{key_short}
-use Rattle.feed.proofs.Cases.{carried_update, outcome_refused, outcome_accepted, tell}
-use Rattle.feed.proofs.Laws.{lent, call_passes}
+use Rattle.feed.proofs.Cases.{carried_update, tell}
+use Rattle.feed.proofs.Laws.{lent, call_passes, done_ok, done_err}
 use Rattle.feed.proofs.update.Goals as goal
 use Rattle.feed.proofs.update.Goals.{After-update_checked, In-Ok}
 
@@ -41,14 +39,12 @@ key_is b =
     let a = b.args in
     lent a.n _ (key_of a.n a.words.now) (b.update_body-body.ensures.key_after (ap (λ (x : Result ℕ Fault). (body_answer (as_body x)).status) b.in-Ok.is))
 
-called_is : (k : After-update_checked) → (done k.update_checked.result ≡ (called k).answer) × (k.update_checked.new.memory ≡ (called k).memory)
+called_is : (k : After-update_checked) →
+    let a = k.args in
+    updated a.d a.w a.memory.now (take (a.n - 0) k.update_body-body.new.key) k.in-Ok.amount ≡ called k
 called_is k =
     let a = k.args in
-    let v = k.in-Ok.amount in
-    let q = key_is (goal.at.After-update_checked k).In-Ok in (
-      k.update_checked.ensures.value ∙ ap (λ (x : List ℕ). (updated a.d a.w a.memory.now x v).answer) q,
-      k.update_checked.ensures.memory_after ∙ ap (λ (x : List ℕ). (updated a.d a.w a.memory.now x v).memory) q,
-    )
+    ap (λ (x : List ℕ). updated a.d a.w a.memory.now x k.in-Ok.amount) (key_is (goal.at.After-update_checked k).In-Ok)
 
 meant_is : (k : After-update_checked) → meant k ≡ record { outcome = outcome_of (called k).answer case.Updated; memory = (called k).memory }
 unfolding carried_update update_outcome
@@ -73,7 +69,7 @@ unfolding carried_update update_outcome
 returns-in_default c = let a = c.args in
     let b = c.update_body-body.ensures.value in
     let e = c.in_default.is in
-    let r = tell a.d a.w a.memory.now a.n a.words.now _ _ (rw (← b, e) (rw e at c.refused.ensures)) (rw (← b, e)) in
+    let r = tell a.d a.w a.memory.now a.n a.words.now _ _ (rw (← b, e) (rw e at c.faulty.ensures)) (rw (← b, e)) in
     record { value = r.0; memory_after = r.1 }
 
 pub slice_bounds-update_checked-end : goal.slice_bounds-update_checked-end
@@ -84,19 +80,13 @@ update_checked-requires c = let a = c.args in
     call_passes a.d a.w a.memory.now a.n a.words.now _ c.requires.fact_1 c.requires.fact_2 (key_is (goal.at.update_checked-requires c).In-Ok)
 
 pub returns-in-Ok-update_checked : goal.returns-in-Ok-update_checked
-unfolding done
 returns-in-Ok-update_checked c = let k = (goal.at.returns-in-Ok-update_checked c).After-update_checked in
     let z = called_is k in
-    let e = ap done (sym c.in-Ok-update_checked.is) ∙ z.0 in
-    let t = outcome_accepted (called k).answer case.Updated (ap (λ (x : Answer). x.status) (sym e)) in
-    let r = told_as k _ _ (sym t) z.1 in
+    let r = told_as k _ _ (sym (done_ok _ _ _ (c.in-Ok-update_checked.ensures.value ∙ ap (λ (x : Done). x.answer) z))) (c.update_checked.ensures.memory_after ∙ ap (λ (x : Done). x.memory) z) in
     record { value = r.0; memory_after = r.1 }
 
 pub returns-in-Err : goal.returns-in-Err
-unfolding done
 returns-in-Err c = let k = (goal.at.returns-in-Err c).After-update_checked in
     let z = called_is k in
-    let e = ap done (sym c.in-Err.is) ∙ z.0 in
-    let t = outcome_refused (called k).answer case.Updated (λ h. no_number c.in-Err.why (ap (λ (x : Answer). x.status) e ∙ h)) in
-    let r = told_as k _ _ (c.refusal.ensures ∙ ap refusal e ∙ sym t) z.1 in
+    let r = told_as k _ _ (c.refused.ensures ∙ sym (done_err _ _ _ (c.in-Err.ensures.value ∙ ap (λ (x : Done). x.answer) z))) (c.update_checked.ensures.memory_after ∙ ap (λ (x : Done). x.memory) z) in
     record { value = r.0; memory_after = r.1 }
