@@ -59,7 +59,8 @@ fn four_slots(start: Hash, w: usize, key: &[u8], first: u8) -> [usize; 4]
     [a, b, c, d]
 }
 
-// The slots of a key in the first d rows.
+// The slots of a key in the first d rows; what stands after those is not used. All eight are written out: to copy fours into a zeroed array
+// is no shorter.
 pub fn key_slots(start: Hash, w: usize, key: &[u8], d: usize) -> [usize; 8]
     requires fact_1 { valid_width w ≡ true }
     requires fact_2 { d ≤ 8 }
@@ -76,7 +77,7 @@ pub fn key_slots(start: Hash, w: usize, key: &[u8], d: usize) -> [usize; 8]
     ]
 }
 
-// The hashes of a key in the first d rows.
+// The hashes of a key in the first d rows, in the same way.
 pub fn key_hashes(start: Hash, key: &[u8], d: usize) -> [usize; 8]
     requires { d ≤ 8 }
     ensures { (r : ℕ) → r < d → get_or result r 0 ≡ row_hash start.state r key.now }

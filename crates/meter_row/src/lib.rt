@@ -114,9 +114,10 @@ pub fn widest_row(row: &[u8], w: usize) -> Found
     let mut status = Ok(());
     let mut value = 0u64;
     for &merge in &row[w..] {
-        let level = group::widest(merge);
-        status = first(status, level.and(Ok(())));
-        value = value.max(level.unwrap_or(0));
+        match group::widest(merge) {
+            Ok(level) => value = value.max(level),
+            Err(refusal) => status = first(status, Err(refusal)),
+        }
     }
     Found { status, value }
 }

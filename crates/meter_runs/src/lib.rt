@@ -11,10 +11,7 @@ pub fn none_merged(row: &[u8], source: &[u8], w: usize, first: usize, n: usize) 
 {
     let start = w + first;
     let end = start + n;
-    if group_side::any_merged(&row[start..end]) {
-        return false;
-    }
-    !group_side::any_merged(&source[start..end])
+    !group_side::any_merged(&row[start..end]) && !group_side::any_merged(&source[start..end])
 }
 
 // The same of eight groups, by one word of merge bytes of each row.

@@ -5,15 +5,15 @@ use Rattle.meter_memory.proofs.Lists.{lent}
 use Rattle.meter_runs.specs.Runs.{none_merged}
 use Rattle.meter_runs.proofs.none_merged.Goals as goal
 
-pub returns-then-any_merged : goal.returns-then-any_merged
+pub returns-then-not-any_merged : goal.returns-then-not-any_merged
 unfolding none_merged
-returns-then-any_merged c = let a = c.args in
-    let m = ap any_merged (sym (lent (a.w + a.first) a.n a.row.now)) ∙ sym c.any_merged.ensures ∙ c.if-any_merged.true in
-    rw m
-
-pub returns : goal.returns
-unfolding none_merged
-returns c = let a = c.args in
-    let m = ap any_merged (sym (lent (a.w + a.first) a.n a.row.now)) ∙ sym c.any_merged.ensures ∙ c.if-any_merged.false in
-    let o = ap any_merged (sym (lent (a.w + a.first) a.n a.source.now)) ∙ sym c.any_merged-2.ensures in
+returns-then-not-any_merged c = let a = c.args in
+    let m = ap any_merged (sym (lent (a.w + a.first) a.n a.row.now)) ∙ sym c.any_merged.ensures ∙ c.if-not-any_merged.true in
+    let o = ap any_merged (sym (lent (a.w + a.first) a.n a.source.now)) ∙ sym c.any_merged-then-not-any_merged.ensures in
     rw (m, o)
+
+pub returns-else-not-any_merged : goal.returns-else-not-any_merged
+unfolding none_merged
+returns-else-not-any_merged c = let a = c.args in
+    let m = ap any_merged (sym (lent (a.w + a.first) a.n a.row.now)) ∙ sym c.any_merged.ensures ∙ c.if-not-any_merged.false in
+    rw (m, c.if-not-any_merged.false)
