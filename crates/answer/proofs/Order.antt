@@ -2,30 +2,14 @@
 use mathlib.Core.Path.{◌≡◌, refl, sym, ◌∙◌}
 use mathlib.Core.Bool.{cond}
 use mathlib.Core.List.{List, [], ◌∷◌, ◌++◌}
-use Prim.Native.Nat.{ℕ, zero, suc, ◌+◌, ◌≤◌, ◌<◌}
-use native.Mathlib.Numerals.{add-one}
+use Prim.Native.Nat.{ℕ, zero, suc, ◌≤◌, ◌<◌}
 use native.Mathlib.Omega.{arith}
 use native.Mathlib.Decide.{dec_le}
 use mathlib.Core.Logic.{◌⊎◌, inl, inr, ⊎_elim}
-use borrow.Author.Tests.{eq-eqb, ne_eqb, le-leb, lt-leb}
+use borrow.Author.Tests.{le-leb, lt-leb}
 use lib.Dec.{leb}
-use lib.ListN.{length, get_or, drop, drop_of_length-le}
-use lib.Seq.{drop-cons}
 use Rattle.answer.specs.Numbers.{order}
 use Rattle.answer.specs.Order.{first_of, place_in, earlier}
-
--- a list gone through from i on
-pub place_more : (ns : List ℕ) (s i : ℕ) → i < length ns → (get_or ns i 0 ≡ s → ⊥) → place_in (drop i ns) s ≡ suc (place_in (drop (i + 1) ns) s)
-unfolding place_in
-place_more ns s i h n = rw (drop-cons ns i 0, add-one, ne_eqb (get_or ns i 0) s n)
-
-pub place_here : (ns : List ℕ) (s i : ℕ) → i < length ns → get_or ns i 0 ≡ s → place_in (drop i ns) s ≡ 0
-unfolding place_in
-place_here ns s i h e = rw (drop-cons ns i 0, eq-eqb (get_or ns i 0) s e)
-
-pub place_end : (ns : List ℕ) (s i : ℕ) → length ns ≤ i → place_in (drop i ns) s ≡ 0
-unfolding place_in
-place_end ns s i h = rw (drop_of_length-le ns {i = i} h)
 
 pub earlier_none : (a : ℕ) → earlier a 0 ≡ a
 unfolding earlier

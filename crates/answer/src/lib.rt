@@ -3,10 +3,8 @@
 
 ghost use Rattle.std.specs.Prelude.{◌≡◌};
 ghost use Rattle.answer.specs.Answers as spec;
-ghost use Rattle.answer.specs.Answers.{answer_of, told, done};
-ghost use Rattle.answer.specs.Numbers.{order};
+ghost use Rattle.answer.specs.Answers.{told, done};
 ghost use Rattle.answer.specs.Refusals.{number, status};
-ghost use Rattle.answer.specs.Order.{place_in};
 ghost use Rattle.answer.specs.Order as order_spec;
 
 pub const INVALID_DEPTH: u8 = 1;
@@ -36,23 +34,6 @@ pub const EVEN_DEPTH: u8 = 12;
 
 // A counter of a signed meter that holds minus zero.
 pub const MINUS_ZERO: u8 = 13;
-
-// The list, in checking order.
-const ORDER: [u8; 13] = [
-    INVALID_DEPTH,
-    INVALID_WIDTH,
-    EVEN_DEPTH,
-    WRONG_LENGTH,
-    INVALID_KEY_LENGTH,
-    INVALID_CONTENT,
-    MINUS_ZERO,
-    ZERO_THRESHOLD,
-    COUNTER_FULL,
-    TOO_FEW_WORDS,
-    BAD_WORD,
-    BAD_PAYLOAD,
-    OTHER_METER,
-];
 
 // Why a call is refused. The refusals stand in checking order.
 #[derive(Clone, Copy, Debug, PartialEq, Eq, PartialOrd, Ord)]
@@ -130,16 +111,6 @@ pub fn refused(status: u8) -> Answer
     refused_at(status, 0)
 }
 
-// An answer by its status.
-pub fn answer_of(status: u8, value: u64) -> Answer
-    ensures { result ≡ answer_of status value }
-{
-    if status == 0 {
-        return accepted(value);
-    }
-    refused(status)
-}
-
 // The answer by the result of a call: its figure, or 0 where it has none.
 impl From<Result<u64, Refusal>> for Answer {
     ghost from_gives = { λ r a. a ≡ told r };
@@ -163,32 +134,6 @@ impl From<Result<(), Refusal>> for Answer {
             Err(why) => refused(why.number()),
         }
     }
-}
-
-// Where a number stands in the list, from 0 on.
-fn place(status: u8) -> usize
-    ensures { result ≡ place_in order status }
-{
-    let list = ORDER;
-    for i in 0..list.len() {
-        if list[i] == status {
-            return i;
-        }
-    }
-    list.len()
-}
-
-// Of two groups' statuses the one whose line comes first.
-pub fn earlier(a: u8, b: u8) -> u8
-    ensures { result ≡ order_spec.earlier a b }
-{
-    if a == 0 {
-        return b;
-    }
-    if b == 0 {
-        return a;
-    }
-    if place(a) <= place(b) { a } else { b }
 }
 
 // Of two results the one whose refusal comes first in checking order.
