@@ -1,5 +1,5 @@
 // Standard output, gathered and written in blocks.
-ghost use Rattle.std.specs.Prelude.{◌≡◌, ◌++◌, ◌+◌, ◌≤◌, length, take};
+ghost use Rattle.std.specs.Prelude.{◌≡◌, ◌++◌, ◌+◌, ◌<◌, ◌≤◌, length, take, IfSome};
 ghost use Rattle.feed_text.specs.Text.{content};
 ghost use Rattle.feed_io.specs.Buffers.{Cleared};
 
@@ -29,14 +29,34 @@ pub fn append(out: &mut [u8], at: usize, t: Text) -> usize
     end
 }
 
-// All bytes at hand are written, or a write fails.
-pub fn flush(mut to: Stdout, out: &[u8], at: usize) -> Output
+// One write of bytes. None is a write that took none or failed.
+fn write_some(mut to: Stdout, bytes: &[u8]) -> Option<usize>
+    ensures { IfSome result (λ put. (0 < put) × (put ≤ length bytes.now)) }
+{
+    match to.write(bytes) {
+        Ok(put) if put > 0 => Some(put),
+        _ => None,
+    }
+}
+
+// All bytes at hand are written, or a write fails. A write that a signal interrupts has failed, which `write_all` would try again.
+pub fn flush(to: Stdout, out: &[u8], at: usize) -> Output
     requires { at ≤ length out.now }
     ensures { result.at ≡ 0 }
 {
+    let mut done = 0;
+    while done < at {
+        let Some(put) = write_some(to, &out[done..at]) else {
+            return Output {
+                at: 0,
+                failed: true,
+            };
+        };
+        done += put;
+    }
     Output {
         at: 0,
-        failed: to.write_all(&out[..at]).is_err(),
+        failed: false,
     }
 }
 

@@ -6,7 +6,8 @@ ghost use Rattle.group_block.specs.Block.{cap};
 ghost use Rattle.signed_number.specs.Number.{integer_of, signed_of};
 ghost use Rattle.signed_block.specs.Signed.{signed, sign_bits, sign_read, not_minus_zero};
 ghost use Rattle.signed_block.specs.Signed as spec;
-ghost use Rattle.signed_block.specs.Passed.{Canonical};
+ghost use Rattle.group_block.specs.Block as block_spec;
+ghost use Rattle.signed_block.specs.Passed.{signed_block, Canonical};
 ghost use Rattle.signed_block.specs.Counters.{signed_coded};
 
 use group_block::MeterKind;
@@ -83,4 +84,13 @@ impl MeterKind for SignedMeter {
     }
 
     ghost laws = { signed_coded };
+}
+
+// The sum of a block's counters, and that it fits a counter of the block's level.
+pub fn total(level: u32, word: u64, merge: u8) -> Signed
+    requires { (level ≤ 3) × (word < cap level) }
+    ensures result_value { integer_of result ≡ block_spec.total (signed_block level word merge) }
+    ensures magnitude_bound { result.magnitude < spec.top level }
+{
+    group_block::total::<SignedMeter>(level, word, merge)
 }

@@ -11,9 +11,8 @@ ghost use Rattle.signed_block.specs.Signed as sign_spec;
 ghost use Rattle.signed_block.specs.Passed.{signed_block};
 ghost use Rattle.signed_words.specs.Words as spec;
 
-use group_block::total;
 use group_levels::{exchange, most, place};
-use signed_block::{SignedMeter, top, value};
+use signed_block::{top, total, value};
 use signed_number::{Signed, plus};
 
 // The sign bits of a group's counters. Merge bit k is clear where slot k is the last of its counter.
@@ -71,12 +70,12 @@ pub fn sum_fits(minus: bool, word: u64, merge: u8, other_word: u64, other_merge:
     if ((merge | other_merge) >> 3) & 1 == 0 {
         return true;
     }
-    let other = total::<SignedMeter>(3, other_word, other_merge);
+    let other = total(3, other_word, other_merge);
     let signed = Signed {
         minus: minus != other.minus,
         magnitude: other.magnitude,
     };
-    plus(total::<SignedMeter>(3, word, merge), signed).magnitude < 9223372036854775808
+    plus(total(3, word, merge), signed).magnitude < 9223372036854775808
 }
 
 // A counter's value and level.

@@ -21,7 +21,7 @@ fn digest(out: Stdout, memory: &[u8]) -> io::Result<()> {
 
 fn clear(out: Stdout, d: usize, w: usize, memory: &mut [u8]) -> io::Result<()> {
     print!(out; "clear")?;
-    show(out, meter::clear(d, w, memory))?;
+    show(out, Answer::from(meter::clear(d, w, memory)))?;
     digest(out, memory)
 }
 
@@ -34,23 +34,23 @@ fn update(
     amount: u32,
 ) -> io::Result<()> {
     print!(out; "update")?;
-    show(out, meter::update(d, w, memory, key, amount))?;
+    show(out, Answer::from(meter::update(d, w, memory, key, amount)))?;
     digest(out, memory)
 }
 
 fn estimate(out: Stdout, d: usize, w: usize, memory: &[u8], key: &[u8]) -> io::Result<()> {
     print!(out; "estimate")?;
-    show(out, meter::estimate(d, w, memory, key))
+    show(out, Answer::from(meter::estimate(d, w, memory, key)))
 }
 
 fn widest(out: Stdout, d: usize, w: usize, memory: &[u8]) -> io::Result<()> {
     print!(out; "widest")?;
-    show(out, meter::widest(d, w, memory))
+    show(out, Answer::from(meter::widest(d, w, memory)))
 }
 
 fn unite(out: Stdout, d: usize, w: usize, memory: &mut [u8], source: &[u8]) -> io::Result<()> {
     print!(out; "unite")?;
-    show(out, meter::unite(d, w, memory, source))?;
+    show(out, Answer::from(meter::unite(d, w, memory, source)))?;
     digest(out, memory)
 }
 

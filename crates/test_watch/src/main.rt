@@ -29,7 +29,7 @@ fn list_line(out: Stdout, list: &[u8]) -> io::Result<()> {
 
 fn clear(out: Stdout, list: &mut [u8]) -> io::Result<()> {
     print!(out; "clear")?;
-    show(out, watch::clear(list))?;
+    show(out, Answer::from(watch::clear(list)))?;
     list_line(out, list)
 }
 
@@ -44,7 +44,7 @@ fn update(
     print!(out; "update")?;
     show(
         out,
-        watch::update(1, 32, memory, list, key, amount, threshold),
+        Answer::from(watch::update(1, 32, memory, list, key, amount, threshold)),
     )?;
     digest(out, memory)?;
     list_line(out, list)
@@ -52,7 +52,7 @@ fn update(
 
 fn remove(out: Stdout, list: &mut [u8], key: &[u8]) -> io::Result<()> {
     print!(out; "remove")?;
-    show(out, watch::remove(list, key))?;
+    show(out, Answer::from(watch::remove(list, key)))?;
     list_line(out, list)
 }
 
@@ -100,7 +100,7 @@ fn other_length(out: Stdout, m: &mut [u8], list: &mut [u8]) -> io::Result<()> {
 fn many(m: &mut [u8], list: &mut [u8], n: u8) {
     // i is the key's one byte.
     for i in 0..n {
-        watch::update(1, 32, m, list, &[i], 100, 100);
+        let _ = watch::update(1, 32, m, list, &[i], 100, 100);
     }
 }
 

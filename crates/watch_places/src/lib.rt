@@ -1,7 +1,7 @@
 // Changes of a watch list in its bytes: renewing, joining, the mark, taking off.
 #![tactic(auto)]
 
-ghost use Rattle.std.specs.Prelude.{◌≡◌, ◌++◌, ◌+◌, ◌-◌, ◌<◌, ◌≤◌, length, replicate};
+ghost use Rattle.std.specs.Prelude.{◌≡◌, ◌++◌, ◌+◌, ◌-◌, ◌<◌, ◌≤◌, length, get_or, replicate};
 ghost use Rattle.watch_list.specs.List.{joining, noted, taken_off};
 ghost use Rattle.watch_list.specs.Layout.{list_size, encode, decode};
 ghost use Rattle.watch_list.specs.Parts.{Holds, KeyLong, put, closed, put_place, closed_place};
@@ -9,6 +9,13 @@ ghost use Rattle.watch_list.specs.Parts.{Holds, KeyLong, put, closed, put_place,
 use little_endian::bytes_of;
 use meter_memory::put_eight;
 use watch_find::find;
+
+// A byte, and 0 past the last.
+fn or_zero(bytes: &[u8], i: usize) -> u8
+    ensures { result ≡ get_or bytes.now i 0 }
+{
+    if i < bytes.len() { bytes[i] } else { 0 }
+}
 
 // A key and zeros after it, 64 bytes in all, put from `at` on.
 fn put_key(list: &mut [u8], at: usize, key: &[u8])
@@ -40,8 +47,10 @@ fn close(list: &mut [u8], at: usize, end: usize, width: usize)
     requires fact_3 { end ≤ length list.old }
     ensures { list.new ≡ closed list.old at end width }
 {
-    list.copy_within(at + width..end, at);
-    list[end - width..end].fill(0);
+    // `copy_within` would call memmove, which the library does not ask of a host.
+    for i in at..end {
+        list[i] = or_zero(&list[0..end], i + width);
+    }
 }
 
 // Place i of the n in use taken out.

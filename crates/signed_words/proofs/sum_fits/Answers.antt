@@ -9,7 +9,6 @@ use Rattle.signed_number.specs.declared.Signed.{Signed}
 use Rattle.signed_number.specs.Number.{times_sign}
 use Rattle.signed_number.proofs.Integers.{magnitude_of}
 use Rattle.signed_block.specs.Signed.{top}
-use Rattle.signed_block.proofs.Counters.{total_small}
 use Rattle.signed_words.proofs.Totals.{times_integer, halves_fit}
 use Rattle.signed_words.proofs.sum_fits.Goals as goal
 
@@ -28,14 +27,13 @@ unfolding cap
 total-requires c = (omega arith, omega arith)
 
 pub plus-requires : goal.plus-requires
-unfolding top cap
-plus-requires c = let a = c.args in
-    omega (arith, total_small 3 a.word a.merge (omega arith) c.total.result c.total.ensures, total_small 3 a.other_word a.other_merge (omega arith) c.total-other.result c.total-other.ensures)
+unfolding top
+plus-requires c = omega (arith, c.total.ensures.magnitude_bound, c.total-other.ensures.magnitude_bound)
 
 pub returns : goal.returns
 unfolding top
 returns c = let a = c.args in
     ap (λ (x : Signed). ltb x.magnitude (2 ^ 63)) c.plus.ensures.value
     ∙ ap (λ (x : ℕ). ltb x (2 ^ 63)) (magnitude_of _)
-    ∙ ap₂ (λ (x y : ℤ). ltb (nat_abs (x +ℤ y)) (2 ^ 63)) c.total.ensures
-    (times_integer a.minus c.total-other.result.minus c.total-other.result.magnitude ∙ ap (times_sign a.minus) c.total-other.ensures)
+    ∙ ap₂ (λ (x y : ℤ). ltb (nat_abs (x +ℤ y)) (2 ^ 63)) c.total.ensures.result_value
+    (times_integer a.minus c.total-other.result.minus c.total-other.result.magnitude ∙ ap (times_sign a.minus) c.total-other.ensures.result_value)
