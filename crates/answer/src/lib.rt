@@ -7,6 +7,7 @@ ghost use Rattle.answer.specs.Answers.{told, done};
 ghost use Rattle.answer.specs.Refusals.{number, status};
 ghost use Rattle.answer.specs.Order as order_spec;
 
+// The numbers, as the C interface hands them out.
 pub const INVALID_DEPTH: u8 = 1;
 
 pub const INVALID_WIDTH: u8 = 2;
@@ -77,7 +78,7 @@ impl Refusal {
     }
 }
 
-// What a call answers: document 01's number, place and figure.
+// What a call answers as the C interface hands it out: document 01's number, place and figure.
 #[derive(Clone, Copy)]
 pub struct Answer {
     pub status: u8,

@@ -4,10 +4,12 @@ use mathlib.Core.Bool.{Bool, true, false, true≢false, or-true, and-eq-true_iff
 use mathlib.Core.Logic.{⊎_elim}
 use mathlib.Core.List.{List, [], ◌∷◌}
 use Prim.Native.Nat.{ℕ, zero, suc, ◌+◌, ◌-◌, ◌*◌, ◌/◌, ◌%◌, ◌^◌, ◌≤◌, ◌<◌}
-use native.Mathlib.Nat.{mul_assoc, mul_comm, mul-one, pow-suc, mul-mod_left, mul-le-mul, mul-le-mul_right, suc-mul}
+use native.Mathlib.Nat.{mul_assoc, mul_comm, mul-one, pow-suc, mul-mod_left, mod_self, mul-le-mul, mul-le-mul_right, suc-mul}
 use native.Mathlib.Decide.{dec_lt}
 use native.Mathlib.Omega.{arith}
 use borrow.Author.Tests.{eqb-true, eq-eqb, leb-true}
+use lib.Arith.{bin_ind}
+use lib.Bits.{bit_and, and_step, and_self, and_mask}
 use lib.Count.{ones, ones_step}
 use lib.Dec.{eqb, leb}
 use lib.Pow.{pow-add, pow_mono, pow-lt}
@@ -78,13 +80,13 @@ wide w e =
     })
 
 -- a number with one bit set is a power of two, and a power of two has one
-one_bit : (d w : ℕ) → w ≤ d → ones w ≡ 1 → (k : ℕ) × (w ≡ 2 ^ k)
-one_bit zero w h e = absurd (omega (arith, ones_le_self w))
-one_bit (suc d) w h e =
+one_of_ones : (d w : ℕ) → w ≤ d → ones w ≡ 1 → (k : ℕ) × (w ≡ 2 ^ k)
+one_of_ones zero w h e = absurd (omega (arith, ones_le_self w))
+one_of_ones (suc d) w h e =
     elim (dec_lt 0 (w % 2)) [
       | yes odd ↦ (0, omega (arith, zero_from_ones (w / 2) (omega (arith, ones_step w))))
       | no even ↦
-          let r = one_bit d (w / 2) (omega (arith, ones_le_self w)) (omega (arith, ones_step w)) in
+          let r = one_of_ones d (w / 2) (omega (arith, ones_le_self w)) (omega (arith, ones_step w)) in
           (suc r.0, omega (arith, r.1, pow-suc 2 r.0))
     ]
 
@@ -109,15 +111,44 @@ pub too_wide : (d w : ℕ) (later : List ℕ) → valid_depth d ≡ true → lar
 unfolding first_of
 too_wide d w later v h = rw (v, ← width_out w (λ l m. omega arith))
 
-pub width_test : (w : ℕ) → 32 ≤ w → w ≤ largest_width → eqb (ones w) 1 ≡ valid_width w
-width_test w l h =
+pub ones_test : (w : ℕ) → 32 ≤ w → w ≤ largest_width → eqb (ones w) 1 ≡ valid_width w
+ones_test w l h =
     both_ways (eqb (ones w) 1) (valid_width w)
     (λ e.
-    let r = one_bit w w (omega arith) (eqb-true (ones w) 1 e) in
+    let r = one_of_ones w w (omega arith) (eqb-true (ones w) 1 e) in
     rw r.1 (is_width r.0 (log_le 5 r.0 (rw r.1 at l)) (log_le r.0 largest_log (rw r.1 at h))))
     (λ v.
     let r = width_is w v in
     eq-eqb (ones w) 1 (rw r.3 (one_set r.0)))
+
+-- a number that shares no bit with its predecessor is a power of two
+one_bit : (w : ℕ) → 0 < w → bit_and w (w - 1) ≡ 0 → (k : ℕ) × (w ≡ 2 ^ k)
+one_bit = bin_ind (λ (w : ℕ). 0 < w → bit_and w (w - 1) ≡ 0 → (k : ℕ) × (w ≡ 2 ^ k)) (λ h e. absurd (omega arith)) step
+  where
+    step : (n : ℕ) → (0 < n / 2 → bit_and (n / 2) (n / 2 - 1) ≡ 0 → (k : ℕ) × (n / 2 ≡ 2 ^ k)) → 0 < n → bit_and n (n - 1) ≡ 0 → (k : ℕ) × (n ≡ 2 ^ k)
+    step n ih h e =
+        elim (dec_lt 0 (n % 2)) [
+          | yes odd ↦ (
+            0,
+            let same : (n - 1) / 2 ≡ n / 2 = omega arith in
+                omega (arith, and_step n (n - 1), ap (bit_and (n / 2)) same, and_self (n / 2)),
+          )
+          | no even ↦
+              let less : (n - 1) / 2 ≡ n / 2 - 1 = omega arith in
+              let r = ih (omega arith) (omega (arith, and_step n (n - 1), ap (bit_and (n / 2)) less)) in
+              (suc r.0, omega (arith, r.1))
+        ]
+
+-- the same by a test of bits
+pub width_test : (w : ℕ) → 32 ≤ w → w ≤ largest_width → eqb (bit_and w (w - 1)) 0 ≡ valid_width w
+width_test w l h =
+    both_ways (eqb (bit_and w (w - 1)) 0) (valid_width w)
+    (λ e.
+    let r = one_bit w (omega arith) (eqb-true (bit_and w (w - 1)) 0 e) in
+    rw r.1 (is_width r.0 (log_le 5 r.0 (rw r.1 at l)) (log_le r.0 largest_log (rw r.1 at h))))
+    (λ v.
+    let r = width_is w v in
+    eq-eqb (bit_and w (w - 1)) 0 (rw (r.3, and_mask (2 ^ r.0) r.0) (mod_self (2 ^ r.0))))
 
 pub stride_is : (w : ℕ) → stride w ≡ w + w / 8
 unfolding stride

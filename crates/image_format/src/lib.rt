@@ -117,6 +117,7 @@ pub fn table<const N: usize, F: Fn(u8) -> u8>(n: usize, entry: F) -> [u8; N]
     ensures { (k : ℕ) → k < n → F.post entry k (get_or result k 0) }
 {
     let mut t = [0; N];
+    // k is the entry's number, which the function takes.
     for k in 0..n {
         t[k] = entry(k as u8);
     }

@@ -26,6 +26,7 @@ pub fn read_rows(d: usize, w: usize, memory: &[u8], slots: &[usize; 8]) -> Found
     let c = meter_row::read_row(row_at(w, memory, 0), w, slots[0]);
     let mut status = c.and(Ok(()));
     let mut value = value_of(c);
+    // r is the row's number, as in every loop below.
     for r in 1..d {
         let c = meter_row::read_row(row_at(w, memory, r), w, slots[r]);
         status = answer::first(status, c.and(Ok(())));

@@ -43,6 +43,7 @@ fn try_rows(d: usize, w: usize, memory: &[u8], slots: &[usize; 8], amount: u32) 
     };
     let mut status = Ok(());
     let mut value = u64::MAX;
+    // r is the row's number too.
     for r in 0..d {
         let slot = slots[r];
         let x = load(row_at(w, memory, r), w, slot / 8);
@@ -80,6 +81,7 @@ pub fn update_rows(d: usize, w: usize, memory: &mut [u8], slots: &[usize; 8], am
         return t.found;
     }
     let stride = geometry::stride(w);
+    // r is the row's number too.
     for r in 0..d {
         let a = r * stride;
         let e = a + stride;

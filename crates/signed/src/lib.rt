@@ -14,7 +14,7 @@ use meter::whole;
 use meter_keys::key_hashes;
 use signed_number::Signed;
 
-// What an estimate answers: document 01's number, place and figure.
+// What an estimate answers as the C interface hands it out: document 01's number, place and figure.
 #[derive(Clone, Copy, Debug, PartialEq, Eq)]
 pub struct SignedAnswer {
     pub status: u8,

@@ -98,6 +98,7 @@ fn other_length(out: Stdout, m: &mut [u8], list: &mut [u8]) -> io::Result<()> {
 
 // So many keys of one byte.
 fn many(m: &mut [u8], list: &mut [u8], n: u8) {
+    // i is the key's one byte.
     for i in 0..n {
         watch::update(1, 32, m, list, &[i], 100, 100);
     }
