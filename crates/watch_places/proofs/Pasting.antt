@@ -1,4 +1,4 @@
--- Bytes put in place of others.
+-- Bytes put one by one.
 use mathlib.Core.Path.{◌≡◌, refl, sym, ap, ◌∙◌}
 use mathlib.Core.List.{List, [], ◌∷◌, ◌++◌, append_assoc}
 use Prim.Native.Nat.{ℕ, zero, suc, ◌+◌, ◌-◌, ◌≤◌, ◌<◌}
@@ -6,10 +6,7 @@ use native.Mathlib.Decide.{dec_lt}
 use native.Mathlib.Numerals.{add-one}
 use native.Mathlib.Omega.{arith}
 use lib.ListN.{length, get_or, take, drop, set, replicate, length-append, length-take, length-drop, length-replicate, get_or-append, get_or-eq_default}
-use lib.Seq.{paste, set_split, append_snoc, get_or-append-add, get_or-drop, get_or-take, take_all, drop-paste, length-take-le}
-use borrow.Rule.Slice.PartMut.{put_mid}
-use Rattle.std.proofs.lemmas.List.Edits.{length-paste, paste-paste}
-use Rattle.std.proofs.lemmas.Slice.{put_mid-paste}
+use lib.Seq.{paste, set_split, append_snoc, get_or-append-add, get_or-drop, get_or-take, take_all, drop-paste}
 use Rattle.little_endian.specs.Bytes.{bytes}
 use Rattle.little_endian.proofs.Bytes.{bytes_length}
 use Rattle.watch_list.specs.Parts.{put, closed}
@@ -64,29 +61,6 @@ unfolding closed
 closed_all xs at end width h k =
     let e : at + (end - at) ≡ end = omega arith in
     rw (e, take_all (end - at) (moved xs at end width) (omega (arith, moved_length xs at end width h k))) (simp append_assoc)
-
--- a part filled with zeros
-filled : (xs zs : List ℕ) (a e : ℕ) → a ≤ e → e ≤ length xs → zs ≡ replicate (length (take (e - a) (drop a xs))) 0 → put_mid a (e - a) xs zs ≡ paste xs a (replicate (e - a) 0) (e - a)
-filled xs zs a e h k f =
-    put_mid-paste a (e - a) xs zs (replicate (e - a) 0) (e - a)
-    (f ∙ ap (λ (m : ℕ). replicate m 0) (length-take-le (e - a) (drop a xs) (omega (arith, length-drop a xs))))
-    refl (sym (length-replicate (e - a) 0))
-
--- a key put, and zeros after it
-pub put_padded : (xs key ys zs : List ℕ) (at : ℕ) → at + 64 ≤ length xs → length key ≤ 64 → ys ≡ key
-    → zs ≡ replicate (length (take (at + 64 - (at + length key)) (drop (at + length key) (put_mid at (at + length key - at) xs ys)))) 0
-    → put_mid (at + length key) (at + 64 - (at + length key)) (put_mid at (at + length key - at) xs ys) zs ≡ put xs at (key ++ replicate (64 - length key) 0)
-put_padded xs key ys zs at h l e f =
-    let n = length key in
-    let k = 64 - n in
-    let width : at + 64 - (at + n) ≡ k = omega arith in
-    let front : put_mid at (at + n - at) xs ys ≡ paste xs at key n = put_mid-paste at (at + n - at) xs ys key n e (omega arith) refl in
-    let long = length-paste xs at key n (omega arith) (omega arith) in
-    filled (put_mid at (at + n - at) xs ys) zs (at + n) (at + 64) (omega arith) (omega (arith, ap length front, long)) f
-    ∙ ap (λ (m : ℕ). paste (put_mid at (at + n - at) xs ys) (at + n) (replicate m 0) m) width
-    ∙ ap (λ (d : List ℕ). paste d (at + n) (replicate k 0) k) front
-    ∙ paste-paste xs at key (replicate k 0) n k refl (sym (length-replicate k 0)) (omega arith)
-    ∙ put_all xs (key ++ replicate k 0) at (n + k) (omega (arith, length-append key (replicate k 0), length-replicate {A = ℕ} k 0))
 
 -- one byte put, and eight
 pub put_one : (xs : List ℕ) (at b : ℕ) → at < length xs → set xs at b ≡ put xs at (b ∷ [])

@@ -23,9 +23,10 @@ fn put_key(list: &mut [u8], at: usize, key: &[u8])
     requires fact_2 { length key.now ≤ 64 }
     ensures { list.new ≡ put list.old at (key.now ++ replicate (64 - length key.now) 0) }
 {
-    let end = at + key.len();
-    list[at..end].copy_from_slice(key);
-    list[end..at + 64].fill(0);
+    // `copy_from_slice` would call memmove, which the library does not ask of a host.
+    for i in 0..64 {
+        list[at + i] = or_zero(key, i);
+    }
 }
 
 // A key joins at place n.
@@ -47,7 +48,7 @@ fn close(list: &mut [u8], at: usize, end: usize, width: usize)
     requires fact_3 { end ≤ length list.old }
     ensures { list.new ≡ closed list.old at end width }
 {
-    // `copy_within` would call memmove, which the library does not ask of a host.
+    // So would `copy_within`.
     for i in at..end {
         list[i] = or_zero(&list[0..end], i + width);
     }
