@@ -41,7 +41,7 @@ fn key_word(words: &[u32], p: usize, n: usize) -> Result<usize, Fault>
     requires { 1 ≤ n }
     ensures { step result ≡ key_word n words.now p }
 {
-    if !is_due(words, p, Kind::Key) {
+    if !is_due(words, p, Kind::Key.code()) {
         return Err(Fault {
             refusal: Refusal::BadWord,
             position: p,
@@ -94,7 +94,7 @@ pub fn take_sound_key(words: &[u32], n: usize, key: &mut [u8]) -> bool
     let mut bad = 0u32;
     for (i, word) in words[1..=m].iter().enumerate() {
         // the kind of a key word, and bits 24 to 27 are 0
-        bad |= differing_bits(*word, Kind::Key) >> 24;
+        bad |= differing_bits(*word, Kind::Key.code()) >> 24;
         put_three(key, i, *word);
     }
     if bad != 0 {

@@ -13,10 +13,10 @@ pub fn words_taken(words: &[u32]) -> usize
     ensures { result ≡ words_taken words.now }
 {
     let n = key_words(payload(words, 0) as usize);
-    if is_due(words, 0, Kind::Update) {
+    if is_due(words, 0, Kind::Update.code()) {
         return 1 + n + 2;
     }
-    if is_due(words, 0, Kind::Query) {
+    if is_due(words, 0, Kind::Query.code()) {
         return 1 + n;
     }
     1

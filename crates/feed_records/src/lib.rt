@@ -39,13 +39,13 @@ pub fn first_word(before: u64, words: &[u32]) -> Result<Opening, Refusal>
     ensures { as_opening result ≡ opened before words.now }
 {
     let n = payload(words, 0);
-    if is_due(words, 0, Kind::Update) {
+    if is_due(words, 0, Kind::Update.code()) {
         return opens_key(n, Opening::Update { length: n as usize });
     }
-    if is_due(words, 0, Kind::Query) {
+    if is_due(words, 0, Kind::Query.code()) {
         return opens_key(n, Opening::Query { length: n as usize });
     }
-    if !is_due(words, 0, Kind::End) {
+    if !is_due(words, 0, Kind::End.code()) {
         return Err(Refusal::BadWord);
     }
     if n as u64 != before % PAYLOADS {

@@ -37,7 +37,7 @@ fn is_clear(words: &[u32], p: usize) -> bool
     if p >= words.len() {
         return false;
     }
-    if differing_bits(words[p], Kind::Layout) != 0 {
+    if differing_bits(words[p], Kind::Layout.code()) != 0 {
         return false;
     }
     are_counts(words, p + 1, 32)

@@ -55,11 +55,11 @@ pub fn payload(words: &[u32], p: usize) -> u32
 
 // Whether a word is there and has the kind that is due.
 #[tactic(auto, unfolding(crate::specs::Word::is_due))]
-pub fn is_due(words: &[u32], p: usize, kind: Kind) -> bool
-    ensures { result ≡ spec.is_due words.now p (code kind) }
+pub fn is_due(words: &[u32], p: usize, kind: u32) -> bool
+    ensures { result ≡ spec.is_due words.now p kind }
 {
     if p < words.len() {
-        return words[p] >> 28 == kind.code();
+        return words[p] >> 28 == kind;
     }
     false
 }
@@ -75,7 +75,7 @@ pub fn tested(
 ) -> Result<usize, Fault>
     ensures { step result ≡ spec.tested words.now p (code kind) holds (number refusal) }
 {
-    if !is_due(words, p, kind) {
+    if !is_due(words, p, kind.code()) {
         return Err(Fault {
             refusal: Refusal::BadWord,
             position: p,
@@ -96,7 +96,7 @@ pub fn tested(
 pub fn below(words: &[u32], p: usize, kind: Kind, limit: u32) -> Result<usize, Fault>
     ensures { step result ≡ spec.below words.now p (code kind) limit }
 {
-    if !is_due(words, p, kind) {
+    if !is_due(words, p, kind.code()) {
         return Err(Fault {
             refusal: Refusal::BadWord,
             position: p,
@@ -113,8 +113,8 @@ pub fn below(words: &[u32], p: usize, kind: Kind, limit: u32) -> Result<usize, F
 
 // The bits in which a word differs from the word of a kind with payload 0: its payload, if it is of that kind, and else bits above any
 // payload too. Words tested one after another with no exit between them are tested by this.
-pub fn differing_bits(word: u32, kind: Kind) -> u32
-    ensures { result ≡ bit_xor word (code kind * 2 ^ 28) }
+pub fn differing_bits(word: u32, kind: u32) -> u32
+    ensures { kind < 2 ^ 4 → result ≡ bit_xor word (kind * 2 ^ 28) }
 {
-    word ^ (kind.code() << 28)
+    word ^ (kind << 28)
 }

@@ -4,7 +4,7 @@ use Prim.Native.Nat.{ℕ, ◌+◌, ◌-◌, ◌*◌, ◌/◌, ◌%◌, ◌^◌}
 use native.Mathlib.Omega.{arith}
 use borrow.Author.Count.{below_more}
 use borrow.Author.Tests.{eqb-true}
-use lib.Bits.{xor_shr}
+use lib.Bits.{bit_xor, xor_shr}
 use lib.ListN.{length, take, drop, get_or}
 use Rattle.std.proofs.lemmas.List.{get_or-take, get_or-drop}
 use Rattle.geometry.proofs.Bits.{or_none}
@@ -29,14 +29,15 @@ loop-i-preserved c = let l = c.loop-i in
     let v = get_or (take (m + 1 - 1) (drop 1 w)) l.i 0 in
     let r : v ≡ get_or w (1 + l.i) 0 = get_or-take (m + 1 - 1) (drop 1 w) l.i 0 (omega arith) ∙ get_or-drop 1 w l.i 0 in
     let b = c.put_three.ensures in
-    let d = c.differing_bits in (
+    let d = c.differing_bits in
+    let x : d.result ≡ bit_xor v (key_kind * 2 ^ 28) = d.ensures (omega (arith, c.code.ensures)) ∙ ap (λ (k : ℕ). bit_xor v (k * 2 ^ 28)) c.code.ensures in (
       omega arith,
       l.invariant.1,
       l.invariant.2,
       ap length b ∙ stored_length l.key l.i v ∙ l.invariant.3,
       l.invariant.4,
       λ z. let e = or_none l.bad (d.result / 2 ^ 24) z in
-          let f = sym (xor_shr v (key_kind * 2 ^ 28) 24) ∙ ap (λ (x : ℕ). x / 2 ^ 24) (sym d.ensures) ∙ e.1 in
+          let f = sym (xor_shr v (key_kind * 2 ^ 28) 24) ∙ ap (λ (x : ℕ). x / 2 ^ 24) (sym x) ∙ e.1 in
           below_more (λ (j : ℕ). get_or w (1 + j) 0 / 2 ^ 24 ≡ 0x70) l.i (l.invariant.5 e.0) (rw r at (xor_none (v / 2 ^ 24) 0x70 f)),
       ap (take (3 * (l.i + 1))) b ∙ word_more l.key w l.i v (omega arith) (ap (λ (x : ℕ). x % 2 ^ 28) r) l.invariant.6,
     )
