@@ -19,13 +19,13 @@ pub struct Output {
 
 // The text behind the first bytes of the buffer. Gives the number of bytes that are now to be written.
 pub fn append(out: &mut [u8], at: usize, t: Text) -> usize
-    requires fact_1 { at + length (content t) ≤ length out.old }
-    requires fact_2 { length (content t) ≤ 64 }
-    ensures value { result ≡ at + length (content t) }
+    requires fact_1 { at + t.length ≤ length out.old }
+    requires fact_2 { t.length ≤ 64 }
+    ensures value { result ≡ at + t.length }
     ensures out_after { take result out.new ≡ take at out.old ++ content t }
 {
-    let end = at + t.len();
-    out[at..end].copy_from_slice(t.as_slice());
+    let end = at + t.length;
+    out[at..end].copy_from_slice(&t.bytes[..t.length]);
     end
 }
 

@@ -1,10 +1,10 @@
 -- A line's text and decimal numbers, in ASCII. Document 01, 'The program's lines'. Cited by contracts and theorems.
-use Rattle.std.specs.Prelude.{ℕ, zero, suc, ◌+◌, ◌-◌, ◌*◌, ◌/◌, ◌%◌, cond, List, [], ◌∷◌, ltb}
-use Rattle.arrayvec.specs.ArrayVec.{ArrayVec}
+use Rattle.std.specs.Prelude.{ℕ, zero, suc, ◌+◌, ◌-◌, ◌*◌, ◌/◌, ◌%◌, cond, List, [], ◌∷◌, ltb, take}
+use Rattle.feed_text.specs.declared.text.Text.{Text}
 
 -- the bytes of a text in use
-abbrev pub content : ArrayVec ℕ → List ℕ
-content t = t.items
+abbrev pub content : Text → List ℕ
+content t = take t.length t.bytes
 
 -- the decimal digits of a number, in ASCII, before a text; k is no less than the number of digits
 unfoldable pub digits_before : ℕ → ℕ → List ℕ → List ℕ

@@ -3,7 +3,7 @@
 
 mod text;
 
-ghost use Rattle.std.specs.Prelude.{◌≡◌, ◌≤◌, length};
+ghost use Rattle.std.specs.Prelude.{◌≡◌, ◌≤◌};
 ghost use Rattle.feed_text.specs.Text.{content};
 ghost use Rattle.feed_text.specs.Line as spec;
 
@@ -15,7 +15,7 @@ use text::{begin, pair, single};
 #[tactic(auto, unfolding(crate::specs::Line::text))]
 pub fn text_of(l: Line) -> Text
     ensures result_value { content result ≡ spec.text l }
-    ensures length_bound { length (content result) ≤ 64 }
+    ensures length_bound { result.length ≤ 64 }
 {
     match l {
         Line::Geometry { d, w } => pair(b"geometry ", d as u64, b" ", w as u64),
