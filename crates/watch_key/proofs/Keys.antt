@@ -1,21 +1,47 @@
--- Laws of keys compared as slices, of digests, and of the key of a place.
+-- Laws of keys compared by words and as slices, of digests, and of the key of a place.
 use mathlib.Core.Path.{◌≡◌, refl, sym, ap, ◌∙◌}
 use mathlib.Core.Bool.{false}
 use mathlib.Core.List.{List, [], ◌∷◌}
 use lib.Dec.{eqb}
 use lib.Pointwise.{pointwise}
-use Prim.Native.Nat.{ℕ, ◌+◌, ◌-◌, ◌*◌, ◌≤◌, ◌<◌}
+use Prim.Native.Nat.{ℕ, zero, suc, ◌+◌, ◌-◌, ◌*◌, ◌≤◌, ◌<◌}
 use native.Mathlib.Decide.{ℕ_discrete, dec_le}
 use native.Mathlib.Omega.{arith}
-use borrow.Author.Tests.{le-leb, lt-leb}
+use borrow.Author.Tests.{eq-eqb, le-leb, lt-leb}
 use lib.ListN.{length, get_or, take, drop, length-take, length-drop}
-use lib.Seq.{drop-drop, take-take, get_or-take, get_or-drop}
-use Rattle.laws.proofs.Lists.{drop_take}
+use lib.Seq.{drop-drop, take-add, take-take, get_or-take, get_or-drop}
+use Rattle.laws.proofs.Lists.{Bytes, bytes_take, bytes_drop, drop_take}
+use Rattle.little_endian.specs.Bytes.{number, bytes}
+use Rattle.little_endian.proofs.Bytes.{bytes_number}
 use Rattle.meter_keys.specs.Keys.{same_key}
 use Rattle.meter_keys.proofs.Same.{key_differs}
 use Rattle.watch_list.specs.Layout.{keys_at, list_size, key_bytes, place_at}
 use Rattle.watch_list.specs.Parts.{KeyLong}
 use Rattle.watch_key.specs.Digest.{digest_of}
+
+-- two lists that agree so far, by words of eight bytes
+module _ (xs ys : List ℕ) (long : length xs ≡ length ys) (at : ℕ) where
+  word_same : at + 8 ≤ length xs → Bytes xs → Bytes ys → number (take 8 (drop at xs)) ≡ number (take 8 (drop at ys)) → take 8 (drop at xs) ≡ take 8 (drop at ys)
+  word_same h b c e =
+      let p : length (take 8 (drop at xs)) ≡ 8 = omega (arith, length-take 8 (drop at xs), length-drop at xs) in
+      let q : length (take 8 (drop at ys)) ≡ 8 = omega (arith, length-take 8 (drop at ys), length-drop at ys) in
+      sym (rw p at (bytes_number (take 8 (drop at xs)) (bytes_take 8 (drop at xs) (bytes_drop at xs b))))
+      ∙ ap (bytes 8) e
+      ∙ rw q at (bytes_number (take 8 (drop at ys)) (bytes_take 8 (drop at ys) (bytes_drop at ys c)))
+
+  pub word_turn : at + 8 ≤ length xs → Bytes xs → Bytes ys → take at xs ≡ take at ys → number (take 8 (drop at xs)) ≡ number (take 8 (drop at ys)) → take (at + 8) xs ≡ take (at + 8) ys
+  word_turn h b c e w = rw (take-add at 8 xs, take-add at 8 ys, e, word_same h b c w)
+
+-- what is left of them tells whether they are the same
+pub rest_tells : (n : ℕ) (xs ys : List ℕ) → length xs ≡ length ys → n ≤ length xs → take n xs ≡ take n ys → same_key (drop n xs) (drop n ys) ≡ same_key xs ys
+unfolding same_key
+rest_tells zero xs ys l h e = refl
+rest_tells (suc n) [] ys l h e = absurd (omega arith)
+rest_tells (suc n) (x ∷ xs) [] l h e = absurd (omega arith)
+rest_tells (suc n) (x ∷ xs) (y ∷ ys) l h e =
+    let first : x ≡ y = ap (λ (zs : List ℕ). get_or zs 0 0) e in
+    let rest : take n xs ≡ take n ys = ap (λ (zs : List ℕ). drop 1 zs) e in
+    rw (eq-eqb x y first) (rest_tells n xs ys (omega arith) (omega arith) rest)
 
 -- keys compared as slices
 pub same_key_is : (xs ys : List ℕ) → pointwise eqb xs ys ≡ same_key xs ys

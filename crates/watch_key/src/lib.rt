@@ -18,6 +18,21 @@ fn word_at(bytes: &[u8], at: usize) -> u64
     number_of(eight(bytes, at))
 }
 
+// Whether two keys of one length are the same: by words of eight bytes, the first of which that differs tells it, then by the bytes that
+// are left. The library's test of slices looks at all of both where the first four bytes are the same.
+fn same_bytes(a: &[u8], b: &[u8]) -> bool
+    requires { length a.now ≡ length b.now }
+    ensures { result ≡ same_key a.now b.now }
+{
+    let words = a.len() / 8;
+    for i in 0..words {
+        if word_at(a, i * 8) != word_at(b, i * 8) {
+            return false;
+        }
+    }
+    a[words * 8..] == b[words * 8..]
+}
+
 // Whether a place in use has a key.
 pub fn has_key(list: &[u8], k: usize, key: &[u8]) -> bool
     requires fact_1 { length list.now ≡ list_size }
@@ -31,7 +46,7 @@ pub fn has_key(list: &[u8], k: usize, key: &[u8]) -> bool
     }
     let start = 65 + k * 64;
     let end = start + size;
-    &list[start..end] == key
+    same_bytes(&list[start..end], key)
 }
 
 // What is looked at first of a key: its first and its last eight bytes, each as a number, in one; else its last two, else its only one.

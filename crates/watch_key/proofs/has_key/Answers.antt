@@ -4,7 +4,7 @@ use Prim.Native.Nat.{ℕ, ◌+◌, ◌-◌, ◌*◌}
 use native.Mathlib.Omega.{arith}
 use lib.ListN.{length, take, drop}
 use Rattle.meter_keys.specs.Keys.{same_key}
-use Rattle.watch_key.proofs.Keys.{same_key_is, key_of_place, other_length}
+use Rattle.watch_key.proofs.Keys.{key_of_place, other_length}
 use Rattle.watch_key.proofs.has_key.Goals as goal
 
 pub returns-then-from-size : goal.returns-then-from-size
@@ -16,6 +16,5 @@ returns c = let a = c.args in
     let n = length a.key.now in
     let part : 65 + a.k * 64 + n - (65 + a.k * 64) ≡ n = omega arith in
     let is = key_of_place a.list.now c.requires.fact_1 a.k c.requires.fact_2.0 (omega (arith, c.from.ensures)) c.requires.fact_3.1 in
-    c.eq.ensures
-    ∙ same_key_is _ _
+    c.same_bytes.ensures
     ∙ ap (λ (x : List ℕ). same_key x a.key.now) (ap (λ (m : ℕ). take m (drop (65 + a.k * 64) a.list.now)) part ∙ sym is)
