@@ -1,5 +1,6 @@
 -- Laws of the loops that write a group: over the words of a value and over slots, and of words after words.
-use mathlib.Core.Path.{◌≡◌, refl, sym, ap}
+use mathlib.Core.Path.{◌≡◌, refl, sym, ap, ◌∙◌}
+use mathlib.Core.Bool.{true}
 use mathlib.Core.List.{List, [], ◌∷◌, ◌++◌, map}
 use Prim.Native.Nat.{ℕ, zero, suc, ◌+◌, ◌-◌, ◌*◌, ◌/◌, ◌%◌, ◌^◌, ◌<◌}
 use native.Mathlib.Nat.{add-zero, add-suc, suc-add}
@@ -8,7 +9,9 @@ use native.Mathlib.Omega.{arith}
 use lib.ListN.{length, set}
 use lib.Seq.{sets}
 use Rattle.group.specs.declared.Group.{Group}
-use Rattle.image_format.specs.Image.{word, count_kind, parts, slot_words, slots_words}
+use Rattle.image_format.specs.Image.{word, count_kind, parts, level_at, is_first, slot_words, slots_words}
+use Rattle.image_format.proofs.Laws.{slot_none}
+use Rattle.image_format.proofs.Counters.{behind}
 
 pub map_append : {A : Type 0} (f : A → ℕ) (xs ys : List A) → map f (xs ++ ys) ≡ map f xs ++ map f ys
 map_append f [] ys = refl
@@ -33,6 +36,14 @@ slots_step n k g h =
 pub slots_none : (n k : ℕ) (g : Group) → n ≡ 0 → slots_words n k g ≡ []
 unfolding slots_words
 slots_none n k g e = rw e
+
+-- the words, from the first slot of a counter to the next
+pub words_turn : (k : ℕ) (g : Group) → k < 8 → is_first g.merge k ≡ true
+    → slots_words (8 - k) k g ≡ slot_words g k ++ slots_words (8 - (k + 2 ^ level_at g.merge k)) (k + 2 ^ level_at g.merge k) g
+unfolding slots_words
+words_turn k g h t =
+    slots_step 8 k g h
+    ∙ ap (λ (ws : List ℕ). slot_words g k ++ ws) (behind (λ n i. slots_words n i g) g.merge (λ n i f. rw (slot_none g i f)) k h t)
 
 -- words after words
 pub sets_append : (l : List ℕ) (i : ℕ) (xs ys : List ℕ) → sets l i (xs ++ ys) ≡ sets (sets l i xs) (i + length xs) ys

@@ -8,7 +8,7 @@ ghost use Rattle.image_format.specs.Image.{parts, group_words};
 ghost use Rattle.image_format.specs.Write.{group_size};
 ghost use Rattle.image_format.specs.Tables.{DescribedAt, Writes};
 
-use group::Group;
+use group::{Counter, Group};
 use group_fields::Fields;
 use image_format::{code_at, word};
 use word::Kind;
@@ -28,13 +28,13 @@ fn put_parts(words: &mut [u32], p: usize, n: u32, value: u64) -> usize
     at
 }
 
-// The value of the counter that a slot is in; 0 in an invalid group.
-fn value_at(g: Group, k: usize) -> u64
-    ensures { result ≡ (read g k).value }
+// The counter that a slot is in; in an invalid group each slot is one of its own and holds 0.
+fn counter_at(g: Group, k: usize) -> Counter
+    ensures { (result.value ≡ (read g k).value) × (result.level ≡ (read g k).level) }
 {
     match group::counter(g, k) {
-        Ok(c) => c.value,
-        Err(_) => 0,
+        Ok(c) => c,
+        Err(_) => Counter { value: 0, level: 0 },
     }
 }
 
@@ -45,9 +45,16 @@ fn put_group(words: &mut [u32], p: usize, g: Group) -> usize
     ensures words_after { words.new ≡ sets words.old p (group_words g) }
 {
     let mut at = p;
+    // The slot at which the next counter starts. A counter is looked up there alone: most of this function's time goes into that.
+    let mut next = 0;
     for k in 0..8 {
-        if let Some(level) = image_format::counter_level(g.merge, k) {
-            at = put_parts(words, at, image_format::word_count(level), value_at(g, k));
+        if next == 8 {
+            return at;
+        }
+        if k == next {
+            let c = counter_at(g, k);
+            at = put_parts(words, at, image_format::word_count(c.level), c.value);
+            next = k + (1 << c.level);
         }
     }
     at

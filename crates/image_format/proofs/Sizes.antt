@@ -33,6 +33,10 @@ pub level_at_le : (m k : ℕ) → level_at m k ≤ 3
 unfolding level_at
 level_at_le m k = level_most (empty m) k
 
+-- the slot behind a counter, as the code finds it
+pub behind_is : (m k level : ℕ) → level ≡ level_at m k → k + 1 * 2 ^ level % 2 ^ 64 ≡ k + 2 ^ level_at m k
+behind_is m k level e = rw e (ap (λ (n : ℕ). k + n) (one_shl 64 (level_at m k) (omega (arith, level_at_le m k))))
+
 -- whether slot k is the first of its counter, as the code finds it
 pub first_here : (m k level : ℕ) → level ≡ level_at m k → k % (1 * 2 ^ level % 2 ^ 64) ≡ 0 → is_first m k ≡ true
 unfolding is_first
