@@ -50,7 +50,10 @@ fn groups_status(row: &[u8], source: &[u8], w: usize, first: usize, n: usize) ->
     let mut status = Ok(());
     for g in first..first + n {
         let s = group::unite_status(load(row, w, g), load(source, w, g));
-        status = answer::first(status, s);
+        // Of nearly all groups nothing is refused, and then nothing else is looked at.
+        if s.is_err() {
+            status = answer::first(status, s);
+        }
     }
     status
 }
